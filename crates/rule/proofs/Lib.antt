@@ -1,0 +1,13 @@
+pub mod Order
+pub mod Horizon
+pub mod Progress
+pub mod Locality
+pub mod Signed
+pub mod Pairs
+pub mod Delay
+pub mod Reach
+pub mod Window
+pub mod Reading
+pub mod Recent
+pub mod Every
+pub mod Heads
