@@ -1,0 +1,4 @@
+pub mod Ring
+pub mod Whole
+pub mod Theorem
+pub mod Wrong
