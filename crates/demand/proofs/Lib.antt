@@ -2,3 +2,4 @@ pub mod Ring
 pub mod Whole
 pub mod Theorem
 pub mod Wrong
+pub mod Admission

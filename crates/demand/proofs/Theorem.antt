@@ -15,14 +15,13 @@ use Rattle.sheet.specs.Sheet.{rule-body}
 use Rattle.rule.specs.Formula.{Formula}
 use Rattle.rule.specs.declared.Outcome.{Outcome}
 use Rattle.rule.specs.declared.Outcome.the-variants.{Decided, Open}
-use Rattle.rule.specs.declared.Size.{Size}
-use Rattle.rule.specs.declared.Size.the-variants.{Finite, Unbounded}
 use Rattle.rule.specs.declared.Figures.{Figures}
 use Rattle.rule.specs.Meaning.{rule}
 use Rattle.rule.specs.Recording.{recorded}
-use Rattle.rule.specs.Figures.{limit-cells, limit-history, limit-delay, needed, figures, body-figures, at-tick, delay, history, cells}
+use Rattle.rule.specs.Figures.{figures, body-figures}
 use Rattle.rule.specs.Steps.{is-open}
 use Rattle.rule.proofs.Delay.{By, rule-decided}
+use Rattle.rule.proofs.Limits.{sizes}
 use Rattle.demand.proofs.Ring.{kept-next}
 use Rattle.demand.specs.Contract.{State, Opening, Taken, Step, must, room, admit-opening, fit-lengths, fit, as-21, admit-lengths, admit-step, Kept, Standing, Opened, Means, Takes, Unchanged, Stepped}
 use Rattle.demand.specs.Demand.{Call, step, write, state-after, ticks-after, added, stream, Run, done, stepped, strayed, wrote, Refused, Unfit, Refusal, Report, Due, Demand-3, Acceptable, Demanded, Demanded-21}
@@ -57,34 +56,6 @@ fit-not-unfit f L t k a b c d (inl h) = h a
 fit-not-unfit f L t k a b c d (inr (inl h)) = omega arith
 fit-not-unfit f L t k a b c d (inr (inr (inl h))) = omega arith
 fit-not-unfit f L t k a b c d (inr (inr (inr h))) = d h
-
--- Figures within the limits are the sizes.
-abbrev pub Sizes : Figures → Size → Size → Size → Type 0
-Sizes f h d c = (h ≡ Finite (f .history)) × (d ≡ Finite (f .delay)) × (c ≡ Finite (f .cells))
-
-limited : (f : Figures) (h d c : Size) → limit-delay h d c ≡ accepted f → Sizes f h d c
-unfolding limit-delay limit-history limit-cells
-limited f h Unbounded c e = absurd (clash e)
-limited f h (Finite d) c e = first (leb d 255) h e
-  where
-    third : (t : Bool) (h c : ℕ) → cond t (accepted (record { history = h; delay = d; cells = c })) (refused 15) ≡ accepted f → Sizes f (Finite h) (Finite d) (Finite c)
-    third true h c e = (cc, cc, cc)
-    third false h c e = absurd (clash e)
-
-    second : (t : Bool) (h : ℕ) (c : Size) → cond t (limit-cells h d c) (refused 14) ≡ accepted f → Sizes f (Finite h) (Finite d) c
-    second true h (Finite c) e = third (leb c 4096) h c e
-    second true h Unbounded e = absurd (clash e)
-    second false h c e = absurd (clash e)
-
-    first : (t : Bool) (h : Size) → cond t (limit-history h d c) (refused 12) ≡ accepted f → Sizes f h (Finite d) c
-    first true (Finite h) e = second (leb h 4096) h c e
-    first true Unbounded e = absurd (clash e)
-    first false h e = absurd (clash e)
-
-pub sizes : (F : Formula) (f : Figures) → figures F ≡ accepted f
-    → Sizes f (history F (at-tick ∷ []) (Finite 0)) (delay F (at-tick ∷ [])) (needed (delay F (at-tick ∷ [])) (cells F (at-tick ∷ [])))
-unfolding figures
-sizes F f e = limited f (history F (at-tick ∷ []) (Finite 0)) (delay F (at-tick ∷ [])) (needed (delay F (at-tick ∷ [])) (cells F (at-tick ∷ []))) e
 
 -- ---- one step
 

@@ -11,3 +11,4 @@ pub mod Reading
 pub mod Recent
 pub mod Every
 pub mod Heads
+pub mod Limits

@@ -1,0 +1,60 @@
+-- What admitting answers, by what the figures and the tests say.
+use Prim.Native.Nat.{ℕ, _≤_, _<_}
+use mathlib.Core.Path.{_≡_, refl, sym, ap, subst, _∙_}
+use mathlib.Core.List.{List}
+use native.Mathlib.Omega.{arith}
+use lib.Dec.{leb}
+use borrow.Author.Tests.{le-leb, lt-leb}
+use Rattle.refusal.specs.declared.Refusal.{Refusal}
+use Rattle.refusal.specs.declared.Refusal.the-variants.{StateNotOpened}
+use Rattle.refusal.specs.Answer.{Answer, refused, accepted, and-then}
+use Rattle.refusal.specs.Numbers.{number-of}
+use Rattle.rule.specs.declared.Figures.{Figures}
+use Rattle.rule.specs.Formula.{Formula}
+use Rattle.rule.specs.Body.{body}
+use Rattle.rule.specs.Figures.{figures, body-figures}
+use Rattle.rule.proofs.Limits.{within-limits}
+use Rattle.figures.specs.declared.answer.FigureAnswer.{FigureAnswer}
+use Rattle.figures.specs.declared.answer.FigureAnswer.the-variants.{Sized, Refused}
+use Rattle.figures.specs.Prepared.{told, Laid, Prepared}
+use Rattle.demand.specs.Contract.{must, room, fit-lengths, as-21, admit-lengths}
+use Rattle.admission.specs.Admitted.{Small, fit-for, Ready, Admitted}
+
+-- Accepted figures are within the limits.
+small : (b : List ℕ) (f : Figures) → body-figures b ≡ accepted f → Small f
+unfolding body-figures and-then
+small b f e = go (body b) e
+  where
+    go : (a : Answer Formula) → and-then a figures ≡ accepted f → Small f
+    go (refused n) i = let z : _≡_ {A = ℕ} 0 1 = cc in absurd (omega arith)
+    go (accepted F) i = let w = within-limits F f i in record { short = w .short; old = w .old; few = w .few }
+
+module _ (b : List ℕ) (a : FigureAnswer) (told-is : told a ≡ body-figures b) where
+  pub sized-small : {f : Figures} → a ≡ Sized f → Small f
+  sized-small {f} e = small b f (sym told-is ∙ ap told e)
+
+  pub opening-refused : (h c : ℕ) {x : Refusal} → a ≡ Refused x → refused (number-of x) ≡ and-then (body-figures b) (room h c)
+  unfolding and-then
+  opening-refused h c e = rw (← told-is, e)
+
+  pub opening-fits : (h c : ℕ) {f : Figures} (r : Answer Figures) → a ≡ Sized f → r ≡ room h c f → r ≡ and-then (body-figures b) (room h c)
+  unfolding and-then
+  opening-fits h c r e i = i ∙ rw (← told-is, e)
+
+module _ (b : List ℕ) (L t h c n : ℕ) (ns : List ℕ) where
+  pub step-above : 4096 < L → Admitted b L t h c n (Refused StateNotOpened) ns
+  unfolding admit-lengths must
+  step-above i = record { answer = simp (lt-leb L 4096 i); ready = tt }
+
+  module _ (a : FigureAnswer) (low : L ≤ 4096) (p : Prepared b a ns) where
+    pub step-no-rule : {x : Refusal} → a ≡ Refused x → Admitted b L t h c n (Refused StateNotOpened) ns
+    unfolding admit-lengths must and-then as-21
+    step-no-rule e = record { answer = simp (le-leb L 4096 low, ← p .answer, e); ready = tt }
+
+    ready-as : (r : Answer Figures) → Ready b ns r
+    ready-as (refused m) = tt
+    ready-as (accepted f) = p .laid
+
+    pub step-fits : {f : Figures} (r : FigureAnswer) → a ≡ Sized f → told r ≡ fit-for f L t h c n → Admitted b L t h c n r ns
+    unfolding admit-lengths must and-then as-21 fit-for
+    step-fits r e i = record { answer = i ∙ simp (le-leb L 4096 low, ← p .answer, e); ready = ready-as (told r) }

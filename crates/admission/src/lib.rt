@@ -1,0 +1,112 @@
+// Which openings and steps are refused, and with which number: 17 to 21, in 01's order.
+ghost use mathlib.Core.Path.{_≡_};
+ghost use Prim.Native.Nat.{_≤_};
+ghost use Rattle.refusal.specs.Answer.{and-then};
+ghost use Rattle.rule.specs.Figures.{body-figures};
+ghost use Rattle.figures.specs.Prepared.{told};
+ghost use Rattle.demand.specs.Contract.{room, fit-lengths, must};
+ghost use Rattle.admission.specs.Admitted.{Small, fit-for, Admitted};
+use figures::FigureAnswer;
+use refusal::Refusal;
+use rule::Figures;
+
+// The opening of a rule with these figures: its history must have from the figure's bytes up to 4,096, and its table the needed cells.
+fn fit_opening(f: Figures, history: usize, table: usize) -> FigureAnswer
+    requires { ⌜ Small f ⌝ }
+    ensures { λ r. ⌜ told r ≡ room history table f ⌝ }
+{
+    let least = f.history as usize;
+    if history < least {
+        return FigureAnswer::Refused(Refusal::HistoryLength);
+    }
+    if 4096 < history {
+        return FigureAnswer::Refused(Refusal::HistoryLength);
+    }
+    let needed = 4 * f.cells as usize;
+    if table < needed {
+        return FigureAnswer::Refused(Refusal::CellTableTooShort);
+    }
+    FigureAnswer::Sized(f)
+}
+
+// The figures with which a rule's body is opened over a history and a cell table of these lengths, or a refusal: 4 to 15, 17, 18.
+pub fn admit_opening(body: &[u8], history: usize, table: usize) -> FigureAnswer
+    ensures { λ r. ⌜ told r ≡ and-then (body-figures (now (body .entry))) (room history table) ⌝ }
+{
+    let a = figures::figures(body);
+    match a {
+        FigureAnswer::Refused(x) => FigureAnswer::Refused(x),
+        FigureAnswer::Sized(f) => fit_opening(f, history, table),
+    }
+}
+
+// The step of a rule with these figures, whose history was opened with L bytes: refusals 17 to 20.
+fn fit_step(
+    f: Figures,
+    opened: usize,
+    tick: u32,
+    history: usize,
+    cells: usize,
+    report: usize,
+) -> FigureAnswer
+    requires { ⌜ Small f ⌝ }
+    ensures { λ r. ⌜ told r ≡ fit-lengths f opened tick history cells report ⌝ }
+{
+    if history != opened {
+        return FigureAnswer::Refused(Refusal::HistoryLength);
+    }
+    let needed = 4 * f.cells as usize;
+    if cells < needed {
+        return FigureAnswer::Refused(Refusal::CellTableTooShort);
+    }
+    let words = f.delay as usize + 1;
+    if report < words {
+        return FigureAnswer::Refused(Refusal::ReportTooShort);
+    }
+    if tick == 4294967295 {
+        return FigureAnswer::Refused(Refusal::TicksUsedUp);
+    }
+    FigureAnswer::Sized(f)
+}
+
+// The same after 21 for an opened length below the figure.
+fn fit_state(
+    f: Figures,
+    opened: usize,
+    tick: u32,
+    history: usize,
+    cells: usize,
+    report: usize,
+) -> FigureAnswer
+    requires { ⌜ Small f ⌝ }
+    ensures { λ r. ⌜ told r ≡ fit-for f opened tick history cells report ⌝ }
+{
+    let least = f.history as usize;
+    if opened < least {
+        return FigureAnswer::Refused(Refusal::StateNotOpened);
+    }
+    fit_step(f, opened, tick, history, cells, report)
+}
+
+// The figures with which a step goes on, or a refusal: 21, 17 to 20. The body's node table, with its sizes, is left in `nodes`: memory to
+// work in, which holds the rule where the step is not refused.
+pub fn admit_step(
+    body: &[u8],
+    opened: usize,
+    tick: u32,
+    history: usize,
+    cells: usize,
+    report: usize,
+    nodes: &mut [u32; 768],
+) -> FigureAnswer
+    ensures { λ r. ⌜ Admitted (now (body .entry)) opened tick history cells report r (now (nodes .exit)) ⌝ }
+{
+    if 4096 < opened {
+        return FigureAnswer::Refused(Refusal::StateNotOpened);
+    }
+    let a = figures::prepare(body, nodes);
+    match a {
+        FigureAnswer::Refused(_) => FigureAnswer::Refused(Refusal::StateNotOpened),
+        FigureAnswer::Sized(f) => fit_state(f, opened, tick, history, cells, report),
+    }
+}

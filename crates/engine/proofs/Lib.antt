@@ -1,0 +1,4 @@
+mod States
+mod Opens
+mod Steps
+pub mod Demand3

@@ -1,0 +1,104 @@
+-- Opening keeps its promise, by what its parts answered.
+use Prim.Native.Nat.{ℕ, _*_, _≤_}
+use mathlib.Core.Path.{_≡_, refl, sym, ap, subst, _∙_}
+use mathlib.Core.List.{List, []}
+use native.Mathlib.Omega.{arith}
+use lib.ListN.{length, replicate}
+use Rattle.refusal.specs.declared.Refusal.{Refusal}
+use Rattle.refusal.specs.Answer.{Answer, refused, accepted, and-then}
+use Rattle.refusal.specs.Numbers.{number-of}
+use Rattle.sheet.specs.Sheet.{Place, rule-place, rule-body, body-part, found}
+use Rattle.sheet.specs.declared.reader.Found.{Found}
+use Rattle.sheet.specs.declared.reader.Found.the-variants as place
+use Rattle.sheet.proofs.Bodies.{body-size}
+use Rattle.rule.specs.declared.Figures.{Figures}
+use Rattle.rule.specs.Figures.{body-figures}
+use Rattle.figures.specs.declared.answer.FigureAnswer.{FigureAnswer}
+use Rattle.figures.specs.declared.answer.FigureAnswer.the-variants as sized
+use Rattle.figures.specs.Prepared.{told}
+use Rattle.demand.specs.Contract.{Opening, room, admit-opening, Opens, Opened}
+use Rattle.instances.specs.Taking.{StandsFor}
+use Rattle.instances.proofs.Rules.{stand-at-start}
+use Rattle.engine.specs.declared.opening.OpenAnswer.{OpenAnswer}
+use Rattle.engine.specs.declared.opening.OpenAnswer.the-variants as answer
+use Rattle.engine.specs.declared.opening.OpenResult.{OpenResult}
+use Rattle.engine.specs.declared.state.State as code
+use Rattle.engine.specs.States.{state-of, fresh-state, blank-state}
+use Rattle.engine.specs.Promises.{Stands, open-answer, opening-call, Blank, OpenPromise, BodyOpenedBy, BodyOpened}
+
+-- ---- opening the rule with a body
+
+module _ (b history : List ℕ) (cells : ℕ) (a : FigureAnswer) (told-is : told a ≡ and-then (body-figures b) (room (length history) cells)) where
+  pub body-refused : {x : Refusal} (r : OpenResult) → a ≡ sized.Refused x → (r .answer ≡ answer.Refused x) × (state-of (r .state) ≡ blank-state)
+      → BodyOpened b history cells r history
+  body-refused {x} r e w =
+      subst (λ (o : OpenAnswer). BodyOpenedBy b history cells o (r .state) history) (sym (w .0)) (sym told-is ∙ ap told e, (w .1, refl))
+
+  pub body-accepted : {f : Figures} → a ≡ sized.Sized f → (g : Figures) × (and-then (body-figures b) (room (length history) cells) ≡ accepted g)
+  body-accepted {f} e = (f, sym told-is ∙ ap told e)
+
+-- ---- opening a rule of a sheet
+
+-- Before tick 0 any cells stand for every stream.
+fresh-stands : (b cells : List ℕ) (L : ℕ) (flags : ℕ → ℕ) → Stands (fresh-state b L) cells flags
+unfolding StandsFor
+fresh-stands b cells L flags F f r w = stand-at-start F (f .delay) flags cells
+
+module _ (sheet : List ℕ) (number : ℕ) (place-of : Found) (found-is : found place-of ≡ rule-place sheet number) where
+  sheet-refused : {x : Refusal} → place-of ≡ place.Refused x → rule-body sheet number ≡ refused (number-of x)
+  unfolding rule-body and-then
+  sheet-refused e = rw (← found-is, e)
+
+  sheet-found : {start size : ℕ} → place-of ≡ place.At start size → (b : List ℕ) × (rule-body sheet number ≡ accepted b)
+  unfolding rule-body and-then
+  sheet-found e = rw (← found-is, e) (_, refl)
+
+  -- the part that the reader gives back is the body
+  part-is : {start size : ℕ} (part : List ℕ) → place-of ≡ place.At start size → part ≡ body-part (rule-body sheet number) → rule-body sheet number ≡ accepted part
+  part-is part e i =
+      let h = sheet-found e in
+      h .1 ∙ ap accepted (sym (i ∙ ap body-part (h .1)))
+
+  pub part-size : {start size : ℕ} (part : List ℕ) → place-of ≡ place.At start size → part ≡ body-part (rule-body sheet number) → length part ≤ 512
+  part-size part e i = body-size sheet number part (part-is part e i) .1
+
+  module _ (history cells : List ℕ) where
+    pub open-refused : {x : Refusal} (r : OpenResult) → place-of ≡ place.Refused x → (r .answer ≡ answer.Refused x) × (state-of (r .state) ≡ blank-state)
+        → OpenPromise sheet number history cells r history
+    unfolding and-then
+    open-refused {x} r e w = go (r .answer) (w .0)
+      where
+        go : (o : OpenAnswer) → o ≡ answer.Refused x → OpenPromise sheet number history cells (record { answer = o; state = r .state }) history
+        go answer.Opened i = let z : _≡_ {A = ℕ} 0 1 = cc in absurd (omega arith)
+        go (answer.Refused y) i =
+            let j : x ≡ y = cc in
+            record { keeps = (rw (sheet-refused e) (ap (λ (v : Refusal). refused (number-of v)) j), refl, refl); blank = w .1 }
+
+    pub open-body-keeps : {start size : ℕ} (part : List ℕ) (r : OpenResult) (history′ : List ℕ) → place-of ≡ place.At start size → part ≡ body-part (rule-body sheet number)
+        → BodyOpened part history (length cells) r history′ → OpenPromise sheet number history cells r history′
+    unfolding and-then
+    open-body-keeps part r history′ e i w = go (r .answer) w
+      where
+        is : rule-body sheet number ≡ accepted part
+        is = part-is part e i
+
+        go : (o : OpenAnswer) → BodyOpenedBy part history (length cells) o (r .state) history′
+            → OpenPromise sheet number history cells (record { answer = o; state = r .state }) history′
+        go answer.Opened v =
+            record {
+              keeps = (
+                part,
+                v .0 .0,
+                is,
+                rw is (v .0 .1),
+                record {
+                  state = v .1 .0;
+                  zeroed = v .1 .1;
+                  table-length = refl;
+                  table-rest = refl;
+                  stands = λ flags. rw (v .1 .0) (fresh-stands part _ (length history) flags);
+                },
+              );
+              blank = tt;
+            }
+        go (answer.Refused x) v = record { keeps = (rw is (v .0), v .1 .1, refl); blank = v .1 .0 }

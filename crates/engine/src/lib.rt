@@ -1,0 +1,12 @@
+// The engine: opening a rule of a sheet, and stepping it by one flag byte. proofs/Demand3.antt has the theorem about whole lists of calls.
+mod opening;
+mod state;
+mod stepping;
+
+pub use opening::OpenAnswer;
+pub use opening::OpenResult;
+pub use opening::open;
+pub use state::State;
+pub use stepping::StepAnswer;
+pub use stepping::StepResult;
+pub use stepping::step;

@@ -1,0 +1,76 @@
+// Opening a rule of a sheet.
+ghost use mathlib.Core.Path.{_≡_};
+ghost use Prim.Native.Nat.{_≤_};
+ghost use lib.ListN.{length, replicate};
+ghost use Rattle.engine.specs.States.{state-of, blank-state};
+ghost use Rattle.engine.specs.Promises.{BodyOpened, OpenPromise};
+use crate::state::State;
+use crate::state::blank;
+use crate::state::fresh;
+use figures::FigureAnswer;
+use refusal::Refusal;
+use sheet::Found;
+
+// Whether the rule was opened.
+pub enum OpenAnswer {
+    Opened,
+    Refused(Refusal),
+}
+
+// An enum cannot hold a state, which holds an array: the state stands beside the answer.
+pub struct OpenResult {
+    pub answer: OpenAnswer,
+    pub state: State,
+}
+
+fn refused(x: Refusal) -> OpenResult
+    ensures { λ r. ⌜ (r .answer ≡ OpenAnswer.Refused x) × (state-of (r .state) ≡ blank-state) ⌝ }
+{
+    OpenResult {
+        answer: OpenAnswer::Refused(x),
+        state: blank(),
+    }
+}
+
+// Zeroes a history.
+fn zero(history: &mut [u8])
+    ensures { λ _. ⌜ now (history .exit) ≡ replicate (length (now (history .entry))) 0 ⌝ }
+{
+    let mut i: usize = 0;
+    while i < history.len() {
+        history[i] = 0;
+        i += 1;
+    }
+}
+
+// Opens the rule with this body.
+fn open_body(body: &[u8], history: &mut [u8], cells: &[u32]) -> OpenResult
+    requires { ⌜ length (now body) ≤ 512 ⌝ }
+    ensures { λ r. ⌜ BodyOpened (now (body .entry)) (now (history .entry)) (length (now (cells .entry))) r (now (history .exit)) ⌝ }
+{
+    let a = admission::admit_opening(body, history.len(), cells.len());
+    match a {
+        FigureAnswer::Refused(x) => refused(x),
+        FigureAnswer::Sized(_) => {
+            zero(history);
+            OpenResult {
+                answer: OpenAnswer::Opened,
+                state: fresh(body, history.len()),
+            }
+        }
+    }
+}
+
+// Opens a rule of a sheet over a lent history, which is zeroed, and a lent cell table, which is only measured: the first step sets up what it
+// needs there.
+pub fn open(sheet: &[u8], rule: usize, history: &mut [u8], cells: &[u32]) -> OpenResult
+    ensures { λ r. ⌜ OpenPromise (now (sheet .entry)) rule (now (history .entry)) (now (cells .entry)) r (now (history .exit)) ⌝ }
+{
+    let place = sheet::find_rule(sheet, rule);
+    match place {
+        Found::Refused(x) => refused(x),
+        Found::At { start: _, size: _ } => {
+            open_body(sheet::rule_body(sheet, rule), history, cells)
+        }
+    }
+}

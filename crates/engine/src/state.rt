@@ -1,0 +1,65 @@
+// What an opening and its steps carry from call to call.
+ghost use mathlib.Core.Path.{_≡_};
+ghost use Prim.Native.Nat.{suc, _+_, _≤_, _<_};
+ghost use lib.ListN.{length, take};
+ghost use Rattle.engine.specs.States.{state-of, fresh-state, blank-state, next-state};
+
+// The rule's body in the first `size` bytes, the length of the opened history, the tick to be taken, and how many ticks are live.
+pub struct State {
+    pub body: [u8; 512],
+    pub size: usize,
+    pub opened: usize,
+    pub next: u32,
+    pub live: usize,
+}
+
+// Copies bytes to the front of others.
+fn copy_bytes(from: &[u8], to: &mut [u8])
+    requires { ⌜ length (now from) ≤ length (now to) ⌝ }
+    ensures { λ _. ⌜ take (length (now (from .entry))) (now (to .exit)) ≡ now (from .entry) ⌝ }
+{
+    let mut i: usize = 0;
+    while i < from.len() {
+        to[i] = from[i];
+        i += 1;
+    }
+}
+
+// The state that an accepted opening gives.
+pub(crate) fn fresh(body: &[u8], opened: usize) -> State
+    requires { ⌜ length (now body) ≤ 512 ⌝ }
+    ensures { λ r. ⌜ state-of r ≡ fresh-state (now (body .entry)) opened ⌝ }
+{
+    let mut bytes = [0u8; 512];
+    copy_bytes(body, &mut bytes);
+    State {
+        body: bytes,
+        size: body.len(),
+        opened,
+        next: 0,
+        live: 0,
+    }
+}
+
+// What stands beside the number of a refused opening: a state with an empty body, which every step refuses by 21.
+pub(crate) fn blank() -> State
+    ensures { λ r. ⌜ state-of r ≡ blank-state ⌝ }
+{
+    State {
+        body: [0u8; 512],
+        size: 0,
+        opened: 0,
+        next: 0,
+        live: 0,
+    }
+}
+
+// The state after a step that took its tick.
+pub(crate) fn after_tick(mut state: State, live: usize) -> State
+    requires { ⌜ state .next < 4294967295 ⌝ }
+    ensures { λ r. ⌜ state-of r ≡ next-state (state-of state) live ⌝ }
+{
+    state.next = state.next + 1;
+    state.live = live;
+    state
+}

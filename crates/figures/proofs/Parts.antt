@@ -1,0 +1,63 @@
+-- The figures of each formula from its parts'.
+use Prim.Native.Nat.{ℕ, max}
+use mathlib.Core.Path.{refl, ap, _∙_}
+use mathlib.Core.List.{List, [], _∷_, _++_}
+use native.Mathlib.Omega.{arith}
+use Rattle.rule.specs.Formula.{Bound, Formula, flag, negate, then, beside, forall}
+use Rattle.rule.specs.Figures.{larger, plus, times, range-pair, N, N-back, width, delay, history, cells}
+use Rattle.rule.specs.declared.Size.{Size}
+use Rattle.rule.specs.declared.Size.the-variants.{Finite}
+use Rattle.rule.specs.declared.Pair.{Pair}
+use Rattle.figures.specs.declared.measure.Figure.{Figure}
+use Rattle.figures.specs.Capped.{cap, add, mul, Near, flag-figure, then-figure, beside-figure, range-figure, FigureOf}
+use Rattle.figures.proofs.Saturation.{cap-larger, cap-plus, cap-times}
+use Rattle.figures.proofs.Distances.{modest-larger, modest-delay}
+
+pub flag-of : (v k : ℕ) (ps : List Pair) (start : Size) → FigureOf (flag v k) ps start flag-figure
+unfolding flag-figure delay history cells
+flag-of v k ps start = record { delay-is = refl; history-is = refl; cells-is = refl; modest = omega arith }
+
+pub negate-of : (F : Formula) (ps : List Pair) (start : Size) (r : Figure) → FigureOf F ps start r → FigureOf (negate F) ps start r
+unfolding delay history cells
+negate-of F ps start r f = record { delay-is = f .delay-is; history-is = f .history-is; cells-is = f .cells-is; modest = f .modest }
+
+module _ (F G : Formula) (ps : List Pair) (start : Size) (f g : Figure) where
+  pub then-of : FigureOf F ps start f → FigureOf G ps (larger start (f .delay)) g → FigureOf (then F G) ps start (then-figure f g)
+  unfolding then-figure delay history cells
+  then-of x y =
+      record {
+        delay-is = ap (larger (f .delay)) (y .delay-is) ∙ ap (λ (d : Size). larger d (delay G ps)) (x .delay-is);
+        history-is = ap (larger (f .history)) (y .history-is) ∙ ap (λ (d : Size). larger d (history G ps (larger start (f .delay)))) (x .history-is)
+            ∙ ap (λ (d : Size). larger (history F ps start) (history G ps (larger start d))) (x .delay-is);
+        cells-is = ap (λ (n : ℕ). add 1 (max n (g .cells))) (x .cells-is) ∙ ap (λ (n : ℕ). add 1 (max (cap (cells F ps)) n)) (y .cells-is)
+            ∙ ap (add 1) (cap-larger (cells F ps) (cells G ps)) ∙ cap-plus (Finite 1) (larger (cells F ps) (cells G ps));
+        modest = modest-larger (f .delay) (g .delay) (x .modest) (y .modest);
+      }
+
+  pub beside-of : FigureOf F ps start f → FigureOf G ps start g → FigureOf (beside F G) ps start (beside-figure f g)
+  unfolding beside-figure delay history cells
+  beside-of x y =
+      record {
+        delay-is = ap (larger (f .delay)) (y .delay-is) ∙ ap (λ (d : Size). larger d (delay G ps)) (x .delay-is);
+        history-is = ap (larger (f .history)) (y .history-is) ∙ ap (λ (d : Size). larger d (history G ps start)) (x .history-is);
+        cells-is = ap (λ (n : ℕ). add 1 (add n (g .cells))) (x .cells-is) ∙ ap (λ (n : ℕ). add 1 (add (cap (cells F ps)) n)) (y .cells-is)
+            ∙ ap (add 1) (cap-plus (cells F ps) (cells G ps)) ∙ cap-plus (Finite 1) (plus (cells F ps) (cells G ps));
+        modest = modest-larger (f .delay) (g .delay) (x .modest) (y .modest);
+      }
+
+pub forall-of : (B C : Bound) (F : Formula) (ps : List Pair) (start : Size) (f : Figure) → Near 131072 ((range-pair B C ps) .upper)
+    → FigureOf F (ps ++ (range-pair B C ps ∷ [])) (larger start (N ((range-pair B C ps) .upper))) f
+    → FigureOf (forall B C F) ps start (range-figure (range-pair B C ps) start f)
+unfolding range-figure delay history cells
+forall-of B C F ps start f h x =
+    let R : Pair = range-pair B C ps in
+    let c : Size = cells F (ps ++ (range-pair B C ps ∷ [])) in
+    record {
+      delay-is = ap (λ (d : Size). larger d (N ((range-pair B C ps) .upper))) (x .delay-is);
+      history-is = ap (larger (N-back start ((range-pair B C ps) .lower))) (x .history-is);
+      cells-is = ap (λ (n : ℕ). add 1 (mul (cap (width (range-pair B C ps))) (add 1 n))) (x .cells-is)
+          ∙ ap (λ (n : ℕ). add 1 (mul (cap (width (range-pair B C ps))) n)) (cap-plus (Finite 1) c)
+          ∙ ap (add 1) (cap-times (width (range-pair B C ps)) (plus (Finite 1) c))
+          ∙ cap-plus (Finite 1) (times (width (range-pair B C ps)) (plus (Finite 1) c));
+      modest = modest-larger (f .delay) (N ((range-pair B C ps) .upper)) (x .modest) (modest-delay ((range-pair B C ps) .upper) h);
+    }

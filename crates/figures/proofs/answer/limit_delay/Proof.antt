@@ -1,0 +1,32 @@
+-- `figures::answer::limit_delay` meets its contract.
+use borrow.Author.Needs.{needs}
+use borrow.Author.Tests.{le-leb, lt-leb}
+use Rattle.rule.specs.Figures.{limit-delay}
+use Rattle.figures.proofs.answer.limit_delay.Statement.{statement}
+use Rattle.figures.proofs.answer.limit_delay.Tie as tie
+
+enum-told : tie.Need-enum-told
+enum-told c = search needs
+
+enum-known-d : tie.Need-enum-known-d
+enum-known-d c = search needs
+
+returns : tie.Need-returns
+unfolding limit-delay
+returns c = rw (c .before .before .d .given .1, lt-leb (c .before .before .d .given .0 .0) 255 (c .if1 .taken))
+
+limit-history-requires : tie.Need-limit-history-requires
+limit-history-requires c κs = search needs
+
+returns-2 : tie.Need-returns-2
+unfolding limit-delay
+returns-2 c = rw (c .enum-told .given .1)
+
+returns-3 : tie.Need-returns-3
+unfolding limit-delay
+returns-3 c =
+    rw (c .before .before .before .d .given .1, le-leb (c .before .before .before .d .given .0 .0) 255 (c .before .if1 .left)) (c .limit-history .ensures)
+
+pub limit-delay-spec : {M : Type 1} → statement M
+limit-delay-spec =
+    tie.close (tie.spec enum-told enum-known-d returns limit-history-requires returns-2 returns-3)

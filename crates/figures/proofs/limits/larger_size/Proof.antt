@@ -1,0 +1,48 @@
+-- `figures::limits::larger_size` meets its contract.
+use mathlib.Core.Path.{ap}
+use borrow.Author.Needs.{needs}
+use Rattle.rule.specs.Figures.{larger}
+use Rattle.rule.specs.declared.Size.the-variants.{Finite}
+use Rattle.figures.proofs.limits.larger_size.Statement.{statement}
+use Rattle.figures.proofs.limits.larger_size.Tie as tie
+
+enum-told : tie.Need-enum-told
+enum-told c = search needs
+
+enum-known-a : tie.Need-enum-known-a
+enum-known-a c = search needs
+
+enum-told-2 : tie.Need-enum-told-2
+enum-told-2 c = search needs
+
+enum-known-b : tie.Need-enum-known-b
+enum-known-b c = search needs
+
+larger-number-requires : tie.Need-larger-number-requires
+larger-number-requires c κs = search needs
+
+returns : tie.Need-returns
+unfolding larger
+returns c = rw (c .enum-told .given .1)
+
+returns-2 : tie.Need-returns-2
+unfolding larger
+returns-2 c = rw (c .before .before .before .a .given .1, c .enum-told2 .given .1)
+
+returns-3 : tie.Need-returns-3
+unfolding larger
+returns-3 c =
+    rw (c .before .before .before .before .before .a .given .1, c .before .before .b .given .1) (ap Finite (c .larger-number .ensures))
+
+pub larger-size-spec : {M : Type 1} → statement M
+larger-size-spec =
+    tie.close
+    (tie.spec
+    enum-told
+    enum-known-a
+    enum-told-2
+    enum-known-b
+    larger-number-requires
+    returns
+    returns-2
+    returns-3)

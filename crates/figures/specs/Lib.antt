@@ -1,0 +1,3 @@
+pub mod Capped
+pub mod Measured
+pub mod Prepared

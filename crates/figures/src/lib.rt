@@ -1,0 +1,38 @@
+// A body's figures: history, delay and cells, or a refusal from 4 to 15; and the sizes that the engine needs, written into the node table.
+mod answer;
+mod limits;
+mod measure;
+mod scope;
+
+ghost use mathlib.Core.Path.{_≡_};
+ghost use Rattle.rule.specs.Figures.{body-figures};
+ghost use Rattle.figures.specs.Prepared.{told, Prepared};
+pub use answer::FigureAnswer;
+use answer::limit_delay;
+use measure::measure_rule;
+use reader::Reading;
+
+// Reads a body into the node table, writes the sizes of its nodes (words 8 to 10) and answers its figures. The table is memory to work in:
+// where the body itself is refused (4 to 10) its words are unspecified.
+pub fn prepare(body: &[u8], nodes: &mut [u32; 768]) -> FigureAnswer
+    ensures { λ r. ⌜ Prepared (now (body .entry)) r (now (nodes .exit)) ⌝ }
+{
+    let reading = reader::read_body(body, nodes);
+    match reading {
+        Reading::Refused(x) => FigureAnswer::Refused(x),
+        Reading::Formulas(_) => {
+            let f = measure_rule(nodes);
+            let d = f.delay;
+            let h = f.history;
+            limit_delay(h, d, f.cells)
+        }
+    }
+}
+
+// A body's figures, or a refusal from 4 to 15.
+pub fn figures(body: &[u8]) -> FigureAnswer
+    ensures { λ r. ⌜ told r ≡ body-figures (now (body .entry)) ⌝ }
+{
+    let mut nodes = [0u32; 768];
+    prepare(body, &mut nodes)
+}

@@ -1,0 +1,123 @@
+// Numbers with a sign and infinite ones: 01's N(u), N(k - l) and W; and cells, whose sums and products stop at 4,097.
+ghost use mathlib.Core.Path.{_≡_};
+ghost use Prim.Native.Nat.{_+_, _*_, _≤_, min, max};
+ghost use lib.IntN.{natAbs, pos, _+ℤ_, _-ℤ_};
+ghost use Rattle.rule.specs.Figures.{shift, N, N-back, positions-from, larger};
+ghost use Rattle.figures.specs.Capped.{cap, Near, Modest, add, mul};
+use rule::Limit;
+use rule::Size;
+use signed::at_least_zero;
+
+// Both numbers are small: offsets and their sums over 4 quantifiers.
+fn sum(a: i64, b: i64) -> i64
+    requires { ⌜ (natAbs a ≤ 1000000) × (natAbs b ≤ 1000000) ⌝ }
+    ensures { λ r. ⌜ r ≡ a +ℤ b ⌝ }
+{
+    a + b
+}
+
+fn difference(a: i64, b: i64) -> i64
+    requires { ⌜ (natAbs a ≤ 1000000) × (natAbs b ≤ 1000000) ⌝ }
+    ensures { λ r. ⌜ r ≡ a -ℤ b ⌝ }
+{
+    a - b
+}
+
+fn as_signed(k: u64) -> i64
+    requires { ⌜ k ≤ 1000000 ⌝ }
+    ensures { λ r. ⌜ r ≡ pos k ⌝ }
+{
+    k as i64
+}
+
+// The smaller of a number and 4,097: above the limit of cells it does not matter how much.
+fn capped(n: u64) -> u64
+    ensures { λ r. ⌜ r ≡ min n 4097 ⌝ }
+{
+    if n < 4097 { n } else { 4097 }
+}
+
+pub(crate) fn larger_number(a: u64, b: u64) -> u64
+    ensures { λ r. ⌜ r ≡ max a b ⌝ }
+{
+    if a < b { b } else { a }
+}
+
+pub(crate) fn larger_size(a: Size, b: Size) -> Size
+    ensures { λ r. ⌜ r ≡ larger a b ⌝ }
+{
+    match a {
+        Size::Unbounded => Size::Unbounded,
+        Size::Finite(x) => match b {
+            Size::Unbounded => Size::Unbounded,
+            Size::Finite(y) => Size::Finite(larger_number(x, y)),
+        },
+    }
+}
+
+pub(crate) fn shifted(l: Limit, n: i64) -> Limit
+    requires { ⌜ Near 1000000 l × (natAbs n ≤ 1000000) ⌝ }
+    ensures { λ r. ⌜ r ≡ shift n l ⌝ }
+{
+    match l {
+        Limit::Lowest => Limit::Lowest,
+        Limit::At(z) => Limit::At(sum(z, n)),
+        Limit::Highest => Limit::Highest,
+    }
+}
+
+// N(u), a range's own delay.
+pub(crate) fn range_delay(u: Limit) -> Size
+    ensures { λ r. ⌜ r ≡ N u ⌝ }
+{
+    match u {
+        Limit::Lowest => Size::Finite(0),
+        Limit::At(z) => Size::Finite(at_least_zero(z)),
+        Limit::Highest => Size::Unbounded,
+    }
+}
+
+// N(k - l), a range's own history.
+pub(crate) fn range_history(k: Size, l: Limit) -> Size
+    requires { ⌜ Modest k × Near 1000000 l ⌝ }
+    ensures { λ r. ⌜ r ≡ N-back k l ⌝ }
+{
+    match l {
+        Limit::Lowest => Size::Unbounded,
+        Limit::At(z) => match k {
+            Size::Finite(n) => Size::Finite(at_least_zero(difference(as_signed(n), z))),
+            Size::Unbounded => Size::Unbounded,
+        },
+        Limit::Highest => Size::Finite(0),
+    }
+}
+
+// W, a range's positions, counted up to 4,097.
+pub(crate) fn range_width(l: Limit, u: Limit) -> u64
+    requires { ⌜ Near 400000 l × Near 400000 u ⌝ }
+    ensures { λ r. ⌜ r ≡ cap (positions-from l u) ⌝ }
+{
+    match l {
+        Limit::Lowest => 4097,
+        Limit::At(a) => match u {
+            Limit::Lowest => 0,
+            Limit::At(b) => capped(at_least_zero(sum(difference(b, a), 1))),
+            Limit::Highest => 4097,
+        },
+        Limit::Highest => 0,
+    }
+}
+
+pub(crate) fn plus(a: u64, b: u64) -> u64
+    requires { ⌜ (a ≤ 4097) × (b ≤ 4097) ⌝ }
+    ensures { λ r. ⌜ r ≡ add a b ⌝ }
+{
+    capped(a + b)
+}
+
+pub(crate) fn times(a: u64, b: u64) -> u64
+    requires { ⌜ (a ≤ 4097) × (b ≤ 4097) ⌝ }
+    ensures { λ r. ⌜ r ≡ mul a b ⌝ }
+{
+    capped(a * b)
+}

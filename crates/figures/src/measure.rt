@@ -1,0 +1,177 @@
+// The figures of a formula from its parts', over the node table, and the sizes of its nodes.
+ghost use mathlib.Core.Path.{_≡_};
+ghost use mathlib.Core.List.{[], _∷_};
+ghost use Prim.Native.Nat.{_+_, _*_, _≤_};
+ghost use lib.ListN.{set};
+ghost use Rattle.rule.specs.Figures.{N, larger, width, at-tick};
+ghost use Rattle.rule.specs.declared.Size.the-variants.{Finite};
+ghost use Rattle.figures.specs.Capped.{cap, inside, Near, Modest, flag-figure, then-figure, beside-figure, range-figure, Ready};
+ghost use Rattle.figures.specs.Measured.{Measures, Promise};
+use crate::limits::larger_number;
+use crate::limits::larger_size;
+use crate::limits::plus;
+use crate::limits::range_delay;
+use crate::limits::range_history;
+use crate::limits::range_width;
+use crate::limits::times;
+use crate::scope::Scope;
+use crate::scope::range_pair;
+use crate::scope::with_pair;
+use nodes::node_word;
+use rule::Limit;
+use rule::Pair;
+use rule::Size;
+
+// A formula's figures; its cells are counted up to 4,097.
+pub(crate) struct Figure {
+    pub(crate) delay: Size,
+    pub(crate) history: Size,
+    pub(crate) cells: u64,
+}
+
+fn flag_figure() -> Figure
+    ensures { λ r. ⌜ r ≡ flag-figure ⌝ }
+{
+    Figure {
+        delay: Size::Finite(0),
+        history: Size::Finite(0),
+        cells: 0,
+    }
+}
+
+fn then_figure(f: Figure, g: Figure) -> Figure
+    requires { ⌜ (f .cells ≤ 4097) × (g .cells ≤ 4097) ⌝ }
+    ensures { λ r. ⌜ r ≡ then-figure f g ⌝ }
+{
+    let d = f.delay;
+    let e = g.delay;
+    let h = f.history;
+    let k = g.history;
+    Figure {
+        delay: larger_size(d, e),
+        history: larger_size(h, k),
+        cells: plus(1, larger_number(f.cells, g.cells)),
+    }
+}
+
+fn beside_figure(f: Figure, g: Figure) -> Figure
+    requires { ⌜ (f .cells ≤ 4097) × (g .cells ≤ 4097) ⌝ }
+    ensures { λ r. ⌜ r ≡ beside-figure f g ⌝ }
+{
+    let d = f.delay;
+    let e = g.delay;
+    let h = f.history;
+    let k = g.history;
+    Figure {
+        delay: larger_size(d, e),
+        history: larger_size(h, k),
+        cells: plus(1, plus(f.cells, g.cells)),
+    }
+}
+
+// A range whose variable has the pair r, started at k at the latest, over a body with the figures f.
+fn range_figure(r: Pair, k: Size, f: Figure) -> Figure
+    requires { ⌜ Near 400000 (r .lower) × (Near 400000 (r .upper) × (Modest k × (f .cells ≤ 4097))) ⌝ }
+    ensures { λ x. ⌜ x ≡ range-figure r k f ⌝ }
+{
+    let l = r.lower;
+    let u = r.upper;
+    let d = f.delay;
+    let h = f.history;
+    Figure {
+        delay: larger_size(d, range_delay(u)),
+        history: larger_size(range_history(k, l), h),
+        cells: plus(1, times(range_width(l, u), plus(1, f.cells))),
+    }
+}
+
+// The latest start of a range's body: max(k, N(u)).
+fn body_start(r: Pair, k: Size) -> Size
+    ensures { λ x. ⌜ x ≡ larger k (N (r .upper)) ⌝ }
+{
+    let u = r.upper;
+    larger_size(k, range_delay(u))
+}
+
+// Stores word k after word i, nothing past the end.
+fn store(nodes: &mut [u32], i: usize, k: usize, v: u64)
+    requires { ⌜ v ≤ 65536 ⌝ }
+    ensures { λ _. ⌜ now (nodes .exit) ≡ set (now (nodes .entry)) (i + k) v ⌝ }
+{
+    if nodes.len() <= i {
+        return;
+    }
+    if nodes.len() - i <= k {
+        return;
+    }
+    nodes[i + k] = v as u32;
+}
+
+// Stores a range's W and the words of one position's slot: a cell and its body's c cells.
+fn store_range(nodes: &mut [u32], i: usize, r: Pair, c: u64)
+    requires { ⌜ Near 400000 (r .lower) × (Near 400000 (r .upper) × (c ≤ 4097)) ⌝ }
+    ensures { λ _. ⌜ now (nodes .exit) ≡ set (set (now (nodes .entry)) (i + 8) (cap (width r))) (i + 9) (4 * (1 + c)) ⌝ }
+{
+    let l = r.lower;
+    let u = r.upper;
+    store(nodes, i, 8, range_width(l, u));
+    store(nodes, i, 9, 4 * (1 + c));
+}
+
+// The figures of the formula at word i, inside m quantifiers and started at `start` at the latest, with the sizes of its nodes stored.
+fn measure_at(
+    nodes: &mut [u32],
+    left: usize,
+    m: usize,
+    i: usize,
+    scope: Scope,
+    start: Size,
+) -> Figure
+    requires { ⌜ Ready m scope start ⌝ }
+    ensures { λ r. ⌜ Measures left m i scope start (now (nodes .entry)) (now (nodes .exit)) r ⌝ }
+{
+    if left == 0 {
+        return flag_figure();
+    }
+    let code = node_word(nodes, i, 0);
+    if code == 2 {
+        return measure_at(nodes, left - 1, m, i + 12, scope, start);
+    }
+    if code == 3 {
+        let j = node_word(nodes, i, 7) as usize;
+        let f = measure_at(nodes, left - 1, m, i + 12, scope, start);
+        let d = f.delay;
+        let g = measure_at(nodes, left - 1, m, j, scope, larger_size(start, d));
+        return then_figure(f, g);
+    }
+    if code == 4 {
+        let j = node_word(nodes, i, 7) as usize;
+        let f = measure_at(nodes, left - 1, m, i + 12, scope, start);
+        let g = measure_at(nodes, left - 1, m, j, scope, start);
+        store(nodes, i, 10, 4 * f.cells);
+        return beside_figure(f, g);
+    }
+    if code == 5 {
+        if 4 <= m {
+            return flag_figure();
+        }
+        let r = range_pair(nodes, i, scope, m);
+        let k = body_start(r, start);
+        let f = measure_at(nodes, left - 1, m + 1, i + 12, with_pair(scope, m, r), k);
+        store_range(nodes, i, r, f.cells);
+        return range_figure(r, start, f);
+    }
+    flag_figure()
+}
+
+// The figures of the rule whose formula stands at the table's start.
+pub(crate) fn measure_rule(nodes: &mut [u32]) -> Figure
+    ensures { λ r. ⌜ (r .cells ≤ 4097) × Promise 64 0 0 (at-tick ∷ []) (Finite 0) (now (nodes .entry)) (now (nodes .exit)) r ⌝ }
+{
+    let tick = Pair {
+        lower: Limit::At(0),
+        upper: Limit::At(0),
+    };
+    let scope = Scope { pairs: [tick; 5] };
+    measure_at(nodes, 64, 0, 0, scope, Size::Finite(0))
+}

@@ -1,0 +1,162 @@
+-- From a rule's tree to the rule: what moving its ticks gives is 01's report, 01's live count, and cells that stand for the stream.
+use Prim.Native.Nat.{ℕ, suc, _+_, _*_, _-_, _/_, _%_, _≤_, _<_}
+use mathlib.Core.Path.{_≡_, refl, sym, ap, ap₂, subst, _∙_}
+use mathlib.Core.List.{List, [], _∷_, _++_}
+use native.Mathlib.Omega.{arith}
+use native.Mathlib.Numerals.{add-one}
+use native.Mathlib.Nat.{mod-lt, mul-comm, mul-assoc, div-eq-of-eq-mul-right}
+use lib.ListN.{length, take, drop}
+use lib.Seq.{take-at}
+use Rattle.rule.specs.declared.Size.{Size}
+use Rattle.rule.specs.declared.Figures.{Figures}
+use Rattle.rule.specs.Formula.{Formula}
+use Rattle.rule.specs.Meaning.{rule}
+use Rattle.rule.specs.Figures.{at-tick, cells}
+use Rattle.rule.specs.Steps.{false-at, is-open, passing, report, live}
+use Rattle.rule.proofs.Delay.{Within}
+use Rattle.rule.proofs.Reach.{Reach, rule-reach}
+use Rattle.rule.proofs.Recent.{report-recent, live-recent}
+use Rattle.reader.specs.Decoded.{formulas}
+use Rattle.demand.specs.Contract.{Kept}
+use Rattle.instances.specs.Tree.{Tree, formula-of, tree-at, words}
+use Rattle.instances.specs.Cells.{slot}
+use Rattle.instances.specs.Sized.{sized}
+use Rattle.instances.specs.Instances.{InstanceHolds, Stand, TicksFit, TicksMoved, Spared}
+use Rattle.instances.specs.Moves.{CellsStand, Prepares, InstancesFit, StepMeans, InstancesMoved}
+use Rattle.instances.proofs.Slots.{slot-before, slot-front}
+use Rattle.rule.proofs.Limits.{WithinLimits, within-limits}
+use Rattle.instances.proofs.Sizes.{formula-sized, tree-sized, words-sized, formed-sized}
+
+-- Before tick 0 the cells stand for every stream.
+pub stand-at-start : (F : Formula) (d : ℕ) (flags : ℕ → ℕ) (cells : List ℕ) → CellsStand F d flags 0 cells
+unfolding CellsStand Stand
+stand-at-start F d flags cells k p e h g = absurd (omega arith)
+
+-- ---- the slots of a table, or of the part that is needed
+
+module _ (T : Tree) (n c : ℕ) (flags : ℕ → ℕ) (t : ℕ) (table : List ℕ) (some : 0 < n) (room : n * c ≤ length table) where
+  same-slot : (p : ℕ) → slot c (p % n) (take (n * c) table) ≡ slot c (p % n) table
+  same-slot p = slot-front c table (n * c) (p % n) room (slot-before c (p % n) n (mod-lt p some))
+
+  stand-whole : Stand T n c flags t (take (n * c) table) → Stand T n c flags t table
+  unfolding Stand
+  stand-whole s k p e h g = subst (InstanceHolds flags T k p) (same-slot p) (s k p e h g)
+
+  stand-needed : Stand T n c flags t table → Stand T n c flags t (take (n * c) table)
+  unfolding Stand
+  stand-needed s k p e h g = subst (InstanceHolds flags T k p) (sym (same-slot p)) (s k p e h g)
+
+-- ---- a rule within the limits
+
+module _ (F : Formula) (f : Figures) (ns : List ℕ) (p : Prepares F f ns) where
+  limits : WithinLimits F f
+  limits = within-limits F f (p .within)
+
+  tree-is : tree-at 64 ns 0 ≡ sized F (at-tick ∷ [])
+  tree-is = tree-sized F 64 ns (at-tick ∷ []) 0 0 (12 * formulas F) (omega (arith, p .stands .room)) (p .stands .holds) (p .sizes)
+
+  -- the words of one instance, and of all
+  words-are : 4 + words (sized F (at-tick ∷ [])) ≡ 4 * (1 + limits .own)
+  words-are =
+      let s : limits .own ≤ 4095 = limits .small in
+      let w : words (sized F (at-tick ∷ [])) ≡ 4 * limits .own = words-sized F (at-tick ∷ []) (limits .own) (limits .own-is) (omega arith) in
+      omega arith
+
+  all-words : (f .delay + 1) * (4 + words (sized F (at-tick ∷ []))) ≡ 4 * f .cells
+  all-words =
+      let n : ℕ = f .delay + 1 in
+      let k : ℕ = 1 + limits .own in
+      ap (λ (x : ℕ). n * x) words-are ∙ sym (mul-assoc n 4 k) ∙ ap (λ (x : ℕ). x * k) (mul-comm n 4) ∙ mul-assoc 4 n k ∙ ap (λ (x : ℕ). 4 * x) (limits .needed-is)
+
+  pub slot-words : f .cells / (f .delay + 1) * 4 ≡ 4 + words (sized F (at-tick ∷ []))
+  slot-words =
+      let q : f .cells / (f .delay + 1) ≡ 1 + limits .own = div-eq-of-eq-mul-right (omega arith) (sym (limits .needed-is)) in
+      let w : 4 + words (sized F (at-tick ∷ [])) ≡ 4 * (1 + limits .own) = words-are in
+      omega arith
+
+  rule-reaches : (flags : ℕ → ℕ) (q : ℕ) → Reach (f .history) flags (q ∷ []) q (formula-of (sized F (at-tick ∷ [])))
+  rule-reaches flags q =
+      subst (Reach (f .history) flags (q ∷ []) q) (sym (formula-sized F (at-tick ∷ [])))
+      (rule-reach (f .history) F (subst (λ (x : Size). Within x (f .history)) (sym (limits .history-is)) (omega arith)) flags q)
+
+  -- the ticks older than the last delay + 1 were decided before
+  report-is : (flags : ℕ → ℕ) (t low : ℕ) → low ≡ t + 1 - (f .delay + 1)
+      → passing (false-at t) (rule (formula-of (sized F (at-tick ∷ []))) flags t) (t + 1 - low) low ≡ report F flags t
+  report-is flags t low e =
+      let a : t + 1 - low ≡ suc t - (t - f .delay) = omega arith in
+      let b : low ≡ t - f .delay = omega arith in
+      ap (λ (G : Formula). passing (false-at t) (rule G flags t) (t + 1 - low) low) (formula-sized F (at-tick ∷ []))
+      ∙ ap₂ (passing (false-at t) (rule F flags t)) a b ∙ sym (report-recent F (f .delay) (limits .delay-is) flags t)
+
+  live-is : (flags : ℕ → ℕ) (t low : ℕ) → low ≡ t + 1 - (f .delay + 1)
+      → passing is-open (rule (formula-of (sized F (at-tick ∷ []))) flags t) (t + 1 - low) low ≡ live F flags t
+  live-is flags t low e =
+      let a : t + 1 - low ≡ suc t - (t - f .delay) = omega arith in
+      let b : low ≡ t - f .delay = omega arith in
+      ap (λ (G : Formula). passing is-open (rule G flags t) (t + 1 - low) low) (formula-sized F (at-tick ∷ []))
+      ∙ ap₂ (passing is-open (rule F flags t)) a b ∙ sym (live-recent F (f .delay) (limits .delay-is) flags t)
+
+  rule-means : (c : ℕ) (hist : List ℕ) (b t low : ℕ) (table report₀ : List ℕ) (reported live-count : ℕ) (table′ report′ : List ℕ)
+      → c ≡ f .cells / (f .delay + 1) * 4 → low ≡ t + 1 - (f .delay + 1) → 4 * f .cells ≤ length table → length table′ ≡ length table
+      → TicksMoved (tree-at 64 ns 0) (f .delay + 1) c hist b t low table report₀ reported live-count table′ report′
+      → (flags : ℕ → ℕ) → flags t ≡ b → Kept flags (length hist) (f .history) t hist
+      → CellsStand F (f .delay) flags t (take (4 * f .cells) table) → StepMeans F f flags t reported live-count table′ report′
+  unfolding CellsStand
+  rule-means c hist b t low table report₀ reported live-count table′ report′ ec el room long moved flags eb kept stand =
+      let T : Tree = sized F (at-tick ∷ []) in
+      let w : ℕ = 4 + words (sized F (at-tick ∷ [])) in
+      let n : ℕ = f .delay + 1 in
+      let whole : n * w ≡ 4 * f .cells = all-words in
+      let moved′ : TicksMoved T n w hist b t low table report₀ reported live-count table′ report′ =
+      subst (λ (x : ℕ). TicksMoved T n x hist b t low table report₀ reported live-count table′ report′) (ec ∙ slot-words)
+      (subst (λ (x : Tree). TicksMoved x n c hist b t low table report₀ reported live-count table′ report′) tree-is moved) in
+      let stand′ : Stand T n w flags t (take (n * w) table) = rw whole stand in
+      let x = moved′ .gives flags (f .history) (record { history = kept; current = sym eb }) (rule-reaches flags) (stand-whole T n w flags t table (omega arith) (omega arith) stand′) in
+      let er : passing (false-at t) (rule (formula-of T) flags t) (t + 1 - low) low ≡ report F flags t = report-is flags t low el in
+      let count : reported ≡ length (report F flags t) = x .0 ∙ ap length er in
+      let next : Stand T n w flags (t + 1) (take (n * w) table′) = stand-needed T n w flags (t + 1) table′ (omega arith) (omega arith) (x .1 .1 .1) in
+      record {
+        words = ap (take reported) (x .1 .0 ∙ ap (λ (l : List ℕ). l ++ drop reported report₀) er) ∙ take-at (report F flags t) (drop reported report₀) reported (sym count);
+        count = count;
+        open-ticks = x .1 .1 .0 ∙ ap length (live-is flags t low el);
+        stands = rw (← add-one t, ← whole) next;
+      }
+
+-- ---- for the function
+
+pub rule-fits : (ns : List ℕ) (f : Figures) (t len words′ : ℕ) → InstancesFit ns f t len words′
+    → TicksFit (tree-at 64 ns 0) t (f .delay + 1) (f .cells / (f .delay + 1) * 4) len words′
+rule-fits ns f t len words′ i =
+    let F : Formula = i .formula in
+    let p : Prepares F f ns = i .prepares in
+    let T : Tree = sized F (at-tick ∷ []) in
+    let room : 4 * f .cells ≤ len = i .table in
+    let sw : f .cells / (f .delay + 1) * 4 ≡ 4 + words T = slot-words F f ns p in
+    let whole : (f .delay + 1) * (4 + words T) ≡ 4 * f .cells = all-words F f ns p in
+    let small : limits F f ns p .own ≤ 4095 = limits F f ns p .small in
+    rw (tree-is F f ns p, sw) (record {
+      formed = formed-sized F ns (at-tick ∷ []) 0 0 (12 * formulas F) (p .stands .holds) refl (i .scoped) (limits F f ns p .own) (limits F f ns p .own-is) (omega arith);
+      room = omega arith;
+      low = i .low;
+      some = omega arith;
+      table = omega arith;
+      report = i .report;
+    })
+
+pub rule-moved : (ns : List ℕ) (f : Figures) (c : ℕ) (hist : List ℕ) (b t low : ℕ) (table report₀ : List ℕ) (reported live-count : ℕ) (table′ report′ : List ℕ)
+    → c ≡ f .cells / (f .delay + 1) * 4 → low ≡ t + 1 - (f .delay + 1) → 4 * f .cells ≤ length table → length table′ ≡ length table
+    → TicksMoved (tree-at 64 ns 0) (f .delay + 1) c hist b t low table report₀ reported live-count table′ report′
+    → InstancesMoved ns f hist b t table reported live-count table′ report′
+rule-moved ns f c hist b t low table report₀ reported live-count table′ report′ ec el room long moved =
+    record { means = λ F p. rule-means F f ns p c hist b t low table report₀ reported live-count table′ report′ ec el room long moved }
+
+-- the needed words are the slots
+pub rule-spares : (ns : List ℕ) (f : Figures) (t len words′ : ℕ) (table report₀ : List ℕ) (reported live-count : ℕ) (table′ report′ : List ℕ) → InstancesFit ns f t len words′
+    → Spared (f .delay + 1) ((f .delay + 1) * (f .cells / (f .delay + 1) * 4)) table report₀ reported live-count table′ report′
+    → Spared (f .delay + 1) (4 * f .cells) table report₀ reported live-count table′ report′
+rule-spares ns f t len words′ table report₀ reported live-count table′ report′ i s =
+    subst (λ (k : ℕ). Spared (f .delay + 1) k table report₀ reported live-count table′ report′)
+    (ap (λ (x : ℕ). (f .delay + 1) * x) (slot-words (i .formula) f ns (i .prepares)) ∙ all-words (i .formula) f ns (i .prepares)) s
+
+pub rule-short : (ns : List ℕ) (f : Figures) (t len words′ : ℕ) → InstancesFit ns f t len words′ → (f .delay ≤ 255) × (f .cells ≤ 4096)
+rule-short ns f t len words′ i = (limits (i .formula) f ns (i .prepares) .short, limits (i .formula) f ns (i .prepares) .few)

@@ -1,0 +1,1213 @@
+-- The cycle of calls that moves one formula by one tick. Each answer is one lemma about plain lists, outcomes and numbers.
+use Prim.Native.Nat.{ℕ, _<_, _≤_, _+_, _*_, _-_, _%_}
+use mathlib.Core.Logic.{_⊎_, inl, inr, ⊎-elim}
+use mathlib.Core.Path.{_≡_, refl, sym, ap, subst, _∙_}
+use lib.ListN.{length, length-set, getD, take, drop}
+use native.Mathlib.Omega.{arith}
+use borrow.Rule.Slice.PartMut.{same-len-mid, putMid}
+use borrow.Author.Needs.{needs}
+use Rattle.nodes.specs.Table.{bound-at}
+use Rattle.ranges.specs.Spans.{positions-of}
+use Rattle.instances.specs.Tree.{Tree, then-node, beside-node, tree-at}
+use Rattle.instances.specs.Run.{own-tick}
+use Rattle.instances.specs.Calls.{places, flagged, Fit, SlotFit, Advanced}
+use Rattle.instances.proofs.Slots.{slot-before}
+use Rattle.instances.proofs.Marks.{tail-take}
+use Rattle.instances.proofs.Heads.{leading-least}
+use Rattle.instances.proofs.Walks.{WalkedTo, walk-begun, walk-done, walk-more}
+use Rattle.instances.proofs.Parts.{tick-is, part-stays, part-moved}
+use Rattle.instances.proofs.Positions.{position-of}
+use Rattle.instances.proofs.Thens.{then-open, then-false, then-true}
+use Rattle.instances.proofs.Besides.{beside-of}
+use Rattle.instances.proofs.Foralls.{plan-here, range-of}
+use Rattle.instances.proofs.Formulas.{flag-of, not-of, is-none, is-not, is-then, is-beside, is-range, is-flag}
+use Rattle.instances.proofs.Fits.{tail-length, window-length, slot-length, fit-entered, fit-head, fit-few, fit-long, fit-walk, fit-store, fit-first, fit-second, fit-left, fit-right, fit-not, fit-flag, fit-come, word-in}
+use borrow.Fn.Kinds.{In}
+use borrow.Fn.PlainCycle.{Measures, is, falls, and}
+use Rattle.instances.proofs.advance.advance.Reads as advance
+use Rattle.instances.proofs.advance.advance.Kinds as advance-kinds
+use Rattle.instances.proofs.advance.+advance+advance_beside+advance_part+advance_position+advance_range+advance_then+walk_positions.Lts-advance as advance-lts
+use Rattle.instances.proofs.advance.advance_beside.Reads as advance-beside
+use Rattle.instances.proofs.advance.advance_beside.Kinds as advance-beside-kinds
+use Rattle.instances.proofs.advance.+advance+advance_beside+advance_part+advance_position+advance_range+advance_then+walk_positions.Lts-advance_beside as advance-beside-lts
+use Rattle.instances.proofs.advance.advance_part.Reads as advance-part
+use Rattle.instances.proofs.advance.advance_part.Kinds as advance-part-kinds
+use Rattle.instances.proofs.advance.+advance+advance_beside+advance_part+advance_position+advance_range+advance_then+walk_positions.Lts-advance_part as advance-part-lts
+use Rattle.instances.proofs.advance.advance_position.Reads as advance-position
+use Rattle.instances.proofs.advance.advance_position.Kinds as advance-position-kinds
+use Rattle.instances.proofs.advance.+advance+advance_beside+advance_part+advance_position+advance_range+advance_then+walk_positions.Lts-advance_position as advance-position-lts
+use Rattle.instances.proofs.advance.advance_range.Reads as advance-range
+use Rattle.instances.proofs.advance.advance_range.Kinds as advance-range-kinds
+use Rattle.instances.proofs.advance.+advance+advance_beside+advance_part+advance_position+advance_range+advance_then+walk_positions.Lts-advance_range as advance-range-lts
+use Rattle.instances.proofs.advance.advance_then.Reads as advance-then
+use Rattle.instances.proofs.advance.advance_then.Kinds as advance-then-kinds
+use Rattle.instances.proofs.advance.+advance+advance_beside+advance_part+advance_position+advance_range+advance_then+walk_positions.Lts-advance_then as advance-then-lts
+use Rattle.instances.proofs.advance.walk_positions.Reads as walk-positions
+use Rattle.instances.proofs.advance.walk_positions.Kinds as walk-positions-kinds
+use Rattle.instances.proofs.advance.+advance+advance_beside+advance_part+advance_position+advance_range+advance_then+walk_positions.Lts-walk_positions as walk-positions-lts
+use Rattle.instances.proofs.advance.wide.Reads as wide-reads
+use Rattle.instances.proofs.cells.load_outcome.Reads as load-outcome-reads
+use Rattle.instances.proofs.cells.store_outcome.Reads as store-outcome-reads
+use Rattle.instances.proofs.env.enter.Reads as enter-reads
+use Rattle.instances.proofs.env.flag_at.Reads as flag-at-reads
+use Rattle.instances.proofs.env.own_tick.Reads as own-tick-reads
+use Rattle.instances.proofs.head.load_head.Reads as load-head-reads
+use Rattle.instances.proofs.head.store_head.Reads as store-head-reads
+use Rattle.instances.proofs.ring.byte_of.Reads as byte-of-reads
+use Rattle.nodes.proofs.node_word.Reads as node-word-reads
+use Rattle.outcomes.proofs.both.Reads as both-reads
+use Rattle.outcomes.proofs.later.Reads as later-reads
+use Rattle.outcomes.proofs.opposite.Reads as opposite-reads
+use Rattle.ranges.proofs.plan_up_to.Reads as plan-up-to-reads
+use Rattle.ranges.proofs.range_at.Reads as range-at-reads
+use Rattle.instances.proofs.advance.+advance+advance_beside+advance_part+advance_position+advance_range+advance_then+walk_positions.{statement}
+use Rattle.instances.proofs.advance.+advance+advance_beside+advance_part+advance_position+advance_range+advance_then+walk_positions.Tie.{close}
+
+abbrev μ-advance : Measures 3 advance-kinds.ps ℕ
+μ-advance κs a = 8 * (a .1 .0)
+
+abbrev μ-advance-beside : Measures 3 advance-beside-kinds.ps ℕ
+μ-advance-beside κs a = 8 * (a .1 .0) + 3
+
+abbrev μ-advance-part : Measures 3 advance-part-kinds.ps ℕ
+μ-advance-part κs a = 8 * (a .1 .0) + 1
+
+abbrev μ-advance-position : Measures 3 advance-position-kinds.ps ℕ
+μ-advance-position κs a = 8 * (a .1 .0) + 2
+
+abbrev μ-advance-range : Measures 3 advance-range-kinds.ps ℕ
+μ-advance-range κs a = 8 * (a .1 .0) + 4
+
+abbrev μ-advance-then : Measures 3 advance-then-kinds.ps ℕ
+μ-advance-then κs a = 8 * (a .1 .0) + 3
+
+abbrev μ-walk-positions : Measures 3 walk-positions-kinds.ps ℕ
+μ-walk-positions κs a = 8 * (a .1 .0) + 3
+
+abbrev advance-at : ℕ → In 3 advance-kinds.ps
+advance-at t = and 3 advance-kinds.ps (is 3 advance-kinds.ps μ-advance t) advance.Pre
+
+abbrev advance-below : ℕ → In 3 advance-kinds.ps
+advance-below t = and 3 advance-kinds.ps (falls 3 advance-kinds.ps _<_ μ-advance t) advance.Pre
+
+abbrev advance-beside-at : ℕ → In 3 advance-beside-kinds.ps
+advance-beside-at t =
+    and
+    3
+    advance-beside-kinds.ps
+    (is 3 advance-beside-kinds.ps μ-advance-beside t)
+    advance-beside.Pre
+
+abbrev advance-beside-below : ℕ → In 3 advance-beside-kinds.ps
+advance-beside-below t =
+    and
+    3
+    advance-beside-kinds.ps
+    (falls 3 advance-beside-kinds.ps _<_ μ-advance-beside t)
+    advance-beside.Pre
+
+abbrev advance-part-at : ℕ → In 3 advance-part-kinds.ps
+advance-part-at t =
+    and 3 advance-part-kinds.ps (is 3 advance-part-kinds.ps μ-advance-part t) advance-part.Pre
+
+abbrev advance-part-below : ℕ → In 3 advance-part-kinds.ps
+advance-part-below t =
+    and
+    3
+    advance-part-kinds.ps
+    (falls 3 advance-part-kinds.ps _<_ μ-advance-part t)
+    advance-part.Pre
+
+abbrev advance-position-at : ℕ → In 3 advance-position-kinds.ps
+advance-position-at t =
+    and
+    3
+    advance-position-kinds.ps
+    (is 3 advance-position-kinds.ps μ-advance-position t)
+    advance-position.Pre
+
+abbrev advance-position-below : ℕ → In 3 advance-position-kinds.ps
+advance-position-below t =
+    and
+    3
+    advance-position-kinds.ps
+    (falls 3 advance-position-kinds.ps _<_ μ-advance-position t)
+    advance-position.Pre
+
+abbrev advance-range-at : ℕ → In 3 advance-range-kinds.ps
+advance-range-at t =
+    and 3 advance-range-kinds.ps (is 3 advance-range-kinds.ps μ-advance-range t) advance-range.Pre
+
+abbrev advance-range-below : ℕ → In 3 advance-range-kinds.ps
+advance-range-below t =
+    and
+    3
+    advance-range-kinds.ps
+    (falls 3 advance-range-kinds.ps _<_ μ-advance-range t)
+    advance-range.Pre
+
+abbrev advance-then-at : ℕ → In 3 advance-then-kinds.ps
+advance-then-at t =
+    and 3 advance-then-kinds.ps (is 3 advance-then-kinds.ps μ-advance-then t) advance-then.Pre
+
+abbrev advance-then-below : ℕ → In 3 advance-then-kinds.ps
+advance-then-below t =
+    and
+    3
+    advance-then-kinds.ps
+    (falls 3 advance-then-kinds.ps _<_ μ-advance-then t)
+    advance-then.Pre
+
+abbrev walk-positions-at : ℕ → In 3 walk-positions-kinds.ps
+walk-positions-at t =
+    and
+    3
+    walk-positions-kinds.ps
+    (is 3 walk-positions-kinds.ps μ-walk-positions t)
+    walk-positions.Pre
+
+abbrev walk-positions-below : ℕ → In 3 walk-positions-kinds.ps
+walk-positions-below t =
+    and
+    3
+    walk-positions-kinds.ps
+    (falls 3 walk-positions-kinds.ps _<_ μ-walk-positions t)
+    walk-positions.Pre
+
+abbrev advance-claims : ℕ → advance-lts.Claims
+advance-claims t = (flag-at-reads.Asked, flag-at-reads.Learnt, node-word-reads.Asked, node-word-reads.Learnt, advance-below t, advance.Post, opposite-reads.Asked, opposite-reads.Learnt, advance-then-below t, advance-then.Post, advance-beside-below t, advance-beside.Post, advance-range-below t, advance-range.Post)
+
+abbrev advance-beside-claims : ℕ → advance-beside-lts.Claims
+advance-beside-claims t = (advance-part-below t, advance-part.Post, both-reads.Asked, both-reads.Learnt)
+
+abbrev advance-part-claims : ℕ → advance-part-lts.Claims
+advance-part-claims t = (own-tick-reads.Asked, own-tick-reads.Learnt, load-outcome-reads.Asked, load-outcome-reads.Learnt, advance-below t, advance.Post, store-outcome-reads.Asked, store-outcome-reads.Learnt)
+
+abbrev advance-position-claims : ℕ → advance-position-lts.Claims
+advance-position-claims t = (later-reads.Asked, later-reads.Learnt, byte-of-reads.Asked, byte-of-reads.Learnt, wide-reads.Asked, wide-reads.Learnt, enter-reads.Asked, enter-reads.Learnt, advance-part-below t, advance-part.Post)
+
+abbrev advance-range-claims : ℕ → advance-range-lts.Claims
+advance-range-claims t = (node-word-reads.Asked, node-word-reads.Learnt, range-at-reads.Asked, range-at-reads.Learnt, plan-up-to-reads.Asked, plan-up-to-reads.Learnt, own-tick-reads.Asked, own-tick-reads.Learnt, load-head-reads.Asked, load-head-reads.Learnt, walk-positions-below t, walk-positions.Post, store-head-reads.Asked, store-head-reads.Learnt, both-reads.Asked, both-reads.Learnt)
+
+abbrev advance-then-claims : ℕ → advance-then-lts.Claims
+advance-then-claims t = (advance-part-below t, advance-part.Post, advance-below t, advance.Post)
+
+abbrev walk-positions-claims : ℕ → walk-positions-lts.Claims
+walk-positions-claims t = (advance-position-below t, advance-position.Post, both-reads.Asked, both-reads.Learnt)
+
+advance-flag-at-requires : (t : ℕ) → advance-lts.Need-flag-at-requires (advance-claims t) (advance-at t) advance.Post
+advance-flag-at-requires t c κs = omega arith
+
+advance-returns : (t : ℕ) → advance-lts.Need-returns (advance-claims t) (advance-at t) advance.Post
+advance-returns measure c =
+    let s₀ = c .before .before .before .before .before in
+    let nodes = s₀ .args .nodes .now in
+    let run = s₀ .args .run .now in
+    let hist = s₀ .args .hist .now in
+    let left = s₀ .args .left in
+    let i = s₀ .args .i in
+    let b = s₀ .args .b in
+    let env = s₀ .args .env in
+    let s = s₀ .args .s in
+    let t = s₀ .args .t in
+    let at-if1 = c .before .if1 in
+    let at-flag-at = c .flag-at in
+    let is = is-none nodes i left (at-if1 .taken) in
+    let fit = subst (λ (G : Tree). Fit G env t (length run)) is (s₀ .pre .1) in
+    subst (λ (G : Tree). Advanced G hist b env s t run (at-flag-at .result) run) (sym is) (flag-of 0 0 (at-flag-at .result) (fit-flag fit) (at-flag-at .ensures))
+
+advance-node-word-requires : (t : ℕ) → advance-lts.Need-node-word-requires (advance-claims t) (advance-at t) advance.Post
+advance-node-word-requires t c κs = search needs
+
+advance-sub-advance : (t : ℕ) → advance-lts.Need-sub-advance (advance-claims t) (advance-at t) advance.Post
+advance-sub-advance t c = search needs
+
+advance-add-advance : (t : ℕ) → advance-lts.Need-add-advance (advance-claims t) (advance-at t) advance.Post
+advance-add-advance measure c =
+    let s₀ = c .before .before .before .before .before .before in
+    let nodes = s₀ .args .nodes .now in
+    let i = s₀ .args .i in
+    let at-node-word = c .before .node-word in
+    let at-if2 = c .if2 in
+    omega (arith, word-in nodes i 1 (sym (at-node-word .ensures) ∙ at-if2 .taken), s₀ .good .0)
+
+advance-advance-requires : (t : ℕ) → advance-lts.Need-advance-requires (advance-claims t) (advance-at t) advance.Post
+advance-advance-requires measure c κs =
+    let s₀ = c .before .before .before .before .before .before .before in
+    let nodes = s₀ .args .nodes .now in
+    let run = s₀ .args .run .now in
+    let left = s₀ .args .left in
+    let i = s₀ .args .i in
+    let env = s₀ .args .env in
+    let t = s₀ .args .t in
+    let at-if1 = c .before .before .before .if1 in
+    let at-node-word = c .before .before .node-word in
+    let at-if2 = c .before .if2 in
+    let is = is-not nodes i left (at-if1 .left) (sym (at-node-word .ensures) ∙ at-if2 .taken) in
+    let fit = subst (λ (G : Tree). Fit G env t (length run)) is (s₀ .pre .1) in
+    (omega (arith, s₀ .pre .0, (at-if1 .left)), fit-not fit)
+
+advance-opposite-requires : (t : ℕ) → advance-lts.Need-opposite-requires (advance-claims t) (advance-at t) advance.Post
+advance-opposite-requires t c κs = search needs
+
+advance-same-length : (t : ℕ) → advance-lts.Need-same-length (advance-claims t) (advance-at t) advance.Post
+advance-same-length t c = search needs
+
+advance-returns-2 : (t : ℕ) → advance-lts.Need-returns-2 (advance-claims t) (advance-at t) advance.Post
+advance-returns-2 measure c =
+    let s₀ = c .before .before .before .before .before .before .before .before .before .before .before in
+    let nodes = s₀ .args .nodes .now in
+    let run = s₀ .args .run .now in
+    let hist = s₀ .args .hist .now in
+    let left = s₀ .args .left in
+    let i = s₀ .args .i in
+    let b = s₀ .args .b in
+    let env = s₀ .args .env in
+    let s = s₀ .args .s in
+    let t = s₀ .args .t in
+    let at-if1 = c .before .before .before .before .before .before .before .if1 in
+    let at-node-word = c .before .before .before .before .before .before .node-word in
+    let at-if2 = c .before .before .before .before .before .if2 in
+    let at-advance = c .before .before .before .advance in
+    let at-opposite = c .opposite in
+    let is = is-not nodes i left (at-if1 .left) (sym (at-node-word .ensures) ∙ at-if2 .taken) in
+    subst (λ (G : Tree). Advanced G hist b env s t run (at-opposite .result) (at-advance .last .1 .1 .1 .0)) (sym is)
+    (not-of (tree-at (left - 1) nodes (i + 12)) (at-advance .result) (at-opposite .result) (at-advance .last .1 .1 .1 .0) (at-advance .ensures) (at-opposite .ensures))
+
+advance-node-word-requires-2 : (t : ℕ) → advance-lts.Need-node-word-requires-2 (advance-claims t) (advance-at t) advance.Post
+advance-node-word-requires-2 t c κs = search needs
+
+advance-cast-g : (t : ℕ) → advance-lts.Need-cast-g (advance-claims t) (advance-at t) advance.Post
+advance-cast-g t c = search needs
+
+advance-sub-advance-then : (t : ℕ) → advance-lts.Need-sub-advance-then (advance-claims t) (advance-at t) advance.Post
+advance-sub-advance-then t c = search needs
+
+advance-add-advance-then : (t : ℕ) → advance-lts.Need-add-advance-then (advance-claims t) (advance-at t) advance.Post
+advance-add-advance-then measure c =
+    let s₀ = c .before .before .before .before .before .before .before .before in
+    let nodes = s₀ .args .nodes .now in
+    let i = s₀ .args .i in
+    let at-node-word = c .before .before .before .node-word in
+    let at-if3 = c .before .if3 in
+    omega (arith, word-in nodes i 2 (sym (at-node-word .ensures) ∙ at-if3 .taken), s₀ .good .0)
+
+advance-advance-then-requires : (t : ℕ) → advance-lts.Need-advance-then-requires (advance-claims t) (advance-at t) advance.Post
+advance-advance-then-requires measure c κs =
+    let s₀ = c .before .before .before .before .before .before .before .before .before in
+    let nodes = s₀ .args .nodes .now in
+    let run = s₀ .args .run .now in
+    let left = s₀ .args .left in
+    let i = s₀ .args .i in
+    let env = s₀ .args .env in
+    let t = s₀ .args .t in
+    let at-if1 = c .before .before .before .before .before .if1 in
+    let at-node-word = c .before .before .before .before .node-word in
+    let at-if2 = c .before .before .before .if2 in
+    let at-if3 = c .before .before .if3 in
+    let at-node-word2 = c .before .node-word2 in
+    let is = is-then nodes i left (at-if1 .left) (λ x. at-if2 .left (at-node-word .ensures ∙ x)) (sym (at-node-word .ensures) ∙ at-if3 .taken) in
+    let fit = subst (λ (G : Tree). Fit G env t (length run)) is (s₀ .pre .1) in
+    (omega (arith, s₀ .pre .0, (at-if1 .left)), subst (λ (n : ℕ). Fit (then-node (tree-at (left - 1) nodes (i + 12)) (tree-at (left - 1) nodes n)) env t (length run)) (sym (at-node-word2 .ensures)) fit)
+
+advance-same-length-2 : (t : ℕ) → advance-lts.Need-same-length-2 (advance-claims t) (advance-at t) advance.Post
+advance-same-length-2 t c = search needs
+
+advance-returns-3 : (t : ℕ) → advance-lts.Need-returns-3 (advance-claims t) (advance-at t) advance.Post
+advance-returns-3 measure c =
+    let s₀ = c .before .before .before .before .before .before .before .before .before .before .before .before in
+    let nodes = s₀ .args .nodes .now in
+    let run = s₀ .args .run .now in
+    let hist = s₀ .args .hist .now in
+    let left = s₀ .args .left in
+    let i = s₀ .args .i in
+    let b = s₀ .args .b in
+    let env = s₀ .args .env in
+    let s = s₀ .args .s in
+    let t = s₀ .args .t in
+    let at-if1 = c .before .before .before .before .before .before .before .before .if1 in
+    let at-node-word = c .before .before .before .before .before .before .before .node-word in
+    let at-if2 = c .before .before .before .before .before .before .if2 in
+    let at-if3 = c .before .before .before .before .before .if3 in
+    let at-node-word2 = c .before .before .before .before .node-word2 in
+    let at-advance-then = c .before .before .advance-then in
+    let is = is-then nodes i left (at-if1 .left) (λ x. at-if2 .left (at-node-word .ensures ∙ x)) (sym (at-node-word .ensures) ∙ at-if3 .taken) in
+    subst (λ (G : Tree). Advanced G hist b env s t run (at-advance-then .result) (at-advance-then .last .1 .1 .1 .1 .0)) (sym is)
+    (subst (λ (n : ℕ). Advanced (then-node (tree-at (left - 1) nodes (i + 12)) (tree-at (left - 1) nodes n)) hist b env s t run (at-advance-then .result) (at-advance-then .last .1 .1 .1 .1 .0)) (at-node-word2 .ensures) (at-advance-then .ensures))
+
+advance-node-word-requires-3 : (t : ℕ) → advance-lts.Need-node-word-requires-3 (advance-claims t) (advance-at t) advance.Post
+advance-node-word-requires-3 t c κs = search needs
+
+advance-cast-g-2 : (t : ℕ) → advance-lts.Need-cast-g-2 (advance-claims t) (advance-at t) advance.Post
+advance-cast-g-2 t c = search needs
+
+advance-node-word-requires-4 : (t : ℕ) → advance-lts.Need-node-word-requires-4 (advance-claims t) (advance-at t) advance.Post
+advance-node-word-requires-4 t c κs = search needs
+
+advance-cast-w : (t : ℕ) → advance-lts.Need-cast-w (advance-claims t) (advance-at t) advance.Post
+advance-cast-w t c = search needs
+
+advance-sub-advance-beside : (t : ℕ) → advance-lts.Need-sub-advance-beside (advance-claims t) (advance-at t) advance.Post
+advance-sub-advance-beside t c = search needs
+
+advance-add-advance-beside : (t : ℕ) → advance-lts.Need-add-advance-beside (advance-claims t) (advance-at t) advance.Post
+advance-add-advance-beside measure c =
+    let s₀ = c .before .before .before .before .before .before .before .before .before .before in
+    let nodes = s₀ .args .nodes .now in
+    let i = s₀ .args .i in
+    let at-node-word = c .before .before .before .before .before .node-word in
+    let at-if4 = c .before .before .if4 in
+    omega (arith, word-in nodes i 3 (sym (at-node-word .ensures) ∙ at-if4 .taken), s₀ .good .0)
+
+advance-advance-beside-requires : (t : ℕ) → advance-lts.Need-advance-beside-requires (advance-claims t) (advance-at t) advance.Post
+advance-advance-beside-requires measure c κs =
+    let s₀ = c .before .before .before .before .before .before .before .before .before .before .before in
+    let nodes = s₀ .args .nodes .now in
+    let run = s₀ .args .run .now in
+    let left = s₀ .args .left in
+    let i = s₀ .args .i in
+    let env = s₀ .args .env in
+    let t = s₀ .args .t in
+    let at-if1 = c .before .before .before .before .before .before .before .if1 in
+    let at-node-word = c .before .before .before .before .before .before .node-word in
+    let at-if2 = c .before .before .before .before .before .if2 in
+    let at-if3 = c .before .before .before .before .if3 in
+    let at-if4 = c .before .before .before .if4 in
+    let at-node-word3 = c .before .before .node-word3 in
+    let at-node-word4 = c .before .node-word4 in
+    let is = is-beside nodes i left (at-if1 .left) (λ x. at-if2 .left (at-node-word .ensures ∙ x)) (λ x. at-if3 .left (at-node-word .ensures ∙ x)) (sym (at-node-word .ensures) ∙ at-if4 .taken) in
+    let fit = subst (λ (G : Tree). Fit G env t (length run)) is (s₀ .pre .1) in (
+      omega (arith, s₀ .pre .0, (at-if1 .left)),
+      subst (λ (n : ℕ). Fit (beside-node n (tree-at (left - 1) nodes (i + 12)) (tree-at (left - 1) nodes (at-node-word3 .result))) env t (length run)) (sym (at-node-word4 .ensures))
+          (subst (λ (m : ℕ). Fit (beside-node (getD nodes (i + 10) 0) (tree-at (left - 1) nodes (i + 12)) (tree-at (left - 1) nodes m)) env t (length run)) (sym (at-node-word3 .ensures)) fit),
+    )
+
+advance-same-length-3 : (t : ℕ) → advance-lts.Need-same-length-3 (advance-claims t) (advance-at t) advance.Post
+advance-same-length-3 t c = search needs
+
+advance-returns-4 : (t : ℕ) → advance-lts.Need-returns-4 (advance-claims t) (advance-at t) advance.Post
+advance-returns-4 measure c =
+    let s₀ = c .before .before .before .before .before .before .before .before .before .before .before .before .before .before in
+    let nodes = s₀ .args .nodes .now in
+    let run = s₀ .args .run .now in
+    let hist = s₀ .args .hist .now in
+    let left = s₀ .args .left in
+    let i = s₀ .args .i in
+    let b = s₀ .args .b in
+    let env = s₀ .args .env in
+    let s = s₀ .args .s in
+    let t = s₀ .args .t in
+    let at-if1 = c .before .before .before .before .before .before .before .before .before .before .if1 in
+    let at-node-word = c .before .before .before .before .before .before .before .before .before .node-word in
+    let at-if2 = c .before .before .before .before .before .before .before .before .if2 in
+    let at-if3 = c .before .before .before .before .before .before .before .if3 in
+    let at-if4 = c .before .before .before .before .before .before .if4 in
+    let at-node-word3 = c .before .before .before .before .before .node-word3 in
+    let at-node-word4 = c .before .before .before .before .node-word4 in
+    let at-advance-beside = c .before .before .advance-beside in
+    let is = is-beside nodes i left (at-if1 .left) (λ x. at-if2 .left (at-node-word .ensures ∙ x)) (λ x. at-if3 .left (at-node-word .ensures ∙ x)) (sym (at-node-word .ensures) ∙ at-if4 .taken) in
+    subst (λ (G : Tree). Advanced G hist b env s t run (at-advance-beside .result) (at-advance-beside .last .1 .1 .1 .1 .1 .0)) (sym is)
+    (subst (λ (m : ℕ). Advanced (beside-node (getD nodes (i + 10) 0) (tree-at (left - 1) nodes (i + 12)) (tree-at (left - 1) nodes m)) hist b env s t run (at-advance-beside .result) (at-advance-beside .last .1 .1 .1 .1 .1 .0)) (at-node-word3 .ensures)
+    (subst (λ (n : ℕ). Advanced (beside-node n (tree-at (left - 1) nodes (i + 12)) (tree-at (left - 1) nodes (at-node-word3 .result))) hist b env s t run (at-advance-beside .result) (at-advance-beside .last .1 .1 .1 .1 .1 .0)) (at-node-word4 .ensures) (at-advance-beside .ensures)))
+
+advance-sub-advance-range : (t : ℕ) → advance-lts.Need-sub-advance-range (advance-claims t) (advance-at t) advance.Post
+advance-sub-advance-range t c = search needs
+
+advance-advance-range-requires : (t : ℕ) → advance-lts.Need-advance-range-requires (advance-claims t) (advance-at t) advance.Post
+advance-advance-range-requires measure c κs =
+    let s₀ = c .before .before .before .before .before .before .before .before .before .before in
+    let nodes = s₀ .args .nodes .now in
+    let run = s₀ .args .run .now in
+    let left = s₀ .args .left in
+    let i = s₀ .args .i in
+    let env = s₀ .args .env in
+    let t = s₀ .args .t in
+    let at-if1 = c .before .before .before .before .before .before .if1 in
+    let at-node-word = c .before .before .before .before .before .node-word in
+    let at-if2 = c .before .before .before .before .if2 in
+    let at-if3 = c .before .before .before .if3 in
+    let at-if4 = c .before .before .if4 in
+    let at-if5 = c .before .if5 in
+    let is = is-range nodes i left (at-if1 .left) (λ x. at-if2 .left (at-node-word .ensures ∙ x)) (λ x. at-if3 .left (at-node-word .ensures ∙ x)) (λ x. at-if4 .left (at-node-word .ensures ∙ x)) (sym (at-node-word .ensures) ∙ at-if5 .taken) in
+    let fit = subst (λ (G : Tree). Fit G env t (length run)) is (s₀ .pre .1) in
+    (omega (arith, s₀ .pre .0, (at-if1 .left)), (word-in nodes i 4 (sym (at-node-word .ensures) ∙ at-if5 .taken), fit))
+
+advance-same-length-4 : (t : ℕ) → advance-lts.Need-same-length-4 (advance-claims t) (advance-at t) advance.Post
+advance-same-length-4 t c = search needs
+
+advance-returns-5 : (t : ℕ) → advance-lts.Need-returns-5 (advance-claims t) (advance-at t) advance.Post
+advance-returns-5 measure c =
+    let s₀ = c .before .before .before .before .before .before .before .before .before .before .before .before .before in
+    let nodes = s₀ .args .nodes .now in
+    let run = s₀ .args .run .now in
+    let hist = s₀ .args .hist .now in
+    let left = s₀ .args .left in
+    let i = s₀ .args .i in
+    let b = s₀ .args .b in
+    let env = s₀ .args .env in
+    let s = s₀ .args .s in
+    let t = s₀ .args .t in
+    let at-if1 = c .before .before .before .before .before .before .before .before .before .if1 in
+    let at-node-word = c .before .before .before .before .before .before .before .before .node-word in
+    let at-if2 = c .before .before .before .before .before .before .before .if2 in
+    let at-if3 = c .before .before .before .before .before .before .if3 in
+    let at-if4 = c .before .before .before .before .before .if4 in
+    let at-if5 = c .before .before .before .before .if5 in
+    let at-advance-range = c .before .before .advance-range in
+    let is = is-range nodes i left (at-if1 .left) (λ x. at-if2 .left (at-node-word .ensures ∙ x)) (λ x. at-if3 .left (at-node-word .ensures ∙ x)) (λ x. at-if4 .left (at-node-word .ensures ∙ x)) (sym (at-node-word .ensures) ∙ at-if5 .taken) in
+    subst (λ (G : Tree). Advanced G hist b env s t run (at-advance-range .result) (at-advance-range .last .1 .1 .1 .0)) (sym is)
+    (at-advance-range .ensures)
+
+advance-node-word-requires-5 : (t : ℕ) → advance-lts.Need-node-word-requires-5 (advance-claims t) (advance-at t) advance.Post
+advance-node-word-requires-5 t c κs = search needs
+
+advance-cast-v : (t : ℕ) → advance-lts.Need-cast-v (advance-claims t) (advance-at t) advance.Post
+advance-cast-v t c = search needs
+
+advance-node-word-requires-6 : (t : ℕ) → advance-lts.Need-node-word-requires-6 (advance-claims t) (advance-at t) advance.Post
+advance-node-word-requires-6 t c κs = search needs
+
+advance-flag-at-requires-2 : (t : ℕ) → advance-lts.Need-flag-at-requires-2 (advance-claims t) (advance-at t) advance.Post
+advance-flag-at-requires-2 measure c κs =
+    let s₀ = c .before .before .before .before .before .before .before .before .before .before .before in
+    let nodes = s₀ .args .nodes .now in
+    let run = s₀ .args .run .now in
+    let left = s₀ .args .left in
+    let i = s₀ .args .i in
+    let env = s₀ .args .env in
+    let t = s₀ .args .t in
+    let at-if1 = c .before .before .before .before .before .before .before .if1 in
+    let at-node-word = c .before .before .before .before .before .before .node-word in
+    let at-if2 = c .before .before .before .before .before .if2 in
+    let at-if3 = c .before .before .before .before .if3 in
+    let at-if4 = c .before .before .before .if4 in
+    let at-if5 = c .before .before .if5 in
+    let at-node-word5 = c .before .node-word5 in
+    let is = is-flag nodes i left (at-if1 .left) (λ x. at-if2 .left (at-node-word .ensures ∙ x)) (λ x. at-if3 .left (at-node-word .ensures ∙ x)) (λ x. at-if4 .left (at-node-word .ensures ∙ x)) (λ x. at-if5 .left (at-node-word .ensures ∙ x)) in
+    let fit = subst (λ (G : Tree). Fit G env t (length run)) is (s₀ .pre .1) in
+    omega (arith, fit-flag fit, s₀ .pre .1 .depth, at-node-word5 .ensures)
+
+advance-returns-6 : (t : ℕ) → advance-lts.Need-returns-6 (advance-claims t) (advance-at t) advance.Post
+advance-returns-6 measure c =
+    let s₀ = c .before .before .before .before .before .before .before .before .before .before .before .before in
+    let nodes = s₀ .args .nodes .now in
+    let run = s₀ .args .run .now in
+    let hist = s₀ .args .hist .now in
+    let left = s₀ .args .left in
+    let i = s₀ .args .i in
+    let b = s₀ .args .b in
+    let env = s₀ .args .env in
+    let s = s₀ .args .s in
+    let t = s₀ .args .t in
+    let at-if1 = c .before .before .before .before .before .before .before .before .if1 in
+    let at-node-word = c .before .before .before .before .before .before .before .node-word in
+    let at-if2 = c .before .before .before .before .before .before .if2 in
+    let at-if3 = c .before .before .before .before .before .if3 in
+    let at-if4 = c .before .before .before .before .if4 in
+    let at-if5 = c .before .before .before .if5 in
+    let at-node-word5 = c .before .before .node-word5 in
+    let at-node-word6 = c .before .node-word6 in
+    let at-flag-at2 = c .flag-at2 in
+    let is = is-flag nodes i left (at-if1 .left) (λ x. at-if2 .left (at-node-word .ensures ∙ x)) (λ x. at-if3 .left (at-node-word .ensures ∙ x)) (λ x. at-if4 .left (at-node-word .ensures ∙ x)) (λ x. at-if5 .left (at-node-word .ensures ∙ x)) in
+    let fit = subst (λ (G : Tree). Fit G env t (length run)) is (s₀ .pre .1) in
+    subst (λ (G : Tree). Advanced G hist b env s t run (at-flag-at2 .result) run) (sym is)
+    (flag-of (getD nodes (i + 1) 0) (getD nodes (i + 2) 0) (at-flag-at2 .result) (fit-flag fit)
+    (at-flag-at2 .ensures ∙ ap (λ (n : ℕ). flagged env n (at-node-word6 .result) s) (at-node-word5 .ensures) ∙ ap (λ (n : ℕ). flagged env (getD nodes (i + 1) 0) n s) (at-node-word6 .ensures)))
+
+advance-beside-add-m : (t : ℕ) → advance-beside-lts.Need-add-m (advance-beside-claims t) (advance-beside-at t) advance-beside.Post
+advance-beside-add-m measure c =
+    let s₀ = c .before .before .before in
+    omega (arith, fit-left (s₀ .pre .1) .end, s₀ .good .1 .1 .1 .1 .1 .0)
+
+advance-beside-advance-part-requires : (t : ℕ) → advance-beside-lts.Need-advance-part-requires (advance-beside-claims t) (advance-beside-at t) advance-beside.Post
+advance-beside-advance-part-requires measure c κs =
+    let s₀ = c .before .before .before .before in
+    (omega (arith, s₀ .pre .0), fit-left (s₀ .pre .1))
+
+advance-beside-advance-part-requires-2 : (t : ℕ) → advance-beside-lts.Need-advance-part-requires-2 (advance-beside-claims t) (advance-beside-at t) advance-beside.Post
+advance-beside-advance-part-requires-2 measure c κs =
+    let s₀ = c .before .before .before .before .before .before .before .before in
+    let at-advance-part = c .before .before .before .advance-part in
+    (omega (arith, s₀ .pre .0), fit-right (length (at-advance-part .last .1 .1 .1 .0)) (at-advance-part .kept .1 .1 .1 .0) (s₀ .pre .1))
+
+advance-beside-both-requires : (t : ℕ) → advance-beside-lts.Need-both-requires (advance-beside-claims t) (advance-beside-at t) advance-beside.Post
+advance-beside-both-requires t c κs = search needs
+
+advance-beside-same-length : (t : ℕ) → advance-beside-lts.Need-same-length (advance-beside-claims t) (advance-beside-at t) advance-beside.Post
+advance-beside-same-length t c = search needs
+
+advance-beside-returns : (t : ℕ) → advance-beside-lts.Need-returns (advance-beside-claims t) (advance-beside-at t) advance-beside.Post
+advance-beside-returns measure c =
+    let s₀ = c .before .before .before .before .before .before .before .before .before .before .before .before in
+    let at-advance-part = c .before .before .before .before .before .before .before .advance-part in
+    let at-advance-part2 = c .before .before .before .advance-part2 in
+    let at-both = c .both in
+    beside-of (at-advance-part .last .1 .1 .1 .0) (at-advance-part2 .last .1 .1 .1 .0) (at-advance-part .result) (at-advance-part2 .result) (at-both .result) (fit-left (s₀ .pre .1) .end) (at-advance-part .ensures) (at-advance-part2 .ensures) (at-both .ensures)
+
+advance-part-own-tick-requires : (t : ℕ) → advance-part-lts.Need-own-tick-requires (advance-part-claims t) (advance-part-at t) advance-part.Post
+advance-part-own-tick-requires t c κs = search needs
+
+advance-part-load-outcome-requires : (t : ℕ) → advance-part-lts.Need-load-outcome-requires (advance-part-claims t) (advance-part-at t) advance-part.Post
+advance-part-load-outcome-requires measure c κs =
+    let s₀ = c .before .before .before .before .before .before in
+    let env = s₀ .args .env in
+    let at-own-tick = c .before .before .own-tick in
+    let h : at-own-tick .result ≡ own-tick (places env) = at-own-tick .ensures ∙ tick-is env (s₀ .pre .1 .fit .some) in
+    (omega (arith, s₀ .pre .1 .after-cell, s₀ .pre .1 .start, s₀ .pre .1 .end), s₀ .pre .1 .cell, omega (arith, s₀ .pre .1 .fit .low, fit-come (s₀ .pre .1 .fit)))
+
+advance-part-enum-told : (t : ℕ) → advance-part-lts.Need-enum-told (advance-part-claims t) (advance-part-at t) advance-part.Post
+advance-part-enum-told t c = search needs
+
+advance-part-same-length : (t : ℕ) → advance-part-lts.Need-same-length (advance-part-claims t) (advance-part-at t) advance-part.Post
+advance-part-same-length t c = search needs
+
+advance-part-returns : (t : ℕ) → advance-part-lts.Need-returns (advance-part-claims t) (advance-part-at t) advance-part.Post
+advance-part-returns measure c =
+    let s₀ = c .before .before .before .before .before .before .before .before .before in
+    let nodes = s₀ .args .nodes .now in
+    let run = s₀ .args .run .now in
+    let hist = s₀ .args .hist .now in
+    let left = s₀ .args .left in
+    let i = s₀ .args .i in
+    let b = s₀ .args .b in
+    let env = s₀ .args .env in
+    let s = s₀ .args .s in
+    let t = s₀ .args .t in
+    let k = s₀ .args .k in
+    let a = s₀ .args .a in
+    let z = s₀ .args .z in
+    let at-own-tick = c .before .before .before .before .before .own-tick in
+    let at-if1 = c .before .before .before .before .if1 in
+    let at-load-outcome = c .before .before .load-outcome in
+    let at-enum-told = c .enum-told in
+    part-stays (tree-at left nodes i) hist b env s t k a z run (at-own-tick .result) (at-load-outcome .result) _ _ (at-own-tick .ensures ∙ tick-is env (s₀ .pre .1 .fit .some)) (at-if1 .taken) (at-load-outcome .ensures) (at-enum-told .given .1)
+
+advance-part-enum-told-2 : (t : ℕ) → advance-part-lts.Need-enum-told-2 (advance-part-claims t) (advance-part-at t) advance-part.Post
+advance-part-enum-told-2 t c = search needs
+
+advance-part-mul-advance : (t : ℕ) → advance-part-lts.Need-mul-advance (advance-part-claims t) (advance-part-at t) advance-part.Post
+advance-part-mul-advance t c = search needs
+
+advance-part-sub-advance : (t : ℕ) → advance-part-lts.Need-sub-advance (advance-part-claims t) (advance-part-at t) advance-part.Post
+advance-part-sub-advance t c = search needs
+
+advance-part-part-advance-start : (t : ℕ) → advance-part-lts.Need-part-advance-start (advance-part-claims t) (advance-part-at t) advance-part.Post
+advance-part-part-advance-start t c = search needs
+
+advance-part-part-advance-end : (t : ℕ) → advance-part-lts.Need-part-advance-end (advance-part-claims t) (advance-part-at t) advance-part.Post
+advance-part-part-advance-end t c = search needs
+
+advance-part-advance-requires : (t : ℕ) → advance-part-lts.Need-advance-requires (advance-part-claims t) (advance-part-at t) advance-part.Post
+advance-part-advance-requires measure c κs =
+    let s₀ = c .before .before .before .before .before .before in
+    let nodes = s₀ .args .nodes .now in
+    let run = s₀ .args .run .now in
+    let left = s₀ .args .left in
+    let i = s₀ .args .i in
+    let env = s₀ .args .env in
+    let t = s₀ .args .t in
+    let a = s₀ .args .a in
+    let z = s₀ .args .z in
+    (omega (arith, s₀ .pre .0), subst (Fit (tree-at left nodes i) env t) (sym (window-length a z run (s₀ .pre .1 .end))) (s₀ .pre .1 .fit))
+
+advance-part-store-outcome-requires : (t : ℕ) → advance-part-lts.Need-store-outcome-requires (advance-part-claims t) (advance-part-at t) advance-part.Post
+advance-part-store-outcome-requires t c κs = search needs
+
+advance-part-same-length-2 : (t : ℕ) → advance-part-lts.Need-same-length-2 (advance-part-claims t) (advance-part-at t) advance-part.Post
+advance-part-same-length-2 t c = search needs
+
+advance-part-returns-2 : (t : ℕ) → advance-part-lts.Need-returns-2 (advance-part-claims t) (advance-part-at t) advance-part.Post
+advance-part-returns-2 measure c =
+    let s₀ = c .before .before .before .before .before .before .before .before .before .before .before .before .before in
+    let nodes = s₀ .args .nodes .now in
+    let run = s₀ .args .run .now in
+    let hist = s₀ .args .hist .now in
+    let left = s₀ .args .left in
+    let i = s₀ .args .i in
+    let b = s₀ .args .b in
+    let env = s₀ .args .env in
+    let s = s₀ .args .s in
+    let t = s₀ .args .t in
+    let k = s₀ .args .k in
+    let a = s₀ .args .a in
+    let z = s₀ .args .z in
+    let at-own-tick = c .before .before .before .before .before .before .before .before .before .own-tick in
+    let at-if1 = c .before .before .before .before .before .before .before .before .if1 in
+    let at-advance = c .before .before .before .before .before .before .advance in
+    let at-store-outcome = c .before .before .store-outcome in
+    part-moved (tree-at left nodes i) hist b env s t k a z run (at-own-tick .result) (at-own-tick .ensures ∙ tick-is env (s₀ .pre .1 .fit .some)) (s₀ .pre .1) (fit-come (s₀ .pre .1 .fit))
+    (⊎-elim (λ x. inr (sym (x .4 .given .1) ∙ x .2 .ensures)) (λ x. inl (x .left)) (at-if1 .came))
+    (at-advance .result) (at-advance .last .1 .1 .1 .0) (at-store-outcome .last .0) (at-advance .ensures) (at-advance .kept .1 .1 .1 .0) (at-store-outcome .ensures)
+
+advance-position-later-requires : (t : ℕ) → advance-position-lts.Need-later-requires (advance-position-claims t) (advance-position-at t) advance-position.Post
+advance-position-later-requires t c κs = search needs
+
+advance-position-byte-of-requires : (t : ℕ) → advance-position-lts.Need-byte-of-requires (advance-position-claims t) (advance-position-at t) advance-position.Post
+advance-position-byte-of-requires t c κs = search needs
+
+advance-position-wide-requires : (t : ℕ) → advance-position-lts.Need-wide-requires (advance-position-claims t) (advance-position-at t) advance-position.Post
+advance-position-wide-requires t c κs = search needs
+
+advance-position-slice-write-slot : (t : ℕ) → advance-position-lts.Need-slice-write-slot (advance-position-claims t) (advance-position-at t) advance-position.Post
+advance-position-slice-write-slot t c = search needs
+
+advance-position-slice-read-c : (t : ℕ) → advance-position-lts.Need-slice-read-c (advance-position-claims t) (advance-position-at t) advance-position.Post
+advance-position-slice-read-c measure c =
+    let s₀ = c .before .before .before .before .before .before in
+    let slot = s₀ .args .slot .now in
+    let at-if1 = c .before .if1 in
+    let l : length (at-if1 .slot) ≡ length slot = ⊎-elim (λ x. ap length (x .3) ∙ length-set slot 1 (x .2 .result)) (λ x. ap length (x .1)) (at-if1 .came) in omega (arith, s₀ .pre .1 .room)
+
+advance-position-cast-c : (t : ℕ) → advance-position-lts.Need-cast-c (advance-position-claims t) (advance-position-at t) advance-position.Post
+advance-position-cast-c t c = search needs
+
+advance-position-enter-requires : (t : ℕ) → advance-position-lts.Need-enter-requires (advance-position-claims t) (advance-position-at t) advance-position.Post
+advance-position-enter-requires t c κs = search needs
+
+advance-position-advance-part-requires : (t : ℕ) → advance-position-lts.Need-advance-part-requires (advance-position-claims t) (advance-position-at t) advance-position.Post
+advance-position-advance-part-requires measure c κs =
+    let s₀ = c .before .before .before .before .before .before .before .before in
+    let nodes = s₀ .args .nodes .now in
+    let slot = s₀ .args .slot .now in
+    let left = s₀ .args .left in
+    let i = s₀ .args .i in
+    let env = s₀ .args .env in
+    let t = s₀ .args .t in
+    let q = s₀ .args .q in
+    let at-if1 = c .before .before .before .if1 in
+    let at-enter = c .before .enter in (
+      omega (arith, s₀ .pre .0),
+      fit-entered (tree-at left nodes i) env (at-enter .result) t q (getD (at-if1 .slot) 1 0 % 256) (length slot) (length (at-if1 .slot)) (s₀ .pre .1) (at-enter .ensures)
+          (⊎-elim (λ x. ap length (x .3) ∙ length-set slot 1 (x .2 .result)) (λ x. ap length (x .1)) (at-if1 .came)),
+    )
+
+advance-position-same-length : (t : ℕ) → advance-position-lts.Need-same-length (advance-position-claims t) (advance-position-at t) advance-position.Post
+advance-position-same-length measure c =
+    let s₀ = c .before .before .before .before .before .before .before .before .before .before .before in
+    let slot = s₀ .args .slot .now in
+    let at-if1 = c .before .before .before .before .before .before .if1 in
+    let at-advance-part = c .before .before .advance-part in
+    at-advance-part .kept .1 .1 .1 .0 ∙ (⊎-elim (λ x. ap length (x .3) ∙ length-set slot 1 (x .2 .result)) (λ x. ap length (x .1)) (at-if1 .came))
+
+advance-position-returns : (t : ℕ) → advance-position-lts.Need-returns (advance-position-claims t) (advance-position-at t) advance-position.Post
+advance-position-returns measure c =
+    let s₀ = c .before .before .before .before .before .before .before .before .before .before .before in
+    let nodes = s₀ .args .nodes .now in
+    let slot = s₀ .args .slot .now in
+    let hist = s₀ .args .hist .now in
+    let left = s₀ .args .left in
+    let i = s₀ .args .i in
+    let b = s₀ .args .b in
+    let env = s₀ .args .env in
+    let s = s₀ .args .s in
+    let t = s₀ .args .t in
+    let q = s₀ .args .q in
+    let at-later = c .before .before .before .before .before .before .before .later in
+    let at-if1 = c .before .before .before .before .before .before .if1 in
+    let at-enter = c .before .before .before .before .enter in
+    let at-advance-part = c .before .before .advance-part in
+    let l : length (at-if1 .slot) ≡ length slot = ⊎-elim (λ x. ap length (x .3) ∙ length-set slot 1 (x .2 .result)) (λ x. ap length (x .1)) (at-if1 .came) in
+    position-of (tree-at left nodes i) hist b env s t q (s₀ .pre .1 .depth) (s₀ .pre .1 .five-places) (s₀ .pre .1 .five-bytes) (s₀ .pre .1 .come) (at-later .result) (at-enter .result) (at-advance-part .result) slot (at-if1 .slot) (at-advance-part .last .1 .1 .1 .0) (at-later .ensures)
+    (omega (arith, s₀ .pre .1 .room)) (omega (arith, s₀ .pre .1 .room))
+    (⊎-elim (λ x. inl (x .2 .result, x .0 .taken, x .3, x .2 .ensures .0 ∙ x .1 .ensures, x .2 .ensures .1)) (λ x. inr (x .0 .left, x .1)) (at-if1 .came)) (at-enter .ensures) (at-advance-part .ensures)
+
+advance-range-node-word-requires : (t : ℕ) → advance-range-lts.Need-node-word-requires (advance-range-claims t) (advance-range-at t) advance-range.Post
+advance-range-node-word-requires t c κs = search needs
+
+advance-range-cast-z : (t : ℕ) → advance-range-lts.Need-cast-z (advance-range-claims t) (advance-range-at t) advance-range.Post
+advance-range-cast-z t c = search needs
+
+advance-range-range-at-requires : (t : ℕ) → advance-range-lts.Need-range-at-requires (advance-range-claims t) (advance-range-at t) advance-range.Post
+advance-range-range-at-requires t c κs = search needs
+
+advance-range-plan-up-to-requires : (t : ℕ) → advance-range-lts.Need-plan-up-to-requires (advance-range-claims t) (advance-range-at t) advance-range.Post
+advance-range-plan-up-to-requires t c κs = search needs
+
+advance-range-own-tick-requires : (t : ℕ) → advance-range-lts.Need-own-tick-requires (advance-range-claims t) (advance-range-at t) advance-range.Post
+advance-range-own-tick-requires t c κs = search needs
+
+advance-range-load-head-requires : (t : ℕ) → advance-range-lts.Need-load-head-requires (advance-range-claims t) (advance-range-at t) advance-range.Post
+advance-range-load-head-requires measure c κs =
+    let s₀ = c .before .before .before .before .before .before .before .before .before in
+    let env = s₀ .args .env in
+    let at-own-tick = c .before .own-tick in
+    let h : at-own-tick .result ≡ own-tick (places env) = at-own-tick .ensures ∙ tick-is env (s₀ .pre .1 .1 .some) in
+    (fit-head (s₀ .pre .1 .1), omega (arith, s₀ .pre .1 .1 .low, fit-come (s₀ .pre .1 .1)))
+
+advance-range-add-walk-positions : (t : ℕ) → advance-range-lts.Need-add-walk-positions (advance-range-claims t) (advance-range-at t) advance-range.Post
+advance-range-add-walk-positions measure c =
+    let s₀ = c .before .before .before .before .before .before .before .before .before .before in
+    omega (arith, s₀ .pre .1 .0, s₀ .good .0)
+
+advance-range-sub-walk-positions : (t : ℕ) → advance-range-lts.Need-sub-walk-positions (advance-range-claims t) (advance-range-at t) advance-range.Post
+advance-range-sub-walk-positions measure c =
+    let s₀ = c .before .before .before .before .before .before .before .before .before .before in
+    omega (arith, fit-head (s₀ .pre .1 .1))
+
+advance-range-part-walk-positions-start :
+    (t : ℕ) → advance-range-lts.Need-part-walk-positions-start (advance-range-claims t) (advance-range-at t) advance-range.Post
+advance-range-part-walk-positions-start measure c =
+    let s₀ = c .before .before .before .before .before .before .before .before .before .before in
+    omega (arith, fit-head (s₀ .pre .1 .1))
+
+advance-range-part-walk-positions-end : (t : ℕ) → advance-range-lts.Need-part-walk-positions-end (advance-range-claims t) (advance-range-at t) advance-range.Post
+advance-range-part-walk-positions-end t c = search needs
+
+advance-range-walk-positions-requires : (t : ℕ) → advance-range-lts.Need-walk-positions-requires (advance-range-claims t) (advance-range-at t) advance-range.Post
+advance-range-walk-positions-requires measure c κs =
+    let s₀ = c .before .before .before .before .before .before .before .before .before .before .before in
+    let nodes = s₀ .args .nodes .now in
+    let run = s₀ .args .run .now in
+    let i = s₀ .args .i in
+    let env = s₀ .args .env in
+    let s = s₀ .args .s in
+    let t = s₀ .args .t in
+    let at-node-word = c .before .before .before .before .before .before .before .node-word in
+    let at-range-at = c .before .before .before .before .before .range-at in
+    let at-plan-up-to = c .before .before .before .before .plan-up-to in
+    let at-own-tick = c .before .before .before .own-tick in
+    let at-load-head = c .before .load-head in
+    let plan = plan-here (bound-at nodes (i + 1)) (bound-at nodes (i + 4)) env t s (at-plan-up-to .result .first) (at-plan-up-to .result .n) (at-plan-up-to .result .end) (positions-of (at-range-at .result)) (s₀ .pre .1 .1 .low) (s₀ .pre .1 .1 .past) (s₀ .pre .1 .1 .unbound) (at-range-at .ensures) (at-plan-up-to .ensures) in (
+      omega (arith, s₀ .pre .0),
+      fit-walk (s₀ .pre .1 .1) s (at-plan-up-to .result .first) (at-load-head .result .leading) (at-plan-up-to .result .n) (at-node-word .result) (length (take (length run - 4) (drop 4 run))) (at-plan-up-to .result .end)
+          (subst (λ (x : ℕ). x ≤ at-plan-up-to .result .n) (sym (at-load-head .ensures .0)) (leading-least (at-own-tick .result) s t (at-plan-up-to .result .n) (getD run 0 0) (getD run 2 0))) (at-node-word .ensures) (tail-length run) plan,
+    )
+
+advance-range-store-head-requires : (t : ℕ) → advance-range-lts.Need-store-head-requires (advance-range-claims t) (advance-range-at t) advance-range.Post
+advance-range-store-head-requires measure c κs =
+    let s₀ = c .before .before .before .before .before .before .before .before .before .before .before .before .before .before .before in
+    let nodes = s₀ .args .nodes .now in
+    let run = s₀ .args .run .now in
+    let i = s₀ .args .i in
+    let env = s₀ .args .env in
+    let s = s₀ .args .s in
+    let t = s₀ .args .t in
+    let at-node-word = c .before .before .before .before .before .before .before .before .before .before .before .node-word in
+    let at-range-at = c .before .before .before .before .before .before .before .before .before .range-at in
+    let at-plan-up-to = c .before .before .before .before .before .before .before .before .plan-up-to in
+    let at-own-tick = c .before .before .before .before .before .before .before .own-tick in
+    let at-load-head = c .before .before .before .before .before .load-head in
+    let at-walk-positions = c .before .before .before .walk-positions in
+    let plan = plan-here (bound-at nodes (i + 1)) (bound-at nodes (i + 4)) env t s (at-plan-up-to .result .first) (at-plan-up-to .result .n) (at-plan-up-to .result .end) (positions-of (at-range-at .result)) (s₀ .pre .1 .1 .low) (s₀ .pre .1 .1 .past) (s₀ .pre .1 .1 .unbound) (at-range-at .ensures) (at-plan-up-to .ensures) in
+    fit-store (s₀ .pre .1 .1) s (at-plan-up-to .result .first) (at-load-head .result .leading) (at-plan-up-to .result .n) (at-node-word .result) (at-own-tick .result) (length (putMid 4 (length run - 4) run (at-walk-positions .last .1 .1 .1 .0))) (at-plan-up-to .result .end)
+    (subst (λ (x : ℕ). x ≤ at-plan-up-to .result .n) (sym (at-load-head .ensures .0)) (leading-least (at-own-tick .result) s t (at-plan-up-to .result .n) (getD run 0 0) (getD run 2 0))) (at-node-word .ensures) (at-own-tick .ensures ∙ tick-is env (s₀ .pre .1 .1 .some)) (same-len-mid 4 (length run - 4) run (at-walk-positions .last .1 .1 .1 .0) (at-walk-positions .kept .1 .1 .1 .0)) plan
+
+advance-range-both-requires : (t : ℕ) → advance-range-lts.Need-both-requires (advance-range-claims t) (advance-range-at t) advance-range.Post
+advance-range-both-requires t c κs = search needs
+
+advance-range-same-length : (t : ℕ) → advance-range-lts.Need-same-length (advance-range-claims t) (advance-range-at t) advance-range.Post
+advance-range-same-length measure c =
+    let s₀ = c .before .before .before .before .before .before .before .before .before .before .before .before .before .before .before .before .before .before .before in
+    let run = s₀ .args .run .now in
+    let at-walk-positions = c .before .before .before .before .before .before .before .walk-positions in
+    let at-store-head = c .before .before .before .store-head in
+    at-store-head .kept .0 ∙ (same-len-mid 4 (length run - 4) run (at-walk-positions .last .1 .1 .1 .0) (at-walk-positions .kept .1 .1 .1 .0))
+
+advance-range-returns : (t : ℕ) → advance-range-lts.Need-returns (advance-range-claims t) (advance-range-at t) advance-range.Post
+advance-range-returns measure c =
+    let s₀ = c .before .before .before .before .before .before .before .before .before .before .before .before .before .before .before .before .before .before .before in
+    let nodes = s₀ .args .nodes .now in
+    let run = s₀ .args .run .now in
+    let i = s₀ .args .i in
+    let env = s₀ .args .env in
+    let s = s₀ .args .s in
+    let t = s₀ .args .t in
+    let first-known = c .before .before .before .before .before .before .before .before .before .before .before .before .before .before .before .before .before .before .shared-slice-known in
+    let at-node-word = c .before .before .before .before .before .before .before .before .before .before .before .before .before .before .before .node-word in
+    let at-range-at = c .before .before .before .before .before .before .before .before .before .before .before .before .before .range-at in
+    let at-plan-up-to = c .before .before .before .before .before .before .before .before .before .before .before .before .plan-up-to in
+    let at-own-tick = c .before .before .before .before .before .before .before .before .before .before .before .own-tick in
+    let at-load-head = c .before .before .before .before .before .before .before .before .before .load-head in
+    let at-walk-positions = c .before .before .before .before .before .before .before .walk-positions in
+    let at-store-head = c .before .before .before .store-head in
+    let at-both = c .both in
+    let plan = plan-here (bound-at nodes (i + 1)) (bound-at nodes (i + 4)) env t s (at-plan-up-to .result .first) (at-plan-up-to .result .n) (at-plan-up-to .result .end) (positions-of (at-range-at .result)) (s₀ .pre .1 .1 .low) (s₀ .pre .1 .1 .past) (s₀ .pre .1 .1 .unbound) (at-range-at .ensures) (at-plan-up-to .ensures) in
+    range-of (at-plan-up-to .result .first) (at-plan-up-to .result .n) (at-load-head .result .leading) (at-load-head .result .latest) (at-own-tick .result) (at-node-word .result) (at-plan-up-to .result .end) (at-walk-positions .result) (at-both .result) (at-walk-positions .last .1 .1 .1 .0) (putMid 4 (length run - 4) run (at-walk-positions .last .1 .1 .1 .0)) (at-store-head .last .0)
+    (at-node-word .ensures) (fit-head (s₀ .pre .1 .1)) plan (at-own-tick .ensures ∙ tick-is env (s₀ .pre .1 .1 .some)) (omega (arith, fit-long (s₀ .pre .1 .1), s₀ .pre .1 .1 .some)) (s₀ .pre .1 .1 .near)
+    (omega (arith, fit-few (s₀ .pre .1 .1) s (at-plan-up-to .result .first) (at-plan-up-to .result .n) (at-plan-up-to .result .end) plan, first-known .given (i + 8)))
+    (at-load-head .ensures .0) (at-load-head .ensures .1) (at-walk-positions .ensures) refl (at-store-head .ensures) (at-both .ensures)
+
+advance-then-advance-part-requires : (t : ℕ) → advance-then-lts.Need-advance-part-requires (advance-then-claims t) (advance-then-at t) advance-then.Post
+advance-then-advance-part-requires measure c κs =
+    let s₀ = c .before .before .before .before in
+    (omega (arith, s₀ .pre .0), fit-first (s₀ .pre .1))
+
+advance-then-enum-told : (t : ℕ) → advance-then-lts.Need-enum-told (advance-then-claims t) (advance-then-at t) advance-then.Post
+advance-then-enum-told t c = search needs
+
+advance-then-enum-known-o : (t : ℕ) → advance-then-lts.Need-enum-known-o (advance-then-claims t) (advance-then-at t) advance-then.Post
+advance-then-enum-known-o t c = search needs
+
+advance-then-enum-told-2 : (t : ℕ) → advance-then-lts.Need-enum-told-2 (advance-then-claims t) (advance-then-at t) advance-then.Post
+advance-then-enum-told-2 t c = search needs
+
+advance-then-enum-told-3 : (t : ℕ) → advance-then-lts.Need-enum-told-3 (advance-then-claims t) (advance-then-at t) advance-then.Post
+advance-then-enum-told-3 t c = search needs
+
+advance-then-sub-advance : (t : ℕ) → advance-then-lts.Need-sub-advance (advance-then-claims t) (advance-then-at t) advance-then.Post
+advance-then-sub-advance measure c =
+    let s₀ = c .before .before .before .before .before .before .before .before .before .before .before .before in
+    let at-advance-part = c .before .before .before .before .before .before .before .advance-part in
+    omega (arith, fit-first (s₀ .pre .1) .start, at-advance-part .kept .1 .1 .1 .0)
+
+advance-then-part-advance-start : (t : ℕ) → advance-then-lts.Need-part-advance-start (advance-then-claims t) (advance-then-at t) advance-then.Post
+advance-then-part-advance-start measure c =
+    let s₀ = c .before .before .before .before .before .before .before .before .before .before .before .before in
+    let at-advance-part = c .before .before .before .before .before .before .before .advance-part in
+    omega (arith, fit-first (s₀ .pre .1) .start, at-advance-part .kept .1 .1 .1 .0)
+
+advance-then-part-advance-end : (t : ℕ) → advance-then-lts.Need-part-advance-end (advance-then-claims t) (advance-then-at t) advance-then.Post
+advance-then-part-advance-end t c = search needs
+
+advance-then-advance-requires : (t : ℕ) → advance-then-lts.Need-advance-requires (advance-then-claims t) (advance-then-at t) advance-then.Post
+advance-then-advance-requires measure c κs =
+    let s₀ = c .before .before .before .before .before .before .before .before .before .before .before .before .before in
+    let nodes = s₀ .args .nodes .now in
+    let left = s₀ .args .left in
+    let env = s₀ .args .env in
+    let t = s₀ .args .t in
+    let g = s₀ .args .g in
+    let at-advance-part = c .before .before .before .before .before .before .before .before .advance-part in
+    (omega (arith, s₀ .pre .0), subst (Fit (tree-at left nodes g) env t) (sym (tail-length (at-advance-part .last .1 .1 .1 .0) ∙ ap (λ (n : ℕ). n - 4) (at-advance-part .kept .1 .1 .1 .0))) (fit-second (s₀ .pre .1)))
+
+advance-then-same-length : (t : ℕ) → advance-then-lts.Need-same-length (advance-then-claims t) (advance-then-at t) advance-then.Post
+advance-then-same-length t c = search needs
+
+advance-then-returns : (t : ℕ) → advance-then-lts.Need-returns (advance-then-claims t) (advance-then-at t) advance-then.Post
+advance-then-returns measure c =
+    let s₀ = c .before .before .before .before .before .before .before .before .before in
+    let nodes = s₀ .args .nodes .now in
+    let run = s₀ .args .run .now in
+    let hist = s₀ .args .hist .now in
+    let left = s₀ .args .left in
+    let b = s₀ .args .b in
+    let env = s₀ .args .env in
+    let s = s₀ .args .s in
+    let t = s₀ .args .t in
+    let f = s₀ .args .f in
+    let g = s₀ .args .g in
+    let at-advance-part = c .before .before .before .before .advance-part in
+    let at-enum-told = c .enum-told in
+    then-open (tree-at left nodes f) (tree-at left nodes g) hist b env s t run (at-advance-part .last .1 .1 .1 .0) (at-advance-part .result) (at-advance-part .ensures) (at-enum-told .given .1)
+
+advance-then-same-length-2 : (t : ℕ) → advance-then-lts.Need-same-length-2 (advance-then-claims t) (advance-then-at t) advance-then.Post
+advance-then-same-length-2 t c = search needs
+
+advance-then-returns-2 : (t : ℕ) → advance-then-lts.Need-returns-2 (advance-then-claims t) (advance-then-at t) advance-then.Post
+advance-then-returns-2 measure c =
+    let s₀ = c .before .before .before .before .before .before .before .before .before .before .before .before in
+    let nodes = s₀ .args .nodes .now in
+    let run = s₀ .args .run .now in
+    let hist = s₀ .args .hist .now in
+    let left = s₀ .args .left in
+    let b = s₀ .args .b in
+    let env = s₀ .args .env in
+    let s = s₀ .args .s in
+    let t = s₀ .args .t in
+    let f = s₀ .args .f in
+    let g = s₀ .args .g in
+    let at-advance-part = c .before .before .before .before .before .before .before .advance-part in
+    let at-o = c .before .before .before .o in
+    let at-enum-told2 = c .enum-told2 in
+    then-false (tree-at left nodes f) (tree-at left nodes g) hist b env s t run (at-advance-part .last .1 .1 .1 .0) (at-advance-part .result) _ _ (at-advance-part .ensures) (at-o .given .1) (at-enum-told2 .given .1)
+
+advance-then-same-length-3 : (t : ℕ) → advance-then-lts.Need-same-length-3 (advance-then-claims t) (advance-then-at t) advance-then.Post
+advance-then-same-length-3 t c = search needs
+
+advance-then-returns-3 : (t : ℕ) → advance-then-lts.Need-returns-3 (advance-then-claims t) (advance-then-at t) advance-then.Post
+advance-then-returns-3 measure c =
+    let s₀ = c .before .before .before .before .before .before .before .before .before .before .before .before .before .before .before .before in
+    let nodes = s₀ .args .nodes .now in
+    let run = s₀ .args .run .now in
+    let hist = s₀ .args .hist .now in
+    let left = s₀ .args .left in
+    let b = s₀ .args .b in
+    let env = s₀ .args .env in
+    let s = s₀ .args .s in
+    let t = s₀ .args .t in
+    let f = s₀ .args .f in
+    let g = s₀ .args .g in
+    let at-advance-part = c .before .before .before .before .before .before .before .before .before .before .before .advance-part in
+    let at-o = c .before .before .before .before .before .before .before .o in
+    let at-enum-told3 = c .before .before .before .before .enum-told3 in
+    let at-advance = c .before .before .advance in
+    then-true (tree-at left nodes f) (tree-at left nodes g) hist b env s t run (at-advance-part .last .1 .1 .1 .0) (at-advance-part .result) (at-advance .result) _ _ (at-advance .last .1 .1 .1 .0) (take (length (at-advance-part .last .1 .1 .1 .0) - 4) (drop 4 (at-advance-part .last .1 .1 .1 .0))) _ (at-advance-part .ensures) (at-o .given .1) (at-enum-told3 .given .1)
+    (omega (arith, fit-first (s₀ .pre .1) .start, at-advance-part .kept .1 .1 .1 .0)) (tail-take (at-advance-part .last .1 .1 .1 .0)) (at-advance .ensures) refl
+
+abbrev walk-positions-Inv-loop : walk-positions-lts.InvT-loop
+walk-positions-Inv-loop nodes left i run₀ hist b env s t first leading n z acc₀ j₀ run acc j =
+    (j ≤ n) × ((leading ≤ j) × ((length run ≡ length run₀) × WalkedTo (tree-at left nodes i) hist b env s t first leading n acc₀ z run₀ j acc run))
+
+abbrev walk-positions-μ-loop : walk-positions-lts.MeasureT-loop
+walk-positions-μ-loop nodes left i run₀ hist b env s t first leading n z acc₀ j₀ run acc j = j
+
+walk-positions-loop-holds : (t : ℕ) → walk-positions-lts.Need-loop-holds (walk-positions-claims t) (walk-positions-at t) walk-positions.Post walk-positions-Inv-loop walk-positions-μ-loop
+walk-positions-loop-holds measure c =
+    let s₀ = c .before .before .before in
+    (omega arith, (s₀ .pre .1 .within, (refl, walk-begun)))
+
+walk-positions-sub-j : (t : ℕ) → walk-positions-lts.Need-sub-j (walk-positions-claims t) (walk-positions-at t) walk-positions.Post walk-positions-Inv-loop walk-positions-μ-loop
+walk-positions-sub-j measure c =
+    let at-loop-test = c .loop-test in
+    omega (arith, at-loop-test .taken)
+
+walk-positions-mul-at : (t : ℕ) → walk-positions-lts.Need-mul-at (walk-positions-claims t) (walk-positions-at t) walk-positions.Post walk-positions-Inv-loop walk-positions-μ-loop
+walk-positions-mul-at measure c =
+    let s₀ = c .before .before .before .before .before in
+    let z = s₀ .args .z in
+    let n = s₀ .args .n in
+    let at-loop = c .before .loop in
+    let at-loop-test = c .loop-test in
+    omega (arith, slot-before z (at-loop .j - 1) n (omega (arith, at-loop-test .taken, at-loop .inv .0)), at-loop .inv .1 .1 .0, s₀ .pre .1 .room, s₀ .good .1 .1 .1 .0)
+
+walk-positions-add-top : (t : ℕ) → walk-positions-lts.Need-add-top (walk-positions-claims t) (walk-positions-at t) walk-positions.Post walk-positions-Inv-loop walk-positions-μ-loop
+walk-positions-add-top measure c =
+    let s₀ = c .before .before .before .before .before in
+    let z = s₀ .args .z in
+    let n = s₀ .args .n in
+    let at-loop = c .before .loop in
+    let at-loop-test = c .loop-test in
+    omega (arith, slot-before z (at-loop .j - 1) n (omega (arith, at-loop-test .taken, at-loop .inv .0)), at-loop .inv .1 .1 .0, s₀ .pre .1 .room, s₀ .good .1 .1 .1 .0)
+
+walk-positions-mul-advance-position : (t : ℕ) → walk-positions-lts.Need-mul-advance-position (walk-positions-claims t) (walk-positions-at t) walk-positions.Post walk-positions-Inv-loop walk-positions-μ-loop
+walk-positions-mul-advance-position measure c =
+    let s₀ = c .before .before .before .before .before in
+    let z = s₀ .args .z in
+    let n = s₀ .args .n in
+    let at-loop = c .before .loop in
+    let at-loop-test = c .loop-test in
+    omega (arith, slot-before z (at-loop .j - 1) n (omega (arith, at-loop-test .taken, at-loop .inv .0)), at-loop .inv .1 .1 .0, s₀ .pre .1 .room, s₀ .good .1 .1 .1 .0)
+
+walk-positions-sub-advance-position : (t : ℕ) → walk-positions-lts.Need-sub-advance-position (walk-positions-claims t) (walk-positions-at t) walk-positions.Post walk-positions-Inv-loop walk-positions-μ-loop
+walk-positions-sub-advance-position measure c =
+    let s₀ = c .before .before .before .before .before in
+    let z = s₀ .args .z in
+    let n = s₀ .args .n in
+    let at-loop = c .before .loop in
+    let at-loop-test = c .loop-test in
+    omega (arith, slot-before z (at-loop .j - 1) n (omega (arith, at-loop-test .taken, at-loop .inv .0)), at-loop .inv .1 .1 .0, s₀ .pre .1 .room, s₀ .good .1 .1 .1 .0)
+
+walk-positions-part-advance-position-start :
+    (t : ℕ) → walk-positions-lts.Need-part-advance-position-start (walk-positions-claims t) (walk-positions-at t) walk-positions.Post walk-positions-Inv-loop walk-positions-μ-loop
+walk-positions-part-advance-position-start measure c =
+    let s₀ = c .before .before .before .before .before in
+    let z = s₀ .args .z in
+    let n = s₀ .args .n in
+    let at-loop = c .before .loop in
+    let at-loop-test = c .loop-test in
+    omega (arith, slot-before z (at-loop .j - 1) n (omega (arith, at-loop-test .taken, at-loop .inv .0)), at-loop .inv .1 .1 .0, s₀ .pre .1 .room, s₀ .good .1 .1 .1 .0)
+
+walk-positions-part-advance-position-end :
+    (t : ℕ) → walk-positions-lts.Need-part-advance-position-end (walk-positions-claims t) (walk-positions-at t) walk-positions.Post walk-positions-Inv-loop walk-positions-μ-loop
+walk-positions-part-advance-position-end measure c =
+    let s₀ = c .before .before .before .before .before in
+    let z = s₀ .args .z in
+    let n = s₀ .args .n in
+    let at-loop = c .before .loop in
+    let at-loop-test = c .loop-test in
+    omega (arith, slot-before z (at-loop .j - 1) n (omega (arith, at-loop-test .taken, at-loop .inv .0)), at-loop .inv .1 .1 .0, s₀ .pre .1 .room, s₀ .good .1 .1 .1 .0)
+
+walk-positions-add-advance-position : (t : ℕ) → walk-positions-lts.Need-add-advance-position (walk-positions-claims t) (walk-positions-at t) walk-positions.Post walk-positions-Inv-loop walk-positions-μ-loop
+walk-positions-add-advance-position measure c =
+    let s₀ = c .before .before .before .before .before .before in
+    let at-loop = c .before .before .loop in
+    let at-loop-test = c .before .loop-test in
+    let fit = s₀ .pre .1 .slots (at-loop .j - 1) (omega (arith, at-loop-test .taken, at-loop .inv .0)) in omega (arith, fit .come, fit .low)
+
+walk-positions-advance-position-requires :
+    (t : ℕ) → walk-positions-lts.Need-advance-position-requires (walk-positions-claims t) (walk-positions-at t) walk-positions.Post walk-positions-Inv-loop walk-positions-μ-loop
+walk-positions-advance-position-requires measure c κs =
+    let s₀ = c .before .before .before .before .before .before in
+    let nodes = s₀ .args .nodes .now in
+    let left = s₀ .args .left in
+    let i = s₀ .args .i in
+    let env = s₀ .args .env in
+    let t = s₀ .args .t in
+    let z = s₀ .args .z in
+    let first = s₀ .args .first in
+    let n = s₀ .args .n in
+    let at-loop = c .before .before .loop in
+    let at-loop-test = c .before .loop-test in
+    (omega (arith, s₀ .pre .0), subst (SlotFit (tree-at left nodes i) env t (first + (at-loop .j - 1))) (sym (slot-length z n (at-loop .j) (at-loop .run) (omega (arith, at-loop-test .taken)) (at-loop .inv .0) (omega (arith, at-loop .inv .1 .1 .0, s₀ .pre .1 .room)))) (s₀ .pre .1 .slots (at-loop .j - 1) (omega (arith, at-loop-test .taken, at-loop .inv .0))))
+
+walk-positions-both-requires : (t : ℕ) → walk-positions-lts.Need-both-requires (walk-positions-claims t) (walk-positions-at t) walk-positions.Post walk-positions-Inv-loop walk-positions-μ-loop
+walk-positions-both-requires t c κs = search needs
+
+walk-positions-loop-less : (t : ℕ) → walk-positions-lts.Need-loop-less (walk-positions-claims t) (walk-positions-at t) walk-positions.Post walk-positions-Inv-loop walk-positions-μ-loop
+walk-positions-loop-less measure c =
+    let at-loop-test = c .before .before .before .before .before .loop-test in
+    omega (arith, at-loop-test .taken)
+
+walk-positions-loop-again : (t : ℕ) → walk-positions-lts.Need-loop-again (walk-positions-claims t) (walk-positions-at t) walk-positions.Post walk-positions-Inv-loop walk-positions-μ-loop
+walk-positions-loop-again measure c =
+    let s₀ = c .before .before .before .before .before .before .before .before .before .before in
+    let z = s₀ .args .z in
+    let at-loop = c .before .before .before .before .before .before .loop in
+    let at-loop-test = c .before .before .before .before .before .loop-test in
+    let at-advance-position = c .before .before .before .advance-position in
+    let at-both = c .both in (
+      omega (arith, at-loop-test .taken, at-loop .inv .0),
+      (
+        omega (arith, at-loop-test .taken),
+        (
+          same-len-mid ((at-loop .j - 1) * z) ((at-loop .j - 1) * z + z - (at-loop .j - 1) * z) (at-loop .run) (at-advance-position .last .1 .1 .1 .0) (at-advance-position .kept .1 .1 .1 .0) ∙ at-loop .inv .1 .1 .0,
+          walk-more (at-loop .acc) (at-both .result) (at-loop .run) (at-advance-position .last .1 .1 .1 .0) (at-advance-position .result) (at-loop .j) (at-loop-test .taken) (at-loop .inv .0) (omega (arith, at-loop .inv .1 .1 .0, s₀ .pre .1 .room)) (at-advance-position .kept .1 .1 .1 .0) (at-advance-position .ensures) (at-both .ensures) (at-loop .inv .1 .1 .1),
+        ),
+      ),
+    )
+
+walk-positions-same-length : (t : ℕ) → walk-positions-lts.Need-same-length (walk-positions-claims t) (walk-positions-at t) walk-positions.Post walk-positions-Inv-loop walk-positions-μ-loop
+walk-positions-same-length measure c =
+    let at-loop = c .before .loop in
+    at-loop .inv .1 .1 .0
+
+walk-positions-returns : (t : ℕ) → walk-positions-lts.Need-returns (walk-positions-claims t) (walk-positions-at t) walk-positions.Post walk-positions-Inv-loop walk-positions-μ-loop
+walk-positions-returns measure c =
+    let at-loop = c .before .loop in
+    let at-loop-test = c .loop-test in
+    walk-done (at-loop .j) (at-loop .acc) (at-loop .run) (at-loop .inv .1 .0) (λ x. omega (arith, x, at-loop-test .left)) (at-loop .inv .1 .1 .1)
+
+pub +advance+advance-beside+advance-part+advance-position+advance-range+advance-then+walk-positions-spec :
+    {M : Type 1} → statement M
++advance+advance-beside+advance-part+advance-position+advance-range+advance-then+walk-positions-spec =
+    close
+    μ-advance
+    μ-advance-beside
+    μ-advance-part
+    μ-advance-position
+    μ-advance-range
+    μ-advance-then
+    μ-walk-positions
+    (λ t. advance-lts.spec (advance-claims t)
+    (advance-at t)
+    advance.Post
+    (advance-flag-at-requires t)
+    (advance-returns t)
+    (advance-node-word-requires t)
+    (advance-sub-advance t)
+    (advance-add-advance t)
+    (advance-advance-requires t)
+    (advance-opposite-requires t)
+    (advance-same-length t)
+    (advance-returns-2 t)
+    (advance-node-word-requires-2 t)
+    (advance-cast-g t)
+    (advance-sub-advance-then t)
+    (advance-add-advance-then t)
+    (advance-advance-then-requires t)
+    (advance-same-length-2 t)
+    (advance-returns-3 t)
+    (advance-node-word-requires-3 t)
+    (advance-cast-g-2 t)
+    (advance-node-word-requires-4 t)
+    (advance-cast-w t)
+    (advance-sub-advance-beside t)
+    (advance-add-advance-beside t)
+    (advance-advance-beside-requires t)
+    (advance-same-length-3 t)
+    (advance-returns-4 t)
+    (advance-sub-advance-range t)
+    (advance-advance-range-requires t)
+    (advance-same-length-4 t)
+    (advance-returns-5 t)
+    (advance-node-word-requires-5 t)
+    (advance-cast-v t)
+    (advance-node-word-requires-6 t)
+    (advance-flag-at-requires-2 t)
+    (advance-returns-6 t))
+    (λ t. advance-beside-lts.spec (advance-beside-claims t)
+    (advance-beside-at t)
+    advance-beside.Post
+    (advance-beside-add-m t)
+    (advance-beside-advance-part-requires t)
+    (advance-beside-advance-part-requires-2 t)
+    (advance-beside-both-requires t)
+    (advance-beside-same-length t)
+    (advance-beside-returns t))
+    (λ t. advance-part-lts.spec (advance-part-claims t)
+    (advance-part-at t)
+    advance-part.Post
+    (advance-part-own-tick-requires t)
+    (advance-part-load-outcome-requires t)
+    (advance-part-enum-told t)
+    (advance-part-same-length t)
+    (advance-part-returns t)
+    (advance-part-enum-told-2 t)
+    (advance-part-mul-advance t)
+    (advance-part-sub-advance t)
+    (advance-part-part-advance-start t)
+    (advance-part-part-advance-end t)
+    (advance-part-advance-requires t)
+    (advance-part-store-outcome-requires t)
+    (advance-part-same-length-2 t)
+    (advance-part-returns-2 t))
+    (λ t. advance-position-lts.spec (advance-position-claims t)
+    (advance-position-at t)
+    advance-position.Post
+    (advance-position-later-requires t)
+    (advance-position-byte-of-requires t)
+    (advance-position-wide-requires t)
+    (advance-position-slice-write-slot t)
+    (advance-position-slice-read-c t)
+    (advance-position-cast-c t)
+    (advance-position-enter-requires t)
+    (advance-position-advance-part-requires t)
+    (advance-position-same-length t)
+    (advance-position-returns t))
+    (λ t. advance-range-lts.spec (advance-range-claims t)
+    (advance-range-at t)
+    advance-range.Post
+    (advance-range-node-word-requires t)
+    (advance-range-cast-z t)
+    (advance-range-range-at-requires t)
+    (advance-range-plan-up-to-requires t)
+    (advance-range-own-tick-requires t)
+    (advance-range-load-head-requires t)
+    (advance-range-add-walk-positions t)
+    (advance-range-sub-walk-positions t)
+    (advance-range-part-walk-positions-start t)
+    (advance-range-part-walk-positions-end t)
+    (advance-range-walk-positions-requires t)
+    (advance-range-store-head-requires t)
+    (advance-range-both-requires t)
+    (advance-range-same-length t)
+    (advance-range-returns t))
+    (λ t. advance-then-lts.spec (advance-then-claims t)
+    (advance-then-at t)
+    advance-then.Post
+    (advance-then-advance-part-requires t)
+    (advance-then-enum-told t)
+    (advance-then-enum-known-o t)
+    (advance-then-enum-told-2 t)
+    (advance-then-enum-told-3 t)
+    (advance-then-sub-advance t)
+    (advance-then-part-advance-start t)
+    (advance-then-part-advance-end t)
+    (advance-then-advance-requires t)
+    (advance-then-same-length t)
+    (advance-then-returns t)
+    (advance-then-same-length-2 t)
+    (advance-then-returns-2 t)
+    (advance-then-same-length-3 t)
+    (advance-then-returns-3 t))
+    λ t. walk-positions-lts.spec
+    (advance-position-below t, advance-position.Post, both-reads.Asked, both-reads.Learnt)
+    (walk-positions-at t)
+    walk-positions.Post
+    walk-positions-Inv-loop
+    walk-positions-μ-loop
+    (walk-positions-loop-holds t)
+    (walk-positions-sub-j t)
+    (walk-positions-mul-at t)
+    (walk-positions-add-top t)
+    (walk-positions-mul-advance-position t)
+    (walk-positions-sub-advance-position t)
+    (walk-positions-part-advance-position-start t)
+    (walk-positions-part-advance-position-end t)
+    (walk-positions-add-advance-position t)
+    (walk-positions-advance-position-requires t)
+    (walk-positions-both-requires t)
+    (walk-positions-loop-less t)
+    (walk-positions-loop-again t)
+    (walk-positions-same-length t)
+    (walk-positions-returns t)

@@ -1,0 +1,9 @@
+pub mod Tree
+pub mod Cells
+pub mod Leading
+pub mod Run
+pub mod Calls
+pub mod Instances
+pub mod Sized
+pub mod Moves
+pub mod Taking

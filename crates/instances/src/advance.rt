@@ -1,0 +1,258 @@
+// One formula, moved by one tick at a time over its run of cells.
+ghost use mathlib.Core.Path.{_≡_};
+ghost use Prim.Native.Nat.{_+_, _<_};
+ghost use lib.ListN.{length, getD};
+ghost use Rattle.nodes.specs.Table.{bound-at};
+ghost use Rattle.instances.specs.Tree.{then-node, beside-node, range-node, tree-at};
+ghost use Rattle.instances.specs.Calls.{Fit, SlotFit, WalkFit, PartFit, Advanced, PositionAdvanced, PositionsWalked, PartAdvanced};
+use crate::cells::load_outcome;
+use crate::cells::store_outcome;
+use crate::env::Env;
+use crate::env::enter;
+use crate::env::flag_at;
+use crate::env::own_tick;
+use crate::head::load_head;
+use crate::head::store_head;
+use crate::ring::byte_of;
+use nodes::node_word;
+use rule::Outcome;
+use rule::Verdict;
+
+fn wide(b: u8) -> u32
+    ensures { λ r. ⌜ (r ≡ b) × (r < 256) ⌝ }
+{
+    b as u32
+}
+
+// Moves the formula whose run is the words from a to z, and whose outcome the words k and k + 2 hold.
+fn advance_part(
+    nodes: &[u32],
+    left: usize,
+    i: usize,
+    run: &mut [u32],
+    k: usize,
+    a: usize,
+    z: usize,
+    hist: &[u8],
+    b: u8,
+    env: Env,
+    s: u64,
+    t: u64,
+) -> Outcome
+    requires { ⌜ PartFit (tree-at left (now nodes) i) env t k a z (length (now run)) ⌝ }
+    ensures { λ r. ⌜ PartAdvanced (tree-at left (now (nodes .entry)) i) (now (hist .entry)) b env s t k a z (now (run .entry)) r (now (run .exit)) ⌝ }
+{
+    let p = own_tick(env);
+    if t != s {
+        let h = load_outcome(run, k, p);
+        if let Outcome::Decided(_, _) = h {
+            return h;
+        }
+    }
+    let o = advance(nodes, left, i, &mut run[a..z], hist, b, env, s, t);
+    store_outcome(run, k, p, o);
+    o
+}
+
+// One position q of a range, in its slot: the position's cell, then the body's run. The byte at q is saved when the body starts.
+pub(crate) fn advance_position(
+    nodes: &[u32],
+    left: usize,
+    i: usize,
+    slot: &mut [u32],
+    hist: &[u8],
+    b: u8,
+    env: Env,
+    s: u64,
+    t: u64,
+    q: u64,
+) -> Outcome
+    requires { ⌜ SlotFit (tree-at left (now nodes) i) env t q (length (now slot)) ⌝ }
+    ensures { λ r. ⌜ PositionAdvanced (tree-at left (now (nodes .entry)) i) (now (hist .entry)) b env s t q (now (slot .entry)) r (now (slot .exit)) ⌝ }
+{
+    let start = outcomes::later(s, q);
+    if t == start {
+        slot[1] = wide(byte_of(hist, b, t, q));
+    }
+    let c = (slot[1] % 256) as u8;
+    let e = enter(env, q, c);
+    let z = slot.len();
+    advance_part(nodes, left, i, slot, 0, 4, z, hist, b, e, start, t)
+}
+
+// Of n positions from `first` on, each in its slot of z words, those after the leading ones, all side by side, and `end` beside them.
+fn walk_positions(
+    nodes: &[u32],
+    left: usize,
+    i: usize,
+    run: &mut [u32],
+    hist: &[u8],
+    b: u8,
+    env: Env,
+    s: u64,
+    t: u64,
+    first: u64,
+    leading: u64,
+    n: u64,
+    end: Outcome,
+    z: usize,
+) -> Outcome
+    requires { ⌜ WalkFit (tree-at left (now nodes) i) env t first leading n z (length (now run)) ⌝ }
+    ensures { λ r. ⌜ PositionsWalked (tree-at left (now (nodes .entry)) i) (now (hist .entry)) b env s t first leading n end z (now (run .entry)) r (now (run .exit)) ⌝ }
+{
+    let mut acc = end;
+    let mut j = n;
+    while leading < j {
+        j -= 1;
+        let at = (j as usize) * z;
+        let top = at + z;
+        let o = advance_position(
+            nodes,
+            left,
+            i,
+            &mut run[at..top],
+            hist,
+            b,
+            env,
+            s,
+            t,
+            first + j,
+        );
+        acc = outcomes::both(o, acc);
+    }
+    acc
+}
+
+// The range whose node starts at word i.
+fn advance_range(
+    nodes: &[u32],
+    left: usize,
+    i: usize,
+    run: &mut [u32],
+    hist: &[u8],
+    b: u8,
+    env: Env,
+    s: u64,
+    t: u64,
+) -> Outcome
+    requires { ⌜ (i < length (now nodes)) × Fit (range-node (bound-at (now nodes) (i + 1)) (bound-at (now nodes) (i + 4)) (getD (now nodes) (i + 8) 0) (getD (now nodes) (i + 9) 0) (tree-at left (now nodes) (i + 12))) env t (length (now run)) ⌝ }
+    ensures { λ r. ⌜ Advanced (range-node (bound-at (now (nodes .entry)) (i + 1)) (bound-at (now (nodes .entry)) (i + 4)) (getD (now (nodes .entry)) (i + 8) 0) (getD (now (nodes .entry)) (i + 9) 0) (tree-at left (now (nodes .entry)) (i + 12))) (now (hist .entry)) b env s t (now (run .entry)) r (now (run .exit)) ⌝ }
+{
+    let z = node_word(nodes, i, 9) as usize;
+    let pos = env.pos;
+    let span = ranges::range_at(nodes, i, pos);
+    let plan = ranges::plan_up_to(span, t, s);
+    let first = plan.first;
+    let n = plan.n;
+    let end = plan.end;
+    let p = own_tick(env);
+    let h = load_head(run, p, s, t, n);
+    let rest = walk_positions(
+        nodes,
+        left,
+        i + 12,
+        &mut run[4..],
+        hist,
+        b,
+        env,
+        s,
+        t,
+        first,
+        h.leading,
+        n,
+        end,
+        z,
+    );
+    store_head(run, h.leading, n, z, p, h.latest);
+    outcomes::both(Outcome::Decided(Verdict::True, h.latest), rest)
+}
+
+// The formula at word f, then the one at word g, which is started at the first one's step.
+fn advance_then(
+    nodes: &[u32],
+    left: usize,
+    f: usize,
+    g: usize,
+    run: &mut [u32],
+    hist: &[u8],
+    b: u8,
+    env: Env,
+    s: u64,
+    t: u64,
+) -> Outcome
+    requires { ⌜ Fit (then-node (tree-at left (now nodes) f) (tree-at left (now nodes) g)) env t (length (now run)) ⌝ }
+    ensures { λ r. ⌜ Advanced (then-node (tree-at left (now (nodes .entry)) f) (tree-at left (now (nodes .entry)) g)) (now (hist .entry)) b env s t (now (run .entry)) r (now (run .exit)) ⌝ }
+{
+    let z = run.len();
+    let o = advance_part(nodes, left, f, run, 0, 4, z, hist, b, env, s, t);
+    match o {
+        Outcome::Open => o,
+        Outcome::Decided(v, d) => match v {
+            Verdict::False => o,
+            Verdict::True => advance(nodes, left, g, &mut run[4..], hist, b, env, d, t),
+        },
+    }
+}
+
+// The formula at word f, in w words, beside the one at word g.
+fn advance_beside(
+    nodes: &[u32],
+    left: usize,
+    f: usize,
+    g: usize,
+    w: usize,
+    run: &mut [u32],
+    hist: &[u8],
+    b: u8,
+    env: Env,
+    s: u64,
+    t: u64,
+) -> Outcome
+    requires { ⌜ Fit (beside-node w (tree-at left (now nodes) f) (tree-at left (now nodes) g)) env t (length (now run)) ⌝ }
+    ensures { λ r. ⌜ Advanced (beside-node w (tree-at left (now (nodes .entry)) f) (tree-at left (now (nodes .entry)) g)) (now (hist .entry)) b env s t (now (run .entry)) r (now (run .exit)) ⌝ }
+{
+    let z = run.len();
+    let m = 4 + w;
+    let x = advance_part(nodes, left, f, run, 0, 4, m, hist, b, env, s, t);
+    let y = advance_part(nodes, left, g, run, 1, m, z, hist, b, env, s, t);
+    outcomes::both(x, y)
+}
+
+// Moves the formula at word i, started at s, to tick t.
+fn advance(
+    nodes: &[u32],
+    left: usize,
+    i: usize,
+    run: &mut [u32],
+    hist: &[u8],
+    b: u8,
+    env: Env,
+    s: u64,
+    t: u64,
+) -> Outcome
+    requires { ⌜ Fit (tree-at left (now nodes) i) env t (length (now run)) ⌝ }
+    ensures { λ r. ⌜ Advanced (tree-at left (now (nodes .entry)) i) (now (hist .entry)) b env s t (now (run .entry)) r (now (run .exit)) ⌝ }
+{
+    if left == 0 {
+        return flag_at(env, 0, 0, s);
+    }
+    let code = node_word(nodes, i, 0);
+    if code == 2 {
+        return outcomes::opposite(advance(nodes, left - 1, i + 12, run, hist, b, env, s, t));
+    }
+    if code == 3 {
+        let g = node_word(nodes, i, 7) as usize;
+        return advance_then(nodes, left - 1, i + 12, g, run, hist, b, env, s, t);
+    }
+    if code == 4 {
+        let g = node_word(nodes, i, 7) as usize;
+        let w = node_word(nodes, i, 10) as usize;
+        return advance_beside(nodes, left - 1, i + 12, g, w, run, hist, b, env, s, t);
+    }
+    if code == 5 {
+        return advance_range(nodes, left - 1, i, run, hist, b, env, s, t);
+    }
+    let v = node_word(nodes, i, 1) as usize;
+    let k = node_word(nodes, i, 2);
+    flag_at(env, v, k, s)
+}

@@ -1,0 +1,147 @@
+// The instances of a rule, moved by one tick: the ticks that turn false, and how many are live.
+ghost use mathlib.Core.Path.{_≡_};
+ghost use mathlib.Core.List.{_++_};
+ghost use Prim.Native.Nat.{suc, _+_, _*_, _-_, _≤_, _<_};
+ghost use lib.ListN.{length, drop, take};
+ghost use Rattle.instances.specs.Tree.{tree-at};
+ghost use Rattle.instances.specs.Instances.{InstanceMoved, InstanceFit, tick-if-false, open-count, TicksFit, TicksMoved, Spared};
+ghost use Rattle.instances.specs.Moves.{InstancesFit, InstancesMoved};
+use crate::advance::advance_position;
+use crate::env::Env;
+use rule::Figures;
+use rule::Outcome;
+use rule::Verdict;
+
+// How many ticks were reported, and how many are live.
+pub(crate) struct Moved {
+    pub reported: usize,
+    pub live: usize,
+}
+
+// The instance of tick p, moved to tick t: a range's position with no variable before it.
+fn move_instance(
+    nodes: &[u32],
+    left: usize,
+    run: &mut [u32],
+    hist: &[u8],
+    b: u8,
+    p: u64,
+    t: u64,
+) -> Outcome
+    requires { ⌜ InstanceFit (tree-at left (now nodes) 0) t p (length (now run)) ⌝ }
+    ensures { λ r. ⌜ InstanceMoved (tree-at left (now (nodes .entry)) 0) (now (hist .entry)) b t p (now (run .entry)) r (now (run .exit)) ⌝ }
+{
+    let env = Env {
+        n: 0,
+        pos: [0u64; 5],
+        byte: [0u8; 5],
+    };
+    advance_position(nodes, left, 0, run, hist, b, env, p, t, p)
+}
+
+// One for an open outcome.
+fn one_if_open(o: Outcome) -> usize
+    ensures { λ r. ⌜ (r ≡ open-count o) × (r ≤ 1) ⌝ }
+{
+    match o {
+        Outcome::Open => 1,
+        Outcome::Decided(_, _) => 0,
+    }
+}
+
+// Writes p into the report where o is false at step t, and answers the next place.
+fn report_if_false(report: &mut [u32], at: usize, o: Outcome, t: u64, p: u32) -> usize
+    requires { ⌜ at < length (now report) ⌝ }
+    ensures { λ r. ⌜ (r ≡ at + length (tick-if-false o t p)) × (r ≤ at + 1) ⌝ }
+    ensures { λ r. ⌜ now (report .exit) ≡ take at (now (report .entry)) ++ (tick-if-false o t p ++ drop r (now (report .entry))) ⌝ }
+{
+    match o {
+        Outcome::Open => at,
+        Outcome::Decided(v, d) => match v {
+            Verdict::True => at,
+            Verdict::False => {
+                if d == t {
+                    report[at] = p;
+                    at + 1
+                } else {
+                    at
+                }
+            }
+        },
+    }
+}
+
+// The oldest of the last n ticks up to t.
+fn oldest_tick(t: u64, n: u64) -> u64
+    requires { ⌜ t < 4294967296 ⌝ }
+    ensures { λ r. ⌜ r ≡ t + 1 - n ⌝ }
+{
+    if t + 1 <= n {
+        return 0;
+    }
+    t + 1 - n
+}
+
+// Moves the ticks from `low` to t, each in its slot of c words.
+fn move_ticks(
+    nodes: &[u32],
+    left: usize,
+    table: &mut [u32],
+    hist: &[u8],
+    b: u8,
+    report: &mut [u32],
+    t: u64,
+    low: u64,
+    n: u64,
+    c: usize,
+) -> Moved
+    requires { ⌜ TicksFit (tree-at left (now nodes) 0) t n c (length (now table)) (length (now report)) ⌝ }
+    requires { ⌜ low ≡ t + 1 - n ⌝ }
+    ensures { λ r. ⌜ TicksMoved (tree-at left (now (nodes .entry)) 0) n c (now (hist .entry)) b t low (now (table .entry)) (now (report .entry)) (r .reported) (r .live) (now (table .exit)) (now (report .exit)) ⌝ }
+    ensures { λ r. ⌜ Spared n (n * c) (now (table .entry)) (now (report .entry)) (r .reported) (r .live) (now (table .exit)) (now (report .exit)) ⌝ }
+{
+    let mut p = low;
+    let mut reported: usize = 0;
+    let mut live: usize = 0;
+    while p <= t {
+        let j = (p % n) as usize;
+        let at = j * c;
+        let end = at + c;
+        let o = move_instance(nodes, left, &mut table[at..end], hist, b, p, t);
+        reported = report_if_false(report, reported, o, t, p as u32);
+        live = live + one_if_open(o);
+        p = p + 1;
+    }
+    Moved { reported, live }
+}
+
+// Moves all instances of the rule whose node table is `nodes` to tick t, whose flag byte is b. The history still holds the ticks before t: the
+// caller stores b afterwards.
+pub(crate) fn move_instances(
+    nodes: &[u32; 768],
+    figures: Figures,
+    table: &mut [u32],
+    hist: &[u8],
+    b: u8,
+    report: &mut [u32],
+    t: u64,
+) -> Moved
+    requires { ⌜ InstancesFit (now nodes) figures t (length (now table)) (length (now report)) ⌝ }
+    ensures { λ r. ⌜ InstancesMoved (now (nodes .entry)) figures (now (hist .entry)) b t (now (table .entry)) (r .reported) (r .live) (now (table .exit)) (now (report .exit)) ⌝ }
+    ensures { λ r. ⌜ Spared (figures .delay + 1) (4 * figures .cells) (now (table .entry)) (now (report .entry)) (r .reported) (r .live) (now (table .exit)) (now (report .exit)) ⌝ }
+{
+    let n = figures.delay + 1;
+    let c = (figures.cells / n * 4) as usize;
+    move_ticks(
+        nodes,
+        64,
+        table,
+        hist,
+        b,
+        report,
+        t,
+        oldest_tick(t, n),
+        n,
+        c,
+    )
+}

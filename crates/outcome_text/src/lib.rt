@@ -1,0 +1,54 @@
+// Outcomes as lines of text, for the programs that run cases. What is written no contract can say: the programs' files `stdout` hold it.
+use libc::STDOUT_FILENO;
+use recording::Evaluated;
+use rule::Outcome;
+use rule::Verdict;
+
+pub fn text(t: &[u8]) {
+    io::write_all(STDOUT_FILENO, t);
+}
+
+// A name and then bytes, each as a space and two digits.
+pub fn bytes(name: &[u8], b: &[u8]) {
+    text(name);
+    let mut i = 0;
+    while i < b.len() {
+        text(b" ");
+        io::print_hex(STDOUT_FILENO, wide(b[i]), 2);
+        i += 1;
+    }
+    text(b"\n");
+}
+
+// The outcome of a body at a tick, as `5: false at 7`, `5: open` or `5: refused 16`.
+pub fn outcome(body: &[u8], flags: &[u8], tick: usize) {
+    io::print_decimal(STDOUT_FILENO, tick as u64);
+    text(b": ");
+    answer(recording::outcome_at(body, flags, tick));
+    text(b"\n");
+}
+
+fn answer(a: Evaluated) {
+    match a {
+        Evaluated::Answered(o) => match o {
+            Outcome::Decided(v, d) => decided(v, d),
+            Outcome::Open => text(b"open"),
+        },
+        Evaluated::Refused(why) => {
+            text(b"refused ");
+            io::print_decimal(STDOUT_FILENO, refusal::number(why) as u64);
+        }
+    }
+}
+
+fn decided(v: Verdict, d: u64) {
+    match v {
+        Verdict::True => text(b"true at "),
+        Verdict::False => text(b"false at "),
+    }
+    io::print_decimal(STDOUT_FILENO, d);
+}
+
+fn wide(b: u8) -> u64 {
+    b as u64
+}

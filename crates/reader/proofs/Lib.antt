@@ -1,0 +1,5 @@
+mod Refusals
+mod Nodes
+mod Ends
+mod Fills
+mod Bodies

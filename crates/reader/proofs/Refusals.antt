@@ -1,0 +1,200 @@
+-- The number of a formula's first refusal, test by test.
+use Prim.Native.Nat.{ℕ, suc, _+_, _-_, _≤_, _<_}
+use mathlib.Core.Path.{_≡_, refl, sym, _∙_}
+use mathlib.Core.Bool.{Bool, true, false, true≢false, not, cond, _&&_, _||_}
+use mathlib.Core.List.{List}
+use native.Mathlib.Omega.{arith}
+use lib.Dec.{leb, ltb, eqb}
+use lib.ListN.{length}
+use lib.IntN.{natAbs, pos, negsuc}
+use borrow.Author.Tests.{le-leb, lt-leb, le-ltb, lt-ltb, ne-eqb}
+use Rattle.refusal.specs.Numbers.{number-of}
+use Rattle.refusal.specs.declared.Refusal.{Refusal}
+use Rattle.refusal.specs.declared.Refusal.the-variants.{RuleCount, EntryLayout, NoSuchRule, BodyEndsEarly, UnknownCode, UnboundVariable, NoSuchFlag, BadOffset, BodyTooLarge, BytesLeftOver, DelayInfinite, DelayAboveLimit, HistoryInfinite, HistoryAboveLimit, CellsAboveLimit, NotInRecording, HistoryLength, CellTableTooShort, ReportTooShort, TicksUsedUp, StateNotOpened, BufferTooShort}
+use Rattle.words.specs.Words.{byte, word}
+use Rattle.rule.specs.Body.{Head, negate-head, forall-head, require, signed, bound, require-bound, fixed, contents, head}
+use mathlib.Core.Logic.{_⊎_, inl, inr}
+use Rattle.rule.proofs.Reading.{and-true}
+use Rattle.rule.proofs.Order.{by-order}
+use Rattle.reader.specs.Checks.{head-number}
+
+-- no refusal has the number 0
+pub number-positive : (x : Refusal) → number-of x ≡ 0 → ⊥
+number-positive RuleCount e = omega arith
+number-positive EntryLayout e = omega arith
+number-positive NoSuchRule e = omega arith
+number-positive BodyEndsEarly e = omega arith
+number-positive UnknownCode e = omega arith
+number-positive UnboundVariable e = omega arith
+number-positive NoSuchFlag e = omega arith
+number-positive BadOffset e = omega arith
+number-positive BodyTooLarge e = omega arith
+number-positive BytesLeftOver e = omega arith
+number-positive DelayInfinite e = omega arith
+number-positive DelayAboveLimit e = omega arith
+number-positive HistoryInfinite e = omega arith
+number-positive HistoryAboveLimit e = omega arith
+number-positive CellsAboveLimit e = omega arith
+number-positive NotInRecording e = omega arith
+number-positive HistoryLength e = omega arith
+number-positive CellTableTooShort e = omega arith
+number-positive ReportTooShort e = omega arith
+number-positive TicksUsedUp e = omega arith
+number-positive StateNotOpened e = omega arith
+number-positive BufferTooShort e = omega arith
+
+pub require-number : (b : Bool) (n : ℕ) (next : Head) → head-number (require b n next) ≡ cond b (head-number next) n
+unfolding require
+require-number true n next = refl
+require-number false n next = refl
+
+-- ---- the offset
+
+pub offset-low : {w : ℕ} → w ≤ 4095 → natAbs (signed w) ≤ 4095
+unfolding signed
+offset-low {w} h = simp (lt-ltb w 32768 (omega arith)) h
+
+pub offset-high : {w : ℕ} → 61441 ≤ w → w < 65536 → natAbs (signed w) ≤ 4095
+unfolding signed
+offset-high {w} h k = simp (le-ltb w 32768 (omega arith)) (omega arith)
+
+pub offset-far : {w : ℕ} → 4095 < w → w < 61441 → 4095 < natAbs (signed w)
+unfolding signed
+offset-far {w} h k = go (leb (suc w) 32768) refl
+  where
+    go : (b : Bool) → leb (suc w) 32768 ≡ b → 4095 < natAbs (cond b (pos w) (negsuc (65535 - w)))
+    go true e = h
+    go false e = omega (arith)
+
+-- ---- a bound
+
+module _ (s : List ℕ) (at m : ℕ) where
+  bound-number : (next : Head) → head-number (require-bound s at m next) ≡
+      cond (leb (byte s at) 2) (cond (not (eqb (byte s at) 2) || leb (byte s (at + 1)) m) (cond (eqb (byte s at) 2 || eqb (byte s (at + 1)) 0)
+      (cond (not (eqb (byte s at) 1) || eqb (word s (at + 2)) 0) (cond (leb (natAbs (signed (word s (at + 2)))) 4095) (head-number next) 8) 8) 8) 6) 5
+  unfolding require-bound
+  bound-number next = simp require-number
+
+  pub bound-5 : 2 < byte s at → head-number (require-bound s at m negate-head) ≡ 5
+  bound-5 h = bound-number negate-head ∙ simp (lt-leb (byte s at) 2 h)
+
+  pub bound-6 : byte s at ≡ 2 → m < byte s (at + 1) → head-number (require-bound s at m negate-head) ≡ 6
+  bound-6 e h = bound-number negate-head ∙ simp (e, lt-leb (byte s (at + 1)) m h)
+
+  pub bound-variable : byte s at ≡ 2 → byte s (at + 1) ≤ m → head-number (require-bound s at m negate-head) ≡ cond (leb (natAbs (signed (word s (at + 2)))) 4095) 0 8
+  bound-variable e h = bound-number negate-head ∙ simp (e, le-leb (byte s (at + 1)) m h)
+
+  pub bound-8 : byte s at ≤ 2 → (byte s at ≡ 2 → ⊥) → (byte s (at + 1) ≡ 0 → ⊥) → head-number (require-bound s at m negate-head) ≡ 8
+  bound-8 i h k = bound-number negate-head ∙ simp (le-leb (byte s at) 2 i, ne-eqb (byte s at) 2 h, ne-eqb (byte s (at + 1)) 0 k)
+
+  pub bound-origin : byte s at ≡ 0 → byte s (at + 1) ≡ 0 → head-number (require-bound s at m negate-head) ≡ cond (leb (natAbs (signed (word s (at + 2)))) 4095) 0 8
+  bound-origin e h = bound-number negate-head ∙ simp (e, h)
+
+  pub bound-infinity : byte s at ≡ 1 → byte s (at + 1) ≡ 0 → word s (at + 2) ≡ 0 → head-number (require-bound s at m negate-head) ≡ 0
+  unfolding signed
+  bound-infinity e h k = bound-number negate-head ∙ simp (e, h, k)
+
+  pub bound-infinity-8 : byte s at ≡ 1 → byte s (at + 1) ≡ 0 → (word s (at + 2) ≡ 0 → ⊥) → head-number (require-bound s at m negate-head) ≡ 8
+  bound-infinity-8 e h k = bound-number negate-head ∙ simp (e, h, ne-eqb (word s (at + 2)) 0 k)
+
+-- ---- two bounds, one after the other
+
+f : Bool → Bool → Bool → Bool → Bool → ℕ → ℕ
+f a b c d e x = cond a (cond b (cond c (cond d (cond e x 8) 8) 8) 6) 5
+
+passes : (a b c d e : Bool) (x : ℕ) → f a b c d e 0 ≡ 0 → f a b c d e x ≡ x
+unfolding f
+passes true true true true true x h = refl
+passes true true true true false x h = absurd (omega arith)
+passes true true true false e x h = absurd (omega arith)
+passes true true false d e x h = absurd (omega arith)
+passes true false c d e x h = absurd (omega arith)
+passes false b c d e x h = absurd (omega arith)
+
+stops : (a b c d e : Bool) (x : ℕ) → (f a b c d e 0 ≡ 0 → ⊥) → f a b c d e x ≡ f a b c d e 0
+unfolding f
+stops true true true true true x h = absurd (h refl)
+stops true true true true false x h = refl
+stops true true true false e x h = refl
+stops true true false d e x h = refl
+stops true false c d e x h = refl
+stops false b c d e x h = refl
+
+module _ (s : List ℕ) (at m : ℕ) (next : Head) where
+  first-passes : head-number (require-bound s at m negate-head) ≡ 0 → head-number (require-bound s at m next) ≡ head-number next
+  unfolding f
+  first-passes h = bound-number s at m next ∙ passes (leb (byte s at) 2) (not (eqb (byte s at) 2) || leb (byte s (at + 1)) m) (eqb (byte s at) 2 || eqb (byte s (at + 1)) 0) (not (eqb (byte s at) 1) || eqb (word s (at + 2)) 0) (leb (natAbs (signed (word s (at + 2)))) 4095) (head-number next) (sym (bound-number s at m negate-head) ∙ h)
+
+  first-stops : (head-number (require-bound s at m negate-head) ≡ 0 → ⊥) → head-number (require-bound s at m next) ≡ head-number (require-bound s at m negate-head)
+  unfolding f
+  first-stops h = bound-number s at m next ∙ stops (leb (byte s at) 2) (not (eqb (byte s at) 2) || leb (byte s (at + 1)) m) (eqb (byte s at) 2 || eqb (byte s (at + 1)) 0) (not (eqb (byte s at) 1) || eqb (word s (at + 2)) 0) (leb (natAbs (signed (word s (at + 2)))) 4095) (head-number next) (λ e. h (bound-number s at m negate-head ∙ e)) ∙ sym (bound-number s at m negate-head)
+
+-- ---- the contents
+
+module _ (s : List ℕ) (at m : ℕ) where
+  pub contents-6 : byte s at ≡ 1 → m < byte s (at + 1) → head-number (contents s at m) ≡ 6
+  unfolding contents
+  contents-6 e h = simp (e, require-number, lt-leb (byte s (at + 1)) m h)
+
+  pub contents-7 : byte s at ≡ 1 → byte s (at + 1) ≤ m → 7 < byte s (at + 2) → head-number (contents s at m) ≡ 7
+  unfolding contents
+  contents-7 e h k = simp (e, require-number, le-leb (byte s (at + 1)) m h, lt-leb (byte s (at + 2)) 7 k)
+
+  pub contents-flag : byte s at ≡ 1 → byte s (at + 1) ≤ m → byte s (at + 2) ≤ 7 → head-number (contents s at m) ≡ 0
+  unfolding contents
+  contents-flag e h k = simp (e, require-number, le-leb (byte s (at + 1)) m h, le-leb (byte s (at + 2)) 7 k)
+
+  forall-contents : byte s at ≡ 5 → head-number (contents s at m) ≡ head-number (require-bound s (at + 1) m (require-bound s (at + 5) m (forall-head (bound s (at + 1)) (bound s (at + 5)))))
+  unfolding contents
+  forall-contents e = simp e
+
+  pub contents-first : byte s at ≡ 5 → (head-number (require-bound s (at + 1) m negate-head) ≡ 0 → ⊥) → head-number (contents s at m) ≡ head-number (require-bound s (at + 1) m negate-head)
+  contents-first e h = forall-contents e ∙ first-stops s (at + 1) m _ h
+
+  pub contents-second : byte s at ≡ 5 → head-number (require-bound s (at + 1) m negate-head) ≡ 0 → head-number (contents s at m) ≡ head-number (require-bound s (at + 5) m negate-head)
+  contents-second e h = forall-contents e ∙ first-passes s (at + 1) m _ h ∙ bound-number s (at + 5) m (forall-head (bound s (at + 1)) (bound s (at + 5))) ∙ sym (bound-number s (at + 5) m negate-head)
+
+  pub contents-plain : 2 ≤ byte s at → byte s at ≤ 4 → head-number (contents s at m) ≡ 0
+  unfolding contents
+  contents-plain h k = go (by-order (byte s at) 2) (by-order (byte s at) 3)
+    where
+      go : (byte s at ≤ 2) ⊎ (2 < byte s at) → (byte s at ≤ 3) ⊎ (3 < byte s at) → head-number (contents s at m) ≡ 0
+      go (inl i) j = let e : byte s at ≡ 2 = omega arith in simp e
+      go (inr i) (inl j) = let e : byte s at ≡ 3 = omega arith in simp e
+      go (inr i) (inr j) = let e : byte s at ≡ 4 = omega arith in simp e
+
+-- ---- the head
+
+module _ (s : List ℕ) (at m left : ℕ) where
+  number-of-head : head-number (head s at m left) ≡
+      cond (ltb at (length s)) (cond (leb 1 (byte s at) && leb (byte s at) 5) (cond (leb 1 left) (cond (not (eqb (byte s at) 5) || ltb m 4)
+      (cond (leb (at + fixed (byte s at)) (length s)) (head-number (contents s at m)) 4) 9) 9) 5) 4
+  unfolding head
+  number-of-head = simp require-number
+
+  pub head-4 : length s ≤ at → head-number (head s at m left) ≡ 4
+  head-4 h = number-of-head ∙ simp (le-ltb at (length s) h)
+
+  module _ (a : at < length s) where
+    pub head-5 : (leb 1 (byte s at) && leb (byte s at) 5) ≡ false → head-number (head s at m left) ≡ 5
+    head-5 h = number-of-head ∙ simp (lt-ltb at (length s) a, h)
+
+    module _ (b : (leb 1 (byte s at) && leb (byte s at) 5) ≡ true) where
+      pub head-9 : (leb 1 left && (not (eqb (byte s at) 5) || ltb m 4)) ≡ false → head-number (head s at m left) ≡ 9
+      head-9 h = number-of-head ∙ simp (lt-ltb at (length s) a, b) (one-fails (leb 1 left) (not (eqb (byte s at) 5) || ltb m 4) _ h)
+        where
+          one-fails : (x y : Bool) (n : ℕ) → (x && y) ≡ false → cond x (cond y n 9) 9 ≡ 9
+          one-fails true true n e = absurd (true≢false e)
+          one-fails true false n e = refl
+          one-fails false y n e = refl
+
+      module _ (c : (leb 1 left && (not (eqb (byte s at) 5) || ltb m 4)) ≡ true) where
+        pub head-4b : length s < at + fixed (byte s at) → head-number (head s at m left) ≡ 4
+        head-4b h =
+            let p = and-true (leb 1 left) (not (eqb (byte s at) 5) || ltb m 4) c in
+            number-of-head ∙ simp (lt-ltb at (length s) a, b, p .0, p .1, lt-leb (at + fixed (byte s at)) (length s) h)
+
+        pub head-contents : at + fixed (byte s at) ≤ length s → head-number (head s at m left) ≡ head-number (contents s at m)
+        head-contents h =
+            let p = and-true (leb 1 left) (not (eqb (byte s at) 5) || ltb m 4) c in
+            number-of-head ∙ simp (lt-ltb at (length s) a, b, p .0, p .1, le-leb (at + fixed (byte s at)) (length s) h)

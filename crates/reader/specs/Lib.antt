@@ -1,0 +1,4 @@
+pub mod Checks
+pub mod Written
+pub mod Filled
+pub mod Decoded

@@ -1,0 +1,103 @@
+-- The walk over a range's positions: upward, one position at a time, and no further once it is settled.
+use Prim.Native.Nat.{ℕ, zero, suc, _+_, _-_, _≤_, _<_, max}
+use mathlib.Core.Path.{_≡_, refl, sym, ap, _∙_}
+use mathlib.Core.Bool.{Bool, true, false, false≢true}
+use mathlib.Core.List.{List, [], _∷_, _++_}
+use native.Mathlib.Omega.{arith}
+use lib.ListN.{length, getD}
+use borrow.Author.Tests.{leb-true, lt-ltb, le-ltb}
+use Rattle.rule.specs.declared.Verdict.the-variants.{True, False}
+use Rattle.rule.specs.declared.Outcome.{Outcome}
+use Rattle.rule.specs.declared.Outcome.the-variants.{Decided, Open}
+use Rattle.rule.specs.Formula.{Formula, flag}
+use Rattle.rule.specs.Meaning.{Range, range, walk, seen, both, outcome}
+use Rattle.rule.specs.Recording.{recorded}
+use Rattle.rule.proofs.Every.{seen-in, seen-out, walk-next}
+use Rattle.rule.proofs.Horizon.{From, from-less, from-seen, from-start}
+use Rattle.nodes.specs.Table.{bound-at, formula-in}
+use Rattle.ranges.specs.Spans.{held, held-at}
+use Rattle.ranges.specs.Plans.{Plans}
+use Rattle.ranges.proofs.Held.{held-at-same, getD-held}
+use Rattle.ranges.proofs.Bounds.{range-same}
+use Rattle.ranges.proofs.Planning.{plans-same}
+use Rattle.outcomes.proofs.Conjunction.{both-exchange, both-settled}
+use Rattle.recording.specs.declared.env.Env.{Env}
+use Rattle.recording.specs.Evaluating.{places, entered, settled, forall-in, Ready}
+use Rattle.recording.proofs.Environment.{place-at, places-more}
+
+-- ---- any walk
+
+-- an outcome beside a walk stands beside its end
+both-walk : (f : ℕ → Outcome) (n q : ℕ) (o end : Outcome) → both o (walk f n q end) ≡ walk f n q (both o end)
+unfolding walk
+both-walk f zero q o end = refl
+both-walk f (suc n) q o end = both-exchange o (f q) (walk f n (suc q) end) ∙ ap (both (f q)) (both-walk f n (suc q) o end)
+
+-- one position further
+pub walk-step : (f : ℕ → Outcome) (n q : ℕ) {o r : Outcome} (acc : Outcome) → 0 < n → o ≡ f q → r ≡ both o acc → walk f n q acc ≡ walk f (n - 1) (q + 1) r
+walk-step f n q {o} {r} acc h e g =
+    walk-next f n q acc (λ z. omega arith)
+    ∙ both-walk f (n - 1) (q + 1) (f q) acc
+    ∙ ap (walk f (n - 1) (q + 1)) (ap (λ (x : Outcome). both x acc) (sym e) ∙ sym g)
+
+-- false at step d, and no position further on is decided before d
+walk-settled : (f : ℕ → Outcome) (d : ℕ) (n q : ℕ) → ((p : ℕ) → q ≤ p → From d (f p)) → walk f n q (Decided False d) ≡ Decided False d
+unfolding walk
+walk-settled f d zero q h = refl
+walk-settled f d (suc n) q h =
+    ap (both (f q)) (walk-settled f d n (suc q) (λ p k. h p (omega arith))) ∙ both-settled d (f q) (h q (omega arith))
+
+walk-done : (f : ℕ → Outcome) (start n q : ℕ) (acc : Outcome) → ((p : ℕ) → q ≤ p → From start (f p)) → settled acc start ≡ true → walk f n q acc ≡ acc
+walk-done f start n q (Decided True d) h e = absurd (false≢true e)
+walk-done f start n q (Decided False d) h e = walk-settled f d n q (λ p k. from-less (f p) (leb-true d start e) (h p k))
+walk-done f start n q Open h e = absurd (false≢true e)
+
+-- ---- the bodies of a "for all"
+
+-- The outcome of the body at position q: "starts its body at max(s, q); one above t is open".
+abbrev pub body-at : Formula → List ℕ → ℕ → List ℕ → ℕ → ℕ → Outcome
+body-at F rec t env s q = seen t q (outcome F (recorded rec) t (env ++ (q ∷ [])) (max s q))
+
+body-from : (F : Formula) (rec : List ℕ) (t : ℕ) (env : List ℕ) (s q : ℕ) → From (max s q) (body-at F rec t env s q)
+body-from F rec t env s q =
+    from-seen (max s q) t q (outcome F (recorded rec) t (env ++ (q ∷ [])) (max s q)) (from-start F (recorded rec) t (env ++ (q ∷ [])) (max s q))
+
+pub body-settled : (F : Formula) (rec : List ℕ) (t : ℕ) (env : List ℕ) (s n q : ℕ) (acc : Outcome) {start : ℕ} {b : Bool}
+    → start ≡ max s q → b ≡ settled acc start → b ≡ true → walk (body-at F rec t env s) n q acc ≡ acc
+body-settled F rec t env s n q acc {start} {b} e f g =
+    walk-done (body-at F rec t env s) start n q acc
+    (λ p k. from-less (body-at F rec t env s p) (omega arith) (body-from F rec t env s p)) (sym f ∙ g)
+
+module _ (left : ℕ) (ns : List ℕ) (i : ℕ) (rec : List ℕ) (t : ℕ) (e : Env) (s : ℕ) where
+  -- the body's formula
+  abbrev body : Formula
+  body = formula-in left ns (e .nested + 1) (i + 12)
+
+  -- what the evaluator answers at position q
+  pub body-here : (q : ℕ) {e′ : Env} {start : ℕ} {o : Outcome} → length (e .pos) ≡ 5 → e .nested < 4 → q ≤ t → e′ ≡ entered e q → start ≡ max s q
+      → o ≡ outcome (formula-in left ns (e′ .nested) (i + 12)) (recorded rec) t (places e′) start → o ≡ body-at body rec t (places e) s q
+  body-here q {e′} {start} {o} l h k x y z =
+      z
+      ∙ ap (λ (w : Env). outcome (formula-in left ns (w .nested) (i + 12)) (recorded rec) t (places w) start) x
+      ∙ ap (λ (w : List ℕ). outcome body (recorded rec) t w start) (places-more e q l h)
+      ∙ ap (λ (w : ℕ). outcome body (recorded rec) t (places e ++ (q ∷ [])) w) y
+      ∙ sym (seen-in t q (outcome body (recorded rec) t (places e ++ (q ∷ [])) (max s q)) k)
+
+  -- the plan is one for the definition's range
+  pub plan-here : {r : Range} {first n : ℕ} {end : Outcome} → Ready (suc left) i t e → r ≡ range (bound-at ns (i + 1)) (bound-at ns (i + 4)) (held (e .pos))
+      → Plans r (held-at t) s first n end → Plans (range (bound-at ns (i + 1)) (bound-at ns (i + 4)) (places e)) t s first n end
+  plan-here y x p =
+      plans-same (x ∙ range-same (bound-at ns (i + 1)) (bound-at ns (i + 4)) (held (e .pos)) (places e) at) (held-at-same (omega (arith, y .early))) p
+    where
+      at : (v : ℕ) → getD (held (e .pos)) v 0 ≡ getD (places e) v 0
+      at v = getD-held (e .pos) v ∙ held-at-same (omega (arith, y .within v, y .early)) ∙ place-at y v
+
+  -- the walk of a plan is the "for all"
+  pub by-forall : {first n : ℕ} {end : Outcome} → e .nested < 4 → Plans (range (bound-at ns (i + 1)) (bound-at ns (i + 4)) (places e)) t s first n end
+      → outcome (forall-in left ns (e .nested) i) (recorded rec) t (places e) s ≡ walk (body-at body rec t (places e) s) n first end
+  unfolding outcome
+  by-forall h p = rw (lt-ltb (e .nested) 4 h) (p .same (body-at body rec t (places e) s) (λ q k. seen-out t q (outcome body (recorded rec) t (places e ++ (q ∷ [])) (max s q)) k))
+
+  -- inside 4 quantifiers there is no fifth
+  pub no-forall : 4 ≤ e .nested → forall-in left ns (e .nested) i ≡ flag 0 0
+  no-forall h = rw (le-ltb (e .nested) 4 h)

@@ -1,0 +1,401 @@
+-- `recording::evaluate::evaluate` and `walk_range` meet their contracts: the evaluator answers the formula's outcome for any table, and the
+-- walker that of a "for all". The formulas left fall from call to call, and the walker's positions from turn to turn.
+-- Assumes nothing.
+use mathlib.Core.Path.{_≡_, sym, _∙_}
+use mathlib.Core.List.{List}
+use native.Mathlib.Omega.{arith}
+use borrow.Author.Needs.{needs}
+use lib.ListN.{getD}
+use Rattle.rule.specs.Meaning.{walk, outcome}
+use Rattle.rule.specs.Recording.{recorded}
+use Rattle.rule.proofs.Every.{walk-none}
+use Rattle.nodes.specs.Table.{formula-in}
+use Rattle.recording.specs.Evaluating.{places, forall-in, Ready}
+use Rattle.recording.proofs.Environment.{place-at, ready-part, ready-range, ready-body}
+use Rattle.recording.proofs.Nodes.{none-in, negate-in, then-in, beside-in, range-in, flag-in}
+use Rattle.recording.proofs.Parts.{by-same, by-flag, by-negate, by-beside, then-true, then-false, then-open}
+use Rattle.recording.proofs.Walking.{body-at, walk-step, body-settled, body-here, plan-here, by-forall, no-forall}
+use Prim.Native.Nat.{ℕ, suc, _+_, _*_, _-_, _≤_, _<_}
+use borrow.Fn.Kinds.{In}
+use borrow.Fn.PlainCycle.{Measures, is, falls, and}
+use Rattle.recording.proofs.evaluate.evaluate.Reads as evaluate
+use Rattle.recording.proofs.evaluate.evaluate.Kinds as evaluate-kinds
+use Rattle.recording.proofs.evaluate.+evaluate+walk_range.Lts-evaluate as evaluate-lts
+use Rattle.recording.proofs.evaluate.walk_range.Reads as walk-range
+use Rattle.recording.proofs.evaluate.walk_range.Kinds as walk-range-kinds
+use Rattle.recording.proofs.evaluate.+evaluate+walk_range.Lts-walk_range as walk-range-lts
+use Rattle.nodes.proofs.node_word.Reads as node-word-reads
+use Rattle.outcomes.proofs.both.Reads as both-reads
+use Rattle.outcomes.proofs.later.Reads as later-reads
+use Rattle.outcomes.proofs.opposite.Reads as opposite-reads
+use Rattle.ranges.proofs.plan_up_to.Reads as plan-up-to-reads
+use Rattle.ranges.proofs.range_at.Reads as range-at-reads
+use Rattle.recording.proofs.env.enter.Reads as enter-reads
+use Rattle.recording.proofs.evaluate.flag_at.Reads as flag-at-reads
+use Rattle.recording.proofs.evaluate.settled.Reads as settled-reads
+use Rattle.recording.proofs.evaluate.+evaluate+walk_range.{statement}
+use Rattle.recording.proofs.evaluate.+evaluate+walk_range.Tie.{close}
+
+abbrev μ-evaluate : Measures 2 evaluate-kinds.ps ℕ
+μ-evaluate κs a = 2 * a .1 .0
+
+abbrev μ-walk-range : Measures 2 walk-range-kinds.ps ℕ
+μ-walk-range κs a = 2 * a .1 .0 + 1
+
+abbrev evaluate-at : ℕ → In 2 evaluate-kinds.ps
+evaluate-at t = and 2 evaluate-kinds.ps (is 2 evaluate-kinds.ps μ-evaluate t) evaluate.Pre
+
+abbrev evaluate-below : ℕ → In 2 evaluate-kinds.ps
+evaluate-below t =
+    and 2 evaluate-kinds.ps (falls 2 evaluate-kinds.ps _<_ μ-evaluate t) evaluate.Pre
+
+abbrev walk-range-at : ℕ → In 2 walk-range-kinds.ps
+walk-range-at t =
+    and 2 walk-range-kinds.ps (is 2 walk-range-kinds.ps μ-walk-range t) walk-range.Pre
+
+abbrev walk-range-below : ℕ → In 2 walk-range-kinds.ps
+walk-range-below t =
+    and 2 walk-range-kinds.ps (falls 2 walk-range-kinds.ps _<_ μ-walk-range t) walk-range.Pre
+
+abbrev evaluate-claims : ℕ → evaluate-lts.Claims
+evaluate-claims t = (flag-at-reads.Asked, flag-at-reads.Learnt, node-word-reads.Asked, node-word-reads.Learnt, evaluate-below t, evaluate.Post, opposite-reads.Asked, opposite-reads.Learnt, both-reads.Asked, both-reads.Learnt, walk-range-below t, walk-range.Post)
+
+abbrev walk-range-claims : ℕ → walk-range-lts.Claims
+walk-range-claims t = (flag-at-reads.Asked, flag-at-reads.Learnt, range-at-reads.Asked, range-at-reads.Learnt, plan-up-to-reads.Asked, plan-up-to-reads.Learnt, later-reads.Asked, later-reads.Learnt, settled-reads.Asked, settled-reads.Learnt, enter-reads.Asked, enter-reads.Learnt, evaluate-below t, evaluate.Post, both-reads.Asked, both-reads.Learnt)
+
+-- ---- after the code is read
+
+abbrev Coded : ℕ → Type 0
+Coded t = evaluate-lts.After-node-word (evaluate-claims t) (evaluate-at t) evaluate.Post
+
+module _ (t : ℕ) (n : Coded t) where
+  abbrev start : evaluate-lts.Start (evaluate-claims t) (evaluate-at t) evaluate.Post
+  start = n .before .before .before .before
+
+  abbrev ns : List ℕ
+  ns = start .args .nodes .now
+
+  some : start .args .left ≡ 0 → ⊥
+  some = n .before .if1 .left
+
+  code : (k : ℕ) → n .node-word .result ≡ k → getD ns (start .args .i + 0) 0 ≡ k
+  code k e = sym (n .node-word .ensures) ∙ e
+
+  no-code : (k : ℕ) → (n .node-word .result ≡ k → ⊥) → getD ns (start .args .i + 0) 0 ≡ k → ⊥
+  no-code k h e = h (n .node-word .ensures ∙ e)
+
+  falls-by : 2 * (start .args .left - 1) + 1 < t
+  falls-by = omega (arith, some, start .pre .0)
+
+  first-ready : (2 * (start .args .left - 1) < t) × Ready (start .args .left - 1) (start .args .i + 12) (start .args .t) (start .args .env)
+  first-ready = (omega (arith, falls-by), ready-part (start .pre .1) some (omega (arith, some, start .pre .1 .near)))
+
+  second-ready : (j : ℕ) → j < 4294967296 → (2 * (start .args .left - 1) < t) × Ready (start .args .left - 1) j (start .args .t) (start .args .env)
+  second-ready j h = (omega (arith, falls-by), ready-part (start .pre .1) some (omega (arith, some, start .pre .1 .few)))
+
+evaluate-flag-at-requires : (t : ℕ) → evaluate-lts.Need-flag-at-requires (evaluate-claims t) (evaluate-at t) evaluate.Post
+evaluate-flag-at-requires t c κs = search needs
+
+evaluate-returns : (t : ℕ) → evaluate-lts.Need-returns (evaluate-claims t) (evaluate-at t) evaluate.Post
+evaluate-returns t c =
+    let s = c .before .before .before .before in
+    by-flag (s .args .recording .now) (s .args .t) (places (s .args .env)) (s .args .s) (none-in (s .args .left) (s .args .nodes .now) (s .args .env .nested) (s .args .i) (c .before .if1 .taken)) (place-at (s .pre .1) 0) (c .flag-at .ensures)
+
+evaluate-node-word-requires : (t : ℕ) → evaluate-lts.Need-node-word-requires (evaluate-claims t) (evaluate-at t) evaluate.Post
+evaluate-node-word-requires t c κs = search needs
+
+evaluate-sub-evaluate : (t : ℕ) → evaluate-lts.Need-sub-evaluate (evaluate-claims t) (evaluate-at t) evaluate.Post
+evaluate-sub-evaluate t c = omega (arith, some t (c .before))
+
+evaluate-add-evaluate : (t : ℕ) → evaluate-lts.Need-add-evaluate (evaluate-claims t) (evaluate-at t) evaluate.Post
+evaluate-add-evaluate t c = omega (arith, c .before .before .before .before .before .pre .1 .near)
+
+evaluate-evaluate-requires : (t : ℕ) → evaluate-lts.Need-evaluate-requires (evaluate-claims t) (evaluate-at t) evaluate.Post
+evaluate-evaluate-requires t c κs = first-ready t (c .before)
+
+evaluate-opposite-requires : (t : ℕ) → evaluate-lts.Need-opposite-requires (evaluate-claims t) (evaluate-at t) evaluate.Post
+evaluate-opposite-requires t c κs = search needs
+
+evaluate-returns-2 : (t : ℕ) → evaluate-lts.Need-returns-2 (evaluate-claims t) (evaluate-at t) evaluate.Post
+evaluate-returns-2 t c =
+    let n = c .before .before .before in
+    let s = c .before .before .before .before .before .before .before in
+    by-negate (s .args .recording .now) (s .args .t) (places (s .args .env)) (s .args .s) (negate-in (s .args .left) (s .args .nodes .now) (s .args .env .nested) (s .args .i) (some t n) (code t n 2 (c .before .before .if2 .taken))) (c .before .evaluate .ensures) (c .opposite .ensures)
+
+evaluate-sub-evaluate-2 : (t : ℕ) → evaluate-lts.Need-sub-evaluate-2 (evaluate-claims t) (evaluate-at t) evaluate.Post
+evaluate-sub-evaluate-2 t c = omega (arith, some t (c .before .before))
+
+evaluate-add-evaluate-2 : (t : ℕ) → evaluate-lts.Need-add-evaluate-2 (evaluate-claims t) (evaluate-at t) evaluate.Post
+evaluate-add-evaluate-2 t c = omega (arith, c .before .before .before .before .before .before .pre .1 .near)
+
+evaluate-evaluate-requires-2 : (t : ℕ) → evaluate-lts.Need-evaluate-requires-2 (evaluate-claims t) (evaluate-at t) evaluate.Post
+evaluate-evaluate-requires-2 t c κs = first-ready t (c .before .before)
+
+evaluate-node-word-requires-2 : (t : ℕ) → evaluate-lts.Need-node-word-requires-2 (evaluate-claims t) (evaluate-at t) evaluate.Post
+evaluate-node-word-requires-2 t c κs = search needs
+
+evaluate-cast-second : (t : ℕ) → evaluate-lts.Need-cast-second (evaluate-claims t) (evaluate-at t) evaluate.Post
+evaluate-cast-second t c = search needs
+
+evaluate-enum-known-first : (t : ℕ) → evaluate-lts.Need-enum-known-first (evaluate-claims t) (evaluate-at t) evaluate.Post
+evaluate-enum-known-first t c = search needs
+
+evaluate-enum-told : (t : ℕ) → evaluate-lts.Need-enum-told (evaluate-claims t) (evaluate-at t) evaluate.Post
+evaluate-enum-told t c = search needs
+
+evaluate-sub-evaluate-3 : (t : ℕ) → evaluate-lts.Need-sub-evaluate-3 (evaluate-claims t) (evaluate-at t) evaluate.Post
+evaluate-sub-evaluate-3 t c = omega (arith, some t (c .before .before .before .before .before .before .before .before .before))
+
+evaluate-evaluate-requires-3 : (t : ℕ) → evaluate-lts.Need-evaluate-requires-3 (evaluate-claims t) (evaluate-at t) evaluate.Post
+evaluate-evaluate-requires-3 t c κs =
+    let w = c .before .before .before .before .before .node-word2 in
+    second-ready t (c .before .before .before .before .before .before .before .before .before) (w .result) (omega (arith, w .ok))
+
+evaluate-enum-told-2 : (t : ℕ) → evaluate-lts.Need-enum-told-2 (evaluate-claims t) (evaluate-at t) evaluate.Post
+evaluate-enum-told-2 t c = search needs
+
+evaluate-enum-told-3 : (t : ℕ) → evaluate-lts.Need-enum-told-3 (evaluate-claims t) (evaluate-at t) evaluate.Post
+evaluate-enum-told-3 t c = search needs
+
+evaluate-returns-3 : (t : ℕ) → evaluate-lts.Need-returns-3 (evaluate-claims t) (evaluate-at t) evaluate.Post
+evaluate-returns-3 t c =
+    let n = c .before .before .before .before .before .before .before .before .before .before in
+    let s = c .before .before .before .before .before .before .before .before .before .before .before .before .before .before in
+    then-true (s .args .recording .now) (s .args .t) (places (s .args .env)) (s .args .s) (then-in (s .args .left) (s .args .nodes .now) (s .args .env .nested) (s .args .i) (some t n) (code t n 3 (c .before .before .before .before .before .before .before .before .if3 .taken)) (c .before .before .before .before .before .before .node-word2 .ensures))
+    (c .before .before .before .before .before .before .before .evaluate2 .ensures) (c .before .before .before .before .first .given .1) (c .before .enum-told .given .1) (c .evaluate3 .ensures)
+
+evaluate-returns-4 : (t : ℕ) → evaluate-lts.Need-returns-4 (evaluate-claims t) (evaluate-at t) evaluate.Post
+evaluate-returns-4 t c =
+    let n = c .before .before .before .before .before .before .before .before .before in
+    let s = c .before .before .before .before .before .before .before .before .before .before .before .before .before in
+    then-false (s .args .recording .now) (s .args .t) (places (s .args .env)) (s .args .s) (then-in (s .args .left) (s .args .nodes .now) (s .args .env .nested) (s .args .i) (some t n) (code t n 3 (c .before .before .before .before .before .before .before .if3 .taken)) (c .before .before .before .before .before .node-word2 .ensures))
+    (c .before .before .before .before .before .before .evaluate2 .ensures) (c .before .before .before .first .given .1) (c .enum-told2 .given .1)
+
+evaluate-returns-5 : (t : ℕ) → evaluate-lts.Need-returns-5 (evaluate-claims t) (evaluate-at t) evaluate.Post
+evaluate-returns-5 t c =
+    let n = c .before .before .before .before .before .before in
+    let s = c .before .before .before .before .before .before .before .before .before .before in
+    then-open (s .args .recording .now) (s .args .t) (places (s .args .env)) (s .args .s) (then-in (s .args .left) (s .args .nodes .now) (s .args .env .nested) (s .args .i) (some t n) (code t n 3 (c .before .before .before .before .if3 .taken)) (c .before .before .node-word2 .ensures))
+    (c .before .before .before .evaluate2 .ensures) (c .enum-told3 .given .1)
+
+evaluate-sub-evaluate-4 : (t : ℕ) → evaluate-lts.Need-sub-evaluate-4 (evaluate-claims t) (evaluate-at t) evaluate.Post
+evaluate-sub-evaluate-4 t c = omega (arith, some t (c .before .before .before))
+
+evaluate-add-evaluate-3 : (t : ℕ) → evaluate-lts.Need-add-evaluate-3 (evaluate-claims t) (evaluate-at t) evaluate.Post
+evaluate-add-evaluate-3 t c = omega (arith, c .before .before .before .before .before .before .before .pre .1 .near)
+
+evaluate-evaluate-requires-4 : (t : ℕ) → evaluate-lts.Need-evaluate-requires-4 (evaluate-claims t) (evaluate-at t) evaluate.Post
+evaluate-evaluate-requires-4 t c κs = first-ready t (c .before .before .before)
+
+evaluate-node-word-requires-3 : (t : ℕ) → evaluate-lts.Need-node-word-requires-3 (evaluate-claims t) (evaluate-at t) evaluate.Post
+evaluate-node-word-requires-3 t c κs = search needs
+
+evaluate-cast-second-2 : (t : ℕ) → evaluate-lts.Need-cast-second-2 (evaluate-claims t) (evaluate-at t) evaluate.Post
+evaluate-cast-second-2 t c = search needs
+
+evaluate-sub-evaluate-5 : (t : ℕ) → evaluate-lts.Need-sub-evaluate-5 (evaluate-claims t) (evaluate-at t) evaluate.Post
+evaluate-sub-evaluate-5 t c = omega (arith, some t (c .before .before .before .before .before))
+
+evaluate-evaluate-requires-5 : (t : ℕ) → evaluate-lts.Need-evaluate-requires-5 (evaluate-claims t) (evaluate-at t) evaluate.Post
+evaluate-evaluate-requires-5 t c κs =
+    let w = c .node-word3 in
+    second-ready t (c .before .before .before .before .before) (w .result) (omega (arith, w .ok))
+
+evaluate-both-requires : (t : ℕ) → evaluate-lts.Need-both-requires (evaluate-claims t) (evaluate-at t) evaluate.Post
+evaluate-both-requires t c κs = search needs
+
+evaluate-returns-6 : (t : ℕ) → evaluate-lts.Need-returns-6 (evaluate-claims t) (evaluate-at t) evaluate.Post
+evaluate-returns-6 t c =
+    let n = c .before .before .before .before .before .before .before in
+    let s = c .before .before .before .before .before .before .before .before .before .before .before in
+    by-beside (s .args .recording .now) (s .args .t) (places (s .args .env)) (s .args .s) (beside-in (s .args .left) (s .args .nodes .now) (s .args .env .nested) (s .args .i) (some t n) (code t n 4 (c .before .before .before .before .if4 .taken)) (c .before .before .node-word3 .ensures))
+    (c .before .before .before .evaluate4 .ensures) (c .before .evaluate5 .ensures) (c .both .ensures)
+
+evaluate-sub-walk-range : (t : ℕ) → evaluate-lts.Need-sub-walk-range (evaluate-claims t) (evaluate-at t) evaluate.Post
+evaluate-sub-walk-range t c = omega (arith, some t (c .before .before .before .before))
+
+evaluate-walk-range-requires : (t : ℕ) → evaluate-lts.Need-walk-range-requires (evaluate-claims t) (evaluate-at t) evaluate.Post
+evaluate-walk-range-requires t c κs = (falls-by t (c .before .before .before .before), ready-range (c .before .before .before .before .before .before .before .before .pre .1) (some t (c .before .before .before .before)))
+
+evaluate-returns-7 : (t : ℕ) → evaluate-lts.Need-returns-7 (evaluate-claims t) (evaluate-at t) evaluate.Post
+evaluate-returns-7 t c =
+    let n = c .before .before .before .before .before in
+    let s = c .before .before .before .before .before .before .before .before .before in
+    by-same (s .args .recording .now) (s .args .t) (places (s .args .env)) (s .args .s) (range-in (s .args .left) (s .args .nodes .now) (s .args .env .nested) (s .args .i) (some t n) (code t n 5 (c .before .if5 .taken))) (c .walk-range .ensures)
+
+evaluate-node-word-requires-4 : (t : ℕ) → evaluate-lts.Need-node-word-requires-4 (evaluate-claims t) (evaluate-at t) evaluate.Post
+evaluate-node-word-requires-4 t c κs = search needs
+
+evaluate-node-word-requires-5 : (t : ℕ) → evaluate-lts.Need-node-word-requires-5 (evaluate-claims t) (evaluate-at t) evaluate.Post
+evaluate-node-word-requires-5 t c κs = search needs
+
+evaluate-flag-at-requires-2 : (t : ℕ) → evaluate-lts.Need-flag-at-requires-2 (evaluate-claims t) (evaluate-at t) evaluate.Post
+evaluate-flag-at-requires-2 t c κs = search needs
+
+evaluate-returns-8 : (t : ℕ) → evaluate-lts.Need-returns-8 (evaluate-claims t) (evaluate-at t) evaluate.Post
+evaluate-returns-8 t c =
+    let n = c .before .before .before .before .before .before .before in
+    let s = c .before .before .before .before .before .before .before .before .before .before .before in
+    by-flag (s .args .recording .now) (s .args .t) (places (s .args .env)) (s .args .s)
+    (flag-in (s .args .left) (s .args .nodes .now) (s .args .env .nested) (s .args .i) (some t n) (no-code t n 2 (c .before .before .before .before .before .before .if2 .left)) (no-code t n 3 (c .before .before .before .before .before .if3 .left)) (no-code t n 4 (c .before .before .before .before .if4 .left)) (no-code t n 5 (c .before .before .before .if5 .left)) (c .before .before .node-word4 .ensures) (c .before .node-word5 .ensures))
+    (place-at (s .pre .1) (c .before .before .node-word4 .result)) (c .flag-at2 .ensures)
+
+abbrev walk-range-Inv-loop : walk-range-lts.InvT-loop
+walk-range-Inv-loop nodes left i recording t env s acc₀ q₀ n₀ acc q n =
+    (n ≤ suc t - q) × (outcome (forall-in left nodes (env .nested) i) (recorded recording) t (places env) s
+    ≡ walk (body-at (formula-in left nodes (env .nested + 1) (i + 12)) recording t (places env) s) n q acc)
+
+abbrev walk-range-μ-loop : walk-range-lts.MeasureT-loop
+walk-range-μ-loop nodes left i recording t env s acc₀ q₀ n₀ acc q n = n
+
+walk-range-flag-at-requires : (t : ℕ) → walk-range-lts.Need-flag-at-requires (walk-range-claims t) (walk-range-at t) walk-range.Post walk-range-Inv-loop walk-range-μ-loop
+walk-range-flag-at-requires t c κs = search needs
+
+walk-range-returns : (t : ℕ) → walk-range-lts.Need-returns (walk-range-claims t) (walk-range-at t) walk-range.Post walk-range-Inv-loop walk-range-μ-loop
+walk-range-returns t c =
+    let s = c .before .before .before .before .before in
+    by-flag (s .args .recording .now) (s .args .t) (places (s .args .env)) (s .args .s) (no-forall (s .args .left) (s .args .nodes .now) (s .args .i) (s .args .recording .now) (s .args .t) (s .args .env) (s .args .s) (c .before .if1 .taken)) (place-at (s .pre .1) 0) (c .flag-at .ensures)
+
+walk-range-range-at-requires : (t : ℕ) → walk-range-lts.Need-range-at-requires (walk-range-claims t) (walk-range-at t) walk-range.Post walk-range-Inv-loop walk-range-μ-loop
+walk-range-range-at-requires t c κs = search needs
+
+walk-range-plan-up-to-requires : (t : ℕ) → walk-range-lts.Need-plan-up-to-requires (walk-range-claims t) (walk-range-at t) walk-range.Post walk-range-Inv-loop walk-range-μ-loop
+walk-range-plan-up-to-requires t c κs = search needs
+
+walk-range-loop-holds : (t : ℕ) → walk-range-lts.Need-loop-holds (walk-range-claims t) (walk-range-at t) walk-range.Post walk-range-Inv-loop walk-range-μ-loop
+walk-range-loop-holds t c =
+    let s = c .before .before .before .before .before .before .before in
+    let p = plan-here (s .args .left) (s .args .nodes .now) (s .args .i) (s .args .recording .now) (s .args .t) (s .args .env) (s .args .s) (s .pre .1) (c .before .range-at .ensures) (c .plan-up-to .ensures) in
+    (p .few, by-forall (s .args .left) (s .args .nodes .now) (s .args .i) (s .args .recording .now) (s .args .t) (s .args .env) (s .args .s) (omega (arith, c .before .before .before .if1 .left)) p)
+
+-- ---- a turn of the walk
+
+abbrev Turn : ℕ → Type 0
+Turn t = walk-range-lts.In-loop (walk-range-claims t) (walk-range-at t) walk-range.Post walk-range-Inv-loop walk-range-μ-loop
+
+module _ (t : ℕ) (l : Turn t) where
+  abbrev begun : walk-range-lts.Start (walk-range-claims t) (walk-range-at t) walk-range.Post walk-range-Inv-loop walk-range-μ-loop
+  begun = l .before .before .before .before .before .before .before .before .before
+
+  shallow : begun .args .env .nested < 4
+  shallow = omega (arith, l .before .before .before .before .before .if1 .left)
+
+  not-above : l .before .loop .q ≤ begun .args .t
+  not-above = omega (arith, l .before .loop .inv .0, l .loop-test .taken)
+
+walk-range-later-requires : (t : ℕ) → walk-range-lts.Need-later-requires (walk-range-claims t) (walk-range-at t) walk-range.Post walk-range-Inv-loop walk-range-μ-loop
+walk-range-later-requires t c κs = search needs
+
+walk-range-settled-requires : (t : ℕ) → walk-range-lts.Need-settled-requires (walk-range-claims t) (walk-range-at t) walk-range.Post walk-range-Inv-loop walk-range-μ-loop
+walk-range-settled-requires t c κs = search needs
+
+walk-range-returns-2 : (t : ℕ) → walk-range-lts.Need-returns-2 (walk-range-claims t) (walk-range-at t) walk-range.Post walk-range-Inv-loop walk-range-μ-loop
+walk-range-returns-2 t c =
+    let l = c .before .before .before .before .loop in
+    let s = c .before .before .before .before .before .before .before .before .before .before .before .before in
+    sym (l .inv .1 ∙ body-settled (formula-in (s .args .left) (s .args .nodes .now) (s .args .env .nested + 1) (s .args .i + 12)) (s .args .recording .now) (s .args .t) (places (s .args .env)) (s .args .s) (l .n) (l .q) (l .acc) (c .before .before .later .ensures) (c .before .settled .ensures) (c .if2 .taken))
+
+walk-range-add-evaluate : (t : ℕ) → walk-range-lts.Need-add-evaluate (walk-range-claims t) (walk-range-at t) walk-range.Post walk-range-Inv-loop walk-range-μ-loop
+walk-range-add-evaluate t c = omega (arith, c .before .before .before .before .before .before .before .before .before .before .before .before .pre .1 .near)
+
+walk-range-enter-requires : (t : ℕ) → walk-range-lts.Need-enter-requires (walk-range-claims t) (walk-range-at t) walk-range.Post walk-range-Inv-loop walk-range-μ-loop
+walk-range-enter-requires t c κs = shallow t (c .before .before .before)
+
+walk-range-evaluate-requires : (t : ℕ) → walk-range-lts.Need-evaluate-requires (walk-range-claims t) (walk-range-at t) walk-range.Post walk-range-Inv-loop walk-range-μ-loop
+walk-range-evaluate-requires t c κs =
+    let l = c .before .before .before .before in
+    let s = c .before .before .before .before .before .before .before .before .before .before .before .before .before in
+    (omega (arith, s .pre .0), ready-body (s .args .env) (c .before .before .before .before .before .loop .q) (s .pre .1) (shallow t l) (not-above t l) (c .enter .ensures))
+
+walk-range-both-requires : (t : ℕ) → walk-range-lts.Need-both-requires (walk-range-claims t) (walk-range-at t) walk-range.Post walk-range-Inv-loop walk-range-μ-loop
+walk-range-both-requires t c κs = search needs
+
+walk-range-add-q : (t : ℕ) → walk-range-lts.Need-add-q (walk-range-claims t) (walk-range-at t) walk-range.Post walk-range-Inv-loop walk-range-μ-loop
+walk-range-add-q t c = omega (arith, not-above t (c .before .before .before .before .before .before), c .before .before .before .before .before .before .before .before .before .before .before .before .before .before .before .pre .1 .early)
+
+walk-range-sub-n : (t : ℕ) → walk-range-lts.Need-sub-n (walk-range-claims t) (walk-range-at t) walk-range.Post walk-range-Inv-loop walk-range-μ-loop
+walk-range-sub-n t c = search needs
+
+walk-range-loop-less : (t : ℕ) → walk-range-lts.Need-loop-less (walk-range-claims t) (walk-range-at t) walk-range.Post walk-range-Inv-loop walk-range-μ-loop
+walk-range-loop-less t c = omega (arith, c .before .before .before .before .before .before .loop-test .taken)
+
+walk-range-loop-again : (t : ℕ) → walk-range-lts.Need-loop-again (walk-range-claims t) (walk-range-at t) walk-range.Post walk-range-Inv-loop walk-range-μ-loop
+walk-range-loop-again t c =
+    let l = c .before .before .before .before .before .before .before .loop in
+    let s = c .before .before .before .before .before .before .before .before .before .before .before .before .before .before .before in (
+      omega (arith, l .inv .0, c .before .before .before .before .before .before .loop-test .taken),
+      l .inv .1
+          ∙ walk-step (body-at (formula-in (s .args .left) (s .args .nodes .now) (s .args .env .nested + 1) (s .args .i + 12)) (s .args .recording .now) (s .args .t) (places (s .args .env)) (s .args .s)) (l .n) (l .q) (l .acc) (c .before .before .before .before .before .before .loop-test .taken)
+          (body-here (s .args .left) (s .args .nodes .now) (s .args .i) (s .args .recording .now) (s .args .t) (s .args .env) (s .args .s) (l .q) (s .pre .1 .five) (shallow t (c .before .before .before .before .before .before)) (not-above t (c .before .before .before .before .before .before)) (c .before .before .enter .ensures) (c .before .before .before .before .before .later .ensures) (c .before .evaluate .ensures)) (c .both .ensures),
+    )
+
+walk-range-returns-3 : (t : ℕ) → walk-range-lts.Need-returns-3 (walk-range-claims t) (walk-range-at t) walk-range.Post walk-range-Inv-loop walk-range-μ-loop
+walk-range-returns-3 t c =
+    let l = c .before .loop in
+    let s = c .before .before .before .before .before .before .before .before .before in
+    sym (l .inv .1 ∙ walk-none (body-at (formula-in (s .args .left) (s .args .nodes .now) (s .args .env .nested + 1) (s .args .i + 12)) (s .args .recording .now) (s .args .t) (places (s .args .env)) (s .args .s)) (l .n) (l .q) (l .acc) (omega (arith, c .loop-test .left)))
+
+pub +evaluate+walk-range-spec : {M : Type 1} → statement M
++evaluate+walk-range-spec = close μ-evaluate μ-walk-range (λ t. evaluate-lts.spec (evaluate-claims t)
+    (evaluate-at t)
+    evaluate.Post
+    (evaluate-flag-at-requires t)
+    (evaluate-returns t)
+    (evaluate-node-word-requires t)
+    (evaluate-sub-evaluate t)
+    (evaluate-add-evaluate t)
+    (evaluate-evaluate-requires t)
+    (evaluate-opposite-requires t)
+    (evaluate-returns-2 t)
+    (evaluate-sub-evaluate-2 t)
+    (evaluate-add-evaluate-2 t)
+    (evaluate-evaluate-requires-2 t)
+    (evaluate-node-word-requires-2 t)
+    (evaluate-cast-second t)
+    (evaluate-enum-known-first t)
+    (evaluate-enum-told t)
+    (evaluate-sub-evaluate-3 t)
+    (evaluate-evaluate-requires-3 t)
+    (evaluate-enum-told-2 t)
+    (evaluate-enum-told-3 t)
+    (evaluate-returns-3 t)
+    (evaluate-returns-4 t)
+    (evaluate-returns-5 t)
+    (evaluate-sub-evaluate-4 t)
+    (evaluate-add-evaluate-3 t)
+    (evaluate-evaluate-requires-4 t)
+    (evaluate-node-word-requires-3 t)
+    (evaluate-cast-second-2 t)
+    (evaluate-sub-evaluate-5 t)
+    (evaluate-evaluate-requires-5 t)
+    (evaluate-both-requires t)
+    (evaluate-returns-6 t)
+    (evaluate-sub-walk-range t)
+    (evaluate-walk-range-requires t)
+    (evaluate-returns-7 t)
+    (evaluate-node-word-requires-4 t)
+    (evaluate-node-word-requires-5 t)
+    (evaluate-flag-at-requires-2 t)
+    (evaluate-returns-8 t))
+    λ t. walk-range-lts.spec (walk-range-claims t)
+    (walk-range-at t)
+    walk-range.Post
+    walk-range-Inv-loop
+    walk-range-μ-loop
+    (walk-range-flag-at-requires t)
+    (walk-range-returns t)
+    (walk-range-range-at-requires t)
+    (walk-range-plan-up-to-requires t)
+    (walk-range-loop-holds t)
+    (walk-range-later-requires t)
+    (walk-range-settled-requires t)
+    (walk-range-returns-2 t)
+    (walk-range-add-evaluate t)
+    (walk-range-enter-requires t)
+    (walk-range-evaluate-requires t)
+    (walk-range-both-requires t)
+    (walk-range-add-q t)
+    (walk-range-sub-n t)
+    (walk-range-loop-less t)
+    (walk-range-loop-again t)
+    (walk-range-returns-3 t)

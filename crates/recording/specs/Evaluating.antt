@@ -1,0 +1,46 @@
+-- What the formula evaluator and the range walker require and answer.
+use Prim.Native.Nat.{ℕ, suc, _+_, _*_, _≤_, _<_}
+use mathlib.Core.Path.{_≡_}
+use mathlib.Core.Bool.{Bool, false, cond}
+use mathlib.Core.List.{List, [], _∷_}
+use lib.Dec.{leb, ltb}
+use lib.ListN.{length, getD, take, set}
+use Rattle.rule.specs.declared.Verdict.the-variants.{True, False}
+use Rattle.rule.specs.declared.Outcome.{Outcome}
+use Rattle.rule.specs.declared.Outcome.the-variants.{Decided, Open}
+use Rattle.rule.specs.Formula.{Formula, flag, forall}
+use Rattle.nodes.specs.Table.{bound-at, formula-in}
+use Rattle.recording.specs.declared.env.Env.{Env}
+
+-- The positions of the variables that are bound.
+abbrev pub places : Env → List ℕ
+places e = take (suc (e .nested)) (e .pos)
+
+-- The environment of the rule at tick p: "variable 0 equal to p".
+abbrev pub started : ℕ → Env
+started p = record { nested = 0; pos = p ∷ (0 ∷ (0 ∷ (0 ∷ (0 ∷ [])))) }
+
+-- The environment inside one more quantifier, whose variable stands at q.
+abbrev pub entered : Env → ℕ → Env
+entered e q = record { nested = e .nested + 1; pos = set (e .pos) (e .nested + 1) q }
+
+-- An outcome that no body started at this step or later can change: false by then.
+abbrev pub settled : Outcome → ℕ → Bool
+settled (Decided True d) start = false
+settled (Decided False d) start = leb d start
+settled Open start = false
+
+-- The "for all" whose node is at word i, inside m quantifiers, its body read off with `left` formulas left: what formula-in makes of code 5.
+abbrev pub forall-in : ℕ → List ℕ → ℕ → ℕ → Formula
+forall-in left ns m i = cond (ltb m 4) (forall (bound-at ns (i + 1)) (bound-at ns (i + 4)) (formula-in left ns (m + 1) (i + 12))) (flag 0 0)
+
+-- Before a formula is evaluated at word i, with `left` formulas left: no word's number is past 64 bits, and no sum of a position and an
+-- offset; the variables stand at positions up to t, and those that are not bound at 0.
+pub record Ready (left i t : ℕ) (e : Env) : Type 0 where
+  pub few : left ≤ 64
+  pub near : i + 12 * left ≤ 4294968064
+  pub early : t < 4611686018427387904
+  pub nested : e .nested ≤ 4
+  pub five : length (e .pos) ≡ 5
+  pub clear : (v : ℕ) → e .nested < v → getD (e .pos) v 0 ≡ 0
+  pub within : (v : ℕ) → getD (e .pos) v 0 ≤ t

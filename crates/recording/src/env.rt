@@ -1,0 +1,45 @@
+// The variables of a formula: the position of each.
+ghost use mathlib.Core.Path.{_≡_};
+ghost use Prim.Native.Nat.{_<_};
+ghost use lib.ListN.{getD};
+ghost use Rattle.recording.specs.Evaluating.{started, entered};
+
+// Variables 0 to `nested` are bound, `nested` of them by quantifiers; the position of every other is 0.
+pub(crate) struct Env {
+    pub nested: usize,
+    pub pos: [u64; 5],
+}
+
+// The environment of the rule at tick p.
+pub(crate) fn at_tick(p: u64) -> Env
+    ensures { λ r. ⌜ r ≡ started p ⌝ }
+{
+    Env {
+        nested: 0,
+        pos: [p, 0, 0, 0, 0],
+    }
+}
+
+// The environment inside one more quantifier, whose variable stands at q.
+pub(crate) fn enter(env: Env, q: u64) -> Env
+    requires { ⌜ env .nested < 4 ⌝ }
+    ensures { λ r. ⌜ r ≡ entered env q ⌝ }
+{
+    let v = env.nested + 1;
+    let mut e = env;
+    e.pos[v] = q;
+    e.nested = v;
+    e
+}
+
+// The position of variable v; 0 if there is none.
+pub(crate) fn position(env: Env, v: u32) -> u64
+    ensures { λ r. ⌜ r ≡ getD (env .pos) v 0 ⌝ }
+{
+    if v < 5 {
+        let i = v as usize;
+        env.pos[i]
+    } else {
+        0
+    }
+}

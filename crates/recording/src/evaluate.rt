@@ -1,0 +1,124 @@
+// The formula evaluator and the range walker, over a node table and a recording.
+ghost use mathlib.Core.Path.{_≡_};
+ghost use Prim.Native.Nat.{suc};
+ghost use lib.ListN.{getD};
+ghost use Rattle.rule.specs.declared.Outcome.{Outcome};
+ghost use Rattle.rule.specs.Meaning.{verdict, up, outcome};
+ghost use Rattle.rule.specs.Recording.{recorded};
+ghost use Rattle.nodes.specs.Table.{formula-in};
+ghost use Rattle.recording.specs.Evaluating.{places, settled, forall-in, Ready};
+use crate::env::Env;
+use crate::env::enter;
+use crate::env::position;
+use rule::Outcome;
+use rule::Verdict;
+
+// The flag byte of tick q; 0 after the recording.
+fn flag_byte(recording: &[u8], q: u64) -> u8
+    ensures { λ r. ⌜ r ≡ recorded (now (recording .entry)) q ⌝ }
+{
+    let i = q as usize;
+    if i < recording.len() { recording[i] } else { 0 }
+}
+
+// Flag k at variable v.
+fn flag_at(recording: &[u8], env: Env, v: u32, k: u32, s: u64) -> Outcome
+    ensures { λ r. ⌜ r ≡ Outcome.Decided (verdict (up k (recorded (now (recording .entry)) (getD (env .pos) v 0)))) s ⌝ }
+{
+    let q = position(env, v);
+    outcomes::flag_outcome(flag_byte(recording, q), k, s)
+}
+
+// Whether no body started at this step or later can change an outcome, since a body is not decided before it starts.
+fn settled(o: Outcome, start: u64) -> bool
+    ensures { λ r. ⌜ r ≡ settled o start ⌝ }
+{
+    match o {
+        Outcome::Decided(v, d) => match v {
+            Verdict::True => false,
+            Verdict::False => d <= start,
+        },
+        Outcome::Open => false,
+    }
+}
+
+// The outcome over the ticks 0..t of the formula at word i, started at step s, with `left` formulas left. It is that of any table; one that the
+// reader filled never runs out of formulas.
+pub(crate) fn evaluate(
+    nodes: &[u32],
+    left: u64,
+    i: usize,
+    recording: &[u8],
+    t: u64,
+    env: Env,
+    s: u64,
+) -> Outcome
+    requires { ⌜ Ready left i t env ⌝ }
+    ensures { λ r. ⌜ r ≡ outcome (formula-in left (now (nodes .entry)) (env .nested) i) (recorded (now (recording .entry))) t (places env) s ⌝ }
+{
+    if left == 0 {
+        return flag_at(recording, env, 0, 0, s);
+    }
+    let code = nodes::node_word(nodes, i, 0);
+    if code == 2 {
+        return outcomes::opposite(evaluate(nodes, left - 1, i + 12, recording, t, env, s));
+    }
+    if code == 3 {
+        let first = evaluate(nodes, left - 1, i + 12, recording, t, env, s);
+        let second = nodes::node_word(nodes, i, 7) as usize;
+        return match first {
+            Outcome::Decided(v, d) => match v {
+                Verdict::True => evaluate(nodes, left - 1, second, recording, t, env, d),
+                Verdict::False => Outcome::Decided(Verdict::False, d),
+            },
+            Outcome::Open => Outcome::Open,
+        };
+    }
+    if code == 4 {
+        let first = evaluate(nodes, left - 1, i + 12, recording, t, env, s);
+        let second = nodes::node_word(nodes, i, 7) as usize;
+        let other = evaluate(nodes, left - 1, second, recording, t, env, s);
+        return outcomes::both(first, other);
+    }
+    if code == 5 {
+        return walk_range(nodes, left - 1, i, recording, t, env, s);
+    }
+    let v = nodes::node_word(nodes, i, 1);
+    let k = nodes::node_word(nodes, i, 2);
+    flag_at(recording, env, v, k, s)
+}
+
+// The outcome of the "for all" at word i: its bodies side by side, position by position upward, each started at max(s, q), never above t, and
+// no further once it is settled. A loop: so many calls as a recording has ticks would be too deep.
+fn walk_range(
+    nodes: &[u32],
+    left: u64,
+    i: usize,
+    recording: &[u8],
+    t: u64,
+    env: Env,
+    s: u64,
+) -> Outcome
+    requires { ⌜ Ready (suc left) i t env ⌝ }
+    ensures { λ r. ⌜ r ≡ outcome (forall-in left (now (nodes .entry)) (env .nested) i) (recorded (now (recording .entry))) t (places env) s ⌝ }
+{
+    if 4 <= env.nested {
+        return flag_at(recording, env, 0, 0, s);
+    }
+    let pos = env.pos;
+    let plan = ranges::plan_up_to(ranges::range_at(nodes, i, pos), t, s);
+    let mut acc = plan.end;
+    let mut q = plan.first;
+    let mut n = plan.n;
+    while 0 < n {
+        let start = outcomes::later(s, q);
+        if settled(acc, start) {
+            return acc;
+        }
+        let o = evaluate(nodes, left, i + 12, recording, t, enter(env, q), start);
+        acc = outcomes::both(o, acc);
+        q += 1;
+        n -= 1;
+    }
+    acc
+}
