@@ -183,4 +183,5 @@ def main():
         print("%s: %s" % (name.decode(), answer(text(body))))
 
 
-main()
+if __name__ == "__main__":
+    main()

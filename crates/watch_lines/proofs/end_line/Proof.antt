@@ -1,0 +1,54 @@
+-- `watch_lines::end_line` meets its contract. Assumes nothing.
+use Prim.Native.Nat.{_≤_}
+use mathlib.Core.Path.{_≡_, sym}
+use native.Mathlib.Omega.{arith}
+use lib.Seq.{length-take-le}
+use Rattle.watch_lines.specs.Lines.{end-line}
+use borrow.Author.Needs.{needs}
+use Rattle.watch_lines.proofs.end_line.Statement.{statement}
+use Rattle.watch_lines.proofs.end_line.Tie as tie
+
+slice-aggregate-put-field : tie.Need-slice-aggregate-put-field
+slice-aggregate-put-field c = search needs
+
+put-field-requires : tie.Need-put-field-requires
+put-field-requires c κs = search needs
+
+slice-aggregate-put-field-2 : tie.Need-slice-aggregate-put-field-2
+slice-aggregate-put-field-2 c = search needs
+
+put-field-requires-2 : tie.Need-put-field-requires-2
+put-field-requires-2 c κs = search needs
+
+slice-aggregate-put-field-3 : tie.Need-slice-aggregate-put-field-3
+slice-aggregate-put-field-3 c = search needs
+
+put-field-requires-3 : tie.Need-put-field-requires-3
+put-field-requires-3 c κs = search needs
+
+slice-aggregate-put-text : tie.Need-slice-aggregate-put-text
+slice-aggregate-put-text c = search needs
+
+put-text-requires : tie.Need-put-text-requires
+put-text-requires c κs = search needs
+
+returns : tie.Need-returns
+unfolding end-line
+returns c =
+    let p = c .put-text in
+    let room : p .result ≤ 128 = search needs in
+    ((omega arith, sym (length-take-le (p .result) (p .last .0) (omega arith))), cc (p .ensures .1, c .before .before .before .before .before .before .before .before .before .put-field .ensures .1, c .before .before .before .before .before .before .put-field2 .ensures .1, c .before .before .before .put-field3 .ensures .1))
+
+pub end-line-spec : {M : Type 1} → statement M
+end-line-spec =
+    tie.close
+    (tie.spec
+    slice-aggregate-put-field
+    put-field-requires
+    slice-aggregate-put-field-2
+    put-field-requires-2
+    slice-aggregate-put-field-3
+    put-field-requires-3
+    slice-aggregate-put-text
+    put-text-requires
+    returns)

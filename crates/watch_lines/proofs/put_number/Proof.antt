@@ -1,0 +1,51 @@
+-- `watch_lines::put_number` meets its contract. Assumes nothing.
+use Prim.Native.Nat.{_+_, _≤_, _<_}
+use denote.Ref.{now}
+use lib.ListN.{length}
+use mathlib.Core.Path.{_≡_}
+use native.Mathlib.Omega.{arith}
+use Rattle.watch_lines.proofs.Numerals.{most-digits, numeral-of}
+use borrow.Author.Needs.{needs}
+use Rattle.watch_lines.proofs.put_number.Statement.{statement}
+use Rattle.watch_lines.proofs.put_number.Tie as tie
+
+decimal-requires : tie.Need-decimal-requires
+decimal-requires c κs = search needs
+
+array-share-prefix-digits : tie.Need-array-share-prefix-digits
+array-share-prefix-digits c = search needs
+
+slice-aggregate-put-text : tie.Need-slice-aggregate-put-text
+slice-aggregate-put-text c = search needs
+
+put-text-requires : tie.Need-put-text-requires
+put-text-requires c κs =
+    let start = c .before .before .before .before .before in
+    let d = c .before .before .decimal in
+    let k : d .result ≤ 20 = most-digits (d .result) (start .args .n) (omega (arith, start .fits .n)) (d .ensures .1 .0) in
+    let room : start .args .at + 20 ≤ length (now (start .args .out)) = start .pre in
+    omega (arith, d .ensures .0 .1)
+
+same-length : tie.Need-same-length
+same-length c = search needs
+
+returns : tie.Need-returns
+returns c =
+    let d = c .before .before .before .before .before .decimal in
+    let p = c .before .before .put-text in
+    let start = c .before .before .before .before .before .before .before .before in
+    let n = start .args .n in
+    let small : n < 18446744073709551616 = omega (arith, start .fits .n) in
+    let k : d .result ≤ 20 = most-digits (d .result) n small (d .ensures .1 .0) in
+    (omega (arith, p .ensures .0, d .ensures .0 .1), cc (p .ensures .1, d .ensures .1 .1, numeral-of (d .result) n small (d .ensures .1 .0)))
+
+pub put-number-spec : {M : Type 1} → statement M
+put-number-spec =
+    tie.close
+    (tie.spec
+    decimal-requires
+    array-share-prefix-digits
+    slice-aggregate-put-text
+    put-text-requires
+    same-length
+    returns)

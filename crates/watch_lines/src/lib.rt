@@ -1,0 +1,81 @@
+// The lines that the program `watch` prints. Each is put together in a buffer, so that the program can write it at once and whoever follows its
+// output sees whole lines.
+ghost use mathlib.Core.Path.{_≡_};
+ghost use mathlib.Core.List.{_++_};
+ghost use Prim.Native.Nat.{_+_, _≤_};
+ghost use lib.ListN.{length, take};
+ghost use Rattle.io.specs.Counts.{Counts};
+ghost use Rattle.watch_lines.specs.Lines.{numeral, with-field, refused-line, figures-line, violation-line, end-line};
+
+// Puts bytes after the first `at` ones, and answers how many there are then.
+fn put_text(out: &mut [u8], at: usize, text: &[u8]) -> usize
+    requires { ⌜ at + length (now text) ≤ length (now out) ⌝ }
+    ensures { λ r. ⌜ r ≡ at + length (now (text .entry)) ⌝ }
+    ensures { λ r. ⌜ take r (now (out .exit)) ≡ take at (now (out .entry)) ++ now (text .entry) ⌝ }
+{
+    let mut i: usize = 0;
+    while i < text.len() {
+        out[at + i] = text[i];
+        i += 1;
+    }
+    at + i
+}
+
+// Puts a number's digits after the first `at` bytes.
+fn put_number(out: &mut [u8], at: usize, n: u64) -> usize
+    requires { ⌜ at + 20 ≤ length (now out) ⌝ }
+    ensures { λ r. ⌜ r ≤ at + 20 ⌝ }
+    ensures { λ r. ⌜ take r (now (out .exit)) ≡ take at (now (out .entry)) ++ numeral n ⌝ }
+{
+    let mut digits = [0u8; 20];
+    let k = io::decimal(n, &mut digits);
+    put_text(out, at, &digits[..k])
+}
+
+// Puts a word and a number after the first `at` bytes.
+fn put_field(out: &mut [u8], at: usize, word: &[u8], n: u64) -> usize
+    requires { ⌜ (at + length (now word)) + 20 ≤ length (now out) ⌝ }
+    ensures { λ r. ⌜ r ≤ (at + length (now (word .entry))) + 20 ⌝ }
+    ensures { λ r. ⌜ take r (now (out .exit)) ≡ with-field (take at (now (out .entry))) (now (word .entry)) n ⌝ }
+{
+    let a = put_text(out, at, word);
+    put_number(out, a, n)
+}
+
+// Each line stands at the front of the buffer; the answer is its length.
+pub fn refused_line(number: u64, out: &mut [u8; 128]) -> usize
+    ensures { λ r. ⌜ Counts r (now (out .exit)) ⌝ }
+    ensures { λ r. ⌜ take r (now (out .exit)) ≡ refused-line number ⌝ }
+{
+    let a = put_field(out, 0, b"refused ", number);
+    put_text(out, a, b"\n")
+}
+
+pub fn figures_line(history: u64, delay: u64, cells: u64, out: &mut [u8; 128]) -> usize
+    ensures { λ r. ⌜ Counts r (now (out .exit)) ⌝ }
+    ensures { λ r. ⌜ take r (now (out .exit)) ≡ figures-line history delay cells ⌝ }
+{
+    let a = put_field(out, 0, b"rule 0 history ", history);
+    let b = put_field(out, a, b" delay ", delay);
+    let c = put_field(out, b, b" cells ", cells);
+    put_text(out, c, b"\n")
+}
+
+pub fn violation_line(tick: u64, step: u64, out: &mut [u8; 128]) -> usize
+    ensures { λ r. ⌜ Counts r (now (out .exit)) ⌝ }
+    ensures { λ r. ⌜ take r (now (out .exit)) ≡ violation-line tick step ⌝ }
+{
+    let a = put_field(out, 0, b"violation ", tick);
+    let b = put_field(out, a, b" at ", step);
+    put_text(out, b, b"\n")
+}
+
+pub fn end_line(ticks: u64, violations: u64, live: u64, out: &mut [u8; 128]) -> usize
+    ensures { λ r. ⌜ Counts r (now (out .exit)) ⌝ }
+    ensures { λ r. ⌜ take r (now (out .exit)) ≡ end-line ticks violations live ⌝ }
+{
+    let a = put_field(out, 0, b"end ", ticks);
+    let b = put_field(out, a, b" steps ", violations);
+    let c = put_field(out, b, b" violations ", live);
+    put_text(out, c, b" live\n")
+}

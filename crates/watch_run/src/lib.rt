@@ -1,0 +1,94 @@
+// The program `watch`: reads the file watch.sheet (a missing one counts as empty), opens rule 0, takes flag bytes from standard input to its end and
+// prints what document 01 says. It is a library, so that a program for each test case can run it. Its functions answer nothing and read and write
+// outside of the program: no contract can say what, so they have none beyond being safe and ending. What they print, the engine's contracts and
+// watch_lines say; the programs' files `stdout` hold the two to document 01's words.
+mod output;
+mod watching;
+
+ghost use mathlib.Core.Path.{_≡_};
+ghost use lib.ListN.{length};
+ghost use Rattle.io.specs.Counts.{Counts};
+use engine::OpenAnswer;
+use figures::FigureAnswer;
+use output::print_figures;
+use output::print_refusal;
+use rule::Figures;
+use sheet::Found;
+use watching::watch_input;
+
+// The file's bytes at the front of buf, and how many there are: 0 where there is no such file. The largest legal sheet has 16,513 bytes, so that a
+// longer file is seen to be longer.
+fn load(buf: &mut [u8]) -> usize
+    ensures { λ r. ⌜ Counts r (now (buf .exit)) ⌝ }
+{
+    let fd = os::open_read(b"watch.sheet");
+    if fd < 0 {
+        return 0;
+    }
+    let n = io::read_full(fd, buf);
+    libc::close(fd);
+    n
+}
+
+// Room for the 4,096 cells that a rule may need.
+fn cell_table() -> [u32; 16384]
+    ensures { λ r. ⌜ 16384 ≡ length r ⌝ }
+{
+    [0; 16384]
+}
+
+// Room for the 256 ticks that one step may report.
+fn report_words() -> [u32; 256]
+    ensures { λ r. ⌜ 256 ≡ length r ⌝ }
+{
+    [0; 256]
+}
+
+// Opens rule 0 over lent memory and takes the input.
+fn watch_over(sheet: &[u8], f: Figures, history: &mut [u8], cells: &mut [u32], report: &mut [u32]) {
+    let opened = engine::open(sheet, 0, history, cells);
+    let answer = opened.answer;
+    let state = opened.state;
+    match answer {
+        OpenAnswer::Refused(x) => print_refusal(x),
+        OpenAnswer::Opened => {
+            print_figures(f);
+            watch_input(state, history, cells, report);
+        }
+    }
+}
+
+// Lends the history that the figure asks for, at most 4,096 bytes, and as much of the rest as a rule may need.
+fn watch_rule(sheet: &[u8], f: Figures) {
+    let mut history = io::buffer();
+    let mut cells = cell_table();
+    let mut report = report_words();
+    let h = f.history as usize;
+    if 4096 < h {
+        return;
+    }
+    watch_over(sheet, f, &mut history[..h], &mut cells, &mut report);
+}
+
+// Runs rule 0 of a sheet over standard input. The first line shows the figures, so they are read before the rule is opened; the refusals of sheet
+// and figures are those of opening.
+pub fn watch_sheet(sheet: &[u8]) {
+    let place = sheet::find_rule(sheet, 0);
+    match place {
+        Found::Refused(x) => print_refusal(x),
+        Found::At { start: _, size: _ } => {
+            let a = figures::figures(sheet::rule_body(sheet, 0));
+            match a {
+                FigureAnswer::Refused(x) => print_refusal(x),
+                FigureAnswer::Sized(f) => watch_rule(sheet, f),
+            }
+        }
+    }
+}
+
+// The whole program.
+pub fn watch() {
+    let mut buf = io::large_buffer();
+    let n = load(&mut buf);
+    watch_sheet(&buf[..n]);
+}

@@ -1,0 +1,56 @@
+//! The comparison suites: each call of the boundary against the paper, with
+//! guards around all that is lent, and every byte that must keep its content
+//! looked at.
+
+mod calls;
+mod runs;
+mod suites;
+
+pub use calls::{figures, opening, outcome, place, round_trip, write};
+pub use runs::{run, Plan, Tally};
+pub use suites::{
+    bodies, history_lengths, limits, long_recordings, openings, recordings, runs, sheets, writers,
+};
+
+/// A check that failed says what it saw and what was due.
+pub type Check<T = ()> = Result<T, String>;
+
+/// Fails the check unless the condition holds.
+#[macro_export]
+macro_rules! demand {
+    ($condition:expr, $($text:tt)+) => {
+        if !$condition {
+            return Err(format!($($text)+));
+        }
+    };
+}
+
+/// What an answer's place holds before a call.
+pub const MARK: u64 = 0x5EED_0000_0BAD_F00D;
+
+/// How often each number was answered; number 0 is "accepted".
+#[derive(Clone, Debug, Default)]
+pub struct Numbers {
+    counts: [u64; 23],
+}
+
+impl Numbers {
+    pub fn add(&mut self, number: u32) {
+        self.counts[number as usize] += 1;
+    }
+
+    pub fn of(&self, number: u32) -> u64 {
+        self.counts[number as usize]
+    }
+
+    /// Whether each of these numbers was answered at least so often.
+    pub fn each_at_least(&self, numbers: &[u32], least: u64) -> bool {
+        numbers.iter().all(|&number| self.of(number) >= least)
+    }
+}
+
+/// Bytes as document 01 writes them.
+pub fn hex(bytes: &[u8]) -> String {
+    let shown: Vec<String> = bytes.iter().take(600).map(|byte| format!("{byte:02X}")).collect();
+    shown.join(" ")
+}

@@ -1,0 +1,21 @@
+//! Another evaluator of document 01 ("The station watch engine"), written on
+//! its own from the paper, and the random tests of the Rattle library against
+//! it.
+//!
+//! - `paper`: document 01 read literally; plain and slow.
+//! - `random`: fixed-seed generators of rules, bodies, sheets and streams.
+//! - `lent`: buffers with guards around them, to be lent to the library.
+//! - `library`: the boundary to the library.
+//! - `notation`: short names, with which the tests write rules and recordings.
+//! - `compare`, `hostile`: the two suites, for any implementation of the boundary.
+//! - `stand_in`: an implementation in Rust, right or wrong in a chosen way, with
+//!   which the two suites are themselves tested.
+
+pub mod compare;
+pub mod hostile;
+pub mod lent;
+pub mod library;
+pub mod notation;
+pub mod paper;
+pub mod random;
+pub mod stand_in;

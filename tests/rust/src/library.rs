@@ -1,0 +1,282 @@
+//! The boundary to the library: seven calls. "Every function answers 0 or 01's
+//! refusal number; on a refusal nothing lent is changed."
+
+/// The bytes of a state.
+pub const STATE_BYTES: usize = 544;
+
+pub type State = [u8; STATE_BYTES];
+
+/// How `outcome` answers a verdict.
+pub const OPEN: u32 = 0;
+pub const TRUE: u32 = 1;
+pub const FALSE: u32 = 2;
+
+/// Where `open`, `step` and `steps` write.
+pub struct StepAnswer<'a> {
+    pub reported: &'a mut usize,
+    pub live: &'a mut usize,
+}
+
+pub struct StepsAnswer<'a> {
+    pub taken: &'a mut usize,
+    pub pairs: &'a mut usize,
+    pub live: &'a mut usize,
+}
+
+/// What a step is lent.
+pub struct StepLent<'a> {
+    pub history: &'a mut [u8],
+    pub cells: &'a mut [u32],
+    pub report: &'a mut [u32],
+}
+
+/// The seven calls, with slices for pointers and lengths.
+pub trait Library {
+    /// Where a rule's body lies in its sheet.
+    fn rule_place(&self, sheet: &[u8], rule: usize, start: &mut usize, size: &mut usize) -> u32;
+
+    fn write_sheet(
+        &self,
+        lengths: &[u16],
+        bodies: &[u8],
+        out: &mut [u8],
+        written: &mut usize,
+    ) -> u32;
+
+    fn figures(&self, body: &[u8], history: &mut u64, delay: &mut u64, cells: &mut u64) -> u32;
+
+    fn outcome(
+        &self,
+        body: &[u8],
+        recording: &[u8],
+        tick: usize,
+        verdict: &mut u32,
+        step: &mut u64,
+    ) -> u32;
+
+    fn open(
+        &self,
+        sheet: &[u8],
+        rule: usize,
+        history: &mut [u8],
+        cells: &[u32],
+        state: &mut State,
+    ) -> u32;
+
+    fn step(&self, state: &mut State, flag: u8, lent: StepLent, answer: StepAnswer) -> u32;
+
+    /// Many steps at once. The report gets pairs of tick and deciding step. It
+    /// stops before a step for which fewer than 2 * (delay + 1) report words are
+    /// left.
+    fn steps(&self, state: &mut State, flags: &[u8], lent: StepLent, answer: StepsAnswer) -> u32;
+}
+
+#[cfg(feature = "library")]
+pub use linked::Linked;
+
+#[cfg(feature = "library")]
+mod linked {
+    use super::{Library, State, StepAnswer, StepLent, StepsAnswer};
+
+    extern "C" {
+        fn sw_rule_place(
+            sheet: *const u8,
+            sheet_len: usize,
+            rule: usize,
+            start: *mut usize,
+            size: *mut usize,
+        ) -> u32;
+
+        fn sw_write_sheet(
+            lengths: *const u16,
+            count: usize,
+            bodies: *const u8,
+            bodies_len: usize,
+            out: *mut u8,
+            out_len: usize,
+            written: *mut usize,
+        ) -> u32;
+
+        fn sw_figures(
+            body: *const u8,
+            body_len: usize,
+            history: *mut u64,
+            delay: *mut u64,
+            cells: *mut u64,
+        ) -> u32;
+
+        fn sw_outcome(
+            body: *const u8,
+            body_len: usize,
+            recording: *const u8,
+            recording_len: usize,
+            tick: usize,
+            verdict: *mut u32,
+            step: *mut u64,
+        ) -> u32;
+
+        fn sw_open(
+            sheet: *const u8,
+            sheet_len: usize,
+            rule: usize,
+            history: *mut u8,
+            history_len: usize,
+            cells: *const u32,
+            cells_len: usize,
+            state: *mut u8,
+        ) -> u32;
+
+        fn sw_step(
+            state: *mut u8,
+            flag: u8,
+            history: *mut u8,
+            history_len: usize,
+            cells: *mut u32,
+            cells_len: usize,
+            report: *mut u32,
+            report_len: usize,
+            reported: *mut usize,
+            live: *mut usize,
+        ) -> u32;
+
+        fn sw_steps(
+            state: *mut u8,
+            flags: *const u8,
+            flags_len: usize,
+            history: *mut u8,
+            history_len: usize,
+            cells: *mut u32,
+            cells_len: usize,
+            report: *mut u32,
+            report_len: usize,
+            taken: *mut usize,
+            pairs: *mut usize,
+            live: *mut usize,
+        ) -> u32;
+    }
+
+    /// The Rattle static library. Each call lends what its slices cover and no
+    /// more; the pointer of an empty slice may dangle.
+    pub struct Linked;
+
+    impl Library for Linked {
+        fn rule_place(
+            &self,
+            sheet: &[u8],
+            rule: usize,
+            start: &mut usize,
+            size: &mut usize,
+        ) -> u32 {
+            unsafe { sw_rule_place(sheet.as_ptr(), sheet.len(), rule, start, size) }
+        }
+
+        fn write_sheet(
+            &self,
+            lengths: &[u16],
+            bodies: &[u8],
+            out: &mut [u8],
+            written: &mut usize,
+        ) -> u32 {
+            unsafe {
+                sw_write_sheet(
+                    lengths.as_ptr(),
+                    lengths.len(),
+                    bodies.as_ptr(),
+                    bodies.len(),
+                    out.as_mut_ptr(),
+                    out.len(),
+                    written,
+                )
+            }
+        }
+
+        fn figures(&self, body: &[u8], history: &mut u64, delay: &mut u64, cells: &mut u64) -> u32 {
+            unsafe { sw_figures(body.as_ptr(), body.len(), history, delay, cells) }
+        }
+
+        fn outcome(
+            &self,
+            body: &[u8],
+            recording: &[u8],
+            tick: usize,
+            verdict: &mut u32,
+            step: &mut u64,
+        ) -> u32 {
+            unsafe {
+                sw_outcome(
+                    body.as_ptr(),
+                    body.len(),
+                    recording.as_ptr(),
+                    recording.len(),
+                    tick,
+                    verdict,
+                    step,
+                )
+            }
+        }
+
+        fn open(
+            &self,
+            sheet: &[u8],
+            rule: usize,
+            history: &mut [u8],
+            cells: &[u32],
+            state: &mut State,
+        ) -> u32 {
+            unsafe {
+                sw_open(
+                    sheet.as_ptr(),
+                    sheet.len(),
+                    rule,
+                    history.as_mut_ptr(),
+                    history.len(),
+                    cells.as_ptr(),
+                    cells.len(),
+                    state.as_mut_ptr(),
+                )
+            }
+        }
+
+        fn step(&self, state: &mut State, flag: u8, lent: StepLent, answer: StepAnswer) -> u32 {
+            unsafe {
+                sw_step(
+                    state.as_mut_ptr(),
+                    flag,
+                    lent.history.as_mut_ptr(),
+                    lent.history.len(),
+                    lent.cells.as_mut_ptr(),
+                    lent.cells.len(),
+                    lent.report.as_mut_ptr(),
+                    lent.report.len(),
+                    answer.reported,
+                    answer.live,
+                )
+            }
+        }
+
+        fn steps(
+            &self,
+            state: &mut State,
+            flags: &[u8],
+            lent: StepLent,
+            answer: StepsAnswer,
+        ) -> u32 {
+            unsafe {
+                sw_steps(
+                    state.as_mut_ptr(),
+                    flags.as_ptr(),
+                    flags.len(),
+                    lent.history.as_mut_ptr(),
+                    lent.history.len(),
+                    lent.cells.as_mut_ptr(),
+                    lent.cells.len(),
+                    lent.report.as_mut_ptr(),
+                    lent.report.len(),
+                    answer.taken,
+                    answer.pairs,
+                    answer.live,
+                )
+            }
+        }
+    }
+}

@@ -1,0 +1,175 @@
+//! "Figures": delay, history and cells, with refusals 11 to 15.
+
+use super::{read_body, Bound, Formula, Refusal, MOST_CELLS, MOST_DELAY, MOST_HISTORY};
+
+#[derive(Clone, Copy, Debug, PartialEq, Eq)]
+pub struct Figures {
+    pub history: u64,
+    pub delay: u64,
+    pub cells: u64,
+}
+
+/// The lower number of a pair.
+#[derive(Clone, Copy)]
+enum Low {
+    MinusInfinity,
+    At(i64),
+    Infinity,
+}
+
+/// "Each variable has a pair (l, u): its position lies from p + l to p + u."
+/// For u, `None` is infinity; minus infinity doesn't occur there.
+#[derive(Clone, Copy)]
+struct Pair {
+    l: Low,
+    u: Option<i64>,
+}
+
+/// "Asked for a body's figures, the library answers all three or a refusal from
+/// 4 to 15."
+pub fn figures(body: &[u8]) -> Result<Figures, Refusal> {
+    formula_figures(&read_body(body)?)
+}
+
+/// "11: delay infinite. 12: above 255. 13: history infinite. 14: above 4,096.
+/// 15: cells above 4,096."
+pub fn formula_figures(formula: &Formula) -> Result<Figures, Refusal> {
+    // "Variable 0: (0, 0)."
+    let mut pairs = vec![Pair { l: Low::At(0), u: Some(0) }];
+    let delay = delay(formula, &mut pairs).ok_or(11u32)?;
+    if delay > MOST_DELAY {
+        return Err(12);
+    }
+    let history = history(formula, 0, &mut pairs).ok_or(13u32)?;
+    if history > MOST_HISTORY as i64 {
+        return Err(14);
+    }
+    // "The rule needs (delay + 1) times (1 + its cells)."
+    let cells = (delay as i128 + 1) * (1 + cells(formula, &mut pairs));
+    if cells > MOST_CELLS {
+        return Err(15);
+    }
+    Ok(Figures { history: history as u64, delay: delay as u64, cells: cells as u64 })
+}
+
+/// "Bounds: position 0 plus offset n, (-infinity, n); infinity, (infinity,
+/// infinity); a variable, its pair plus n."
+fn bound_pair(bound: Bound, pairs: &[Pair]) -> Pair {
+    match bound {
+        Bound::Start(n) => Pair { l: Low::MinusInfinity, u: Some(n) },
+        Bound::Infinity => Pair { l: Low::Infinity, u: None },
+        Bound::Variable(variable, n) => {
+            let Pair { l, u } = pairs[variable];
+            Pair { l: plus(l, n), u: u.map(|u| u + n) }
+        }
+    }
+}
+
+fn plus(l: Low, n: i64) -> Low {
+    match l {
+        Low::At(l) => Low::At(l + n),
+        infinite => infinite,
+    }
+}
+
+/// "A quantifier gives its variable l of B1 and u of B2."
+fn variable_pair(first: Bound, second: Bound, pairs: &[Pair]) -> Pair {
+    Pair { l: bound_pair(first, pairs).l, u: bound_pair(second, pairs).u }
+}
+
+/// "N(a) is a, or 0 if a is negative."
+fn n(a: i64) -> i64 {
+    if a < 0 {
+        0
+    } else {
+        a
+    }
+}
+
+/// The larger of two numbers of which `None` is infinity.
+fn larger(a: Option<i64>, b: Option<i64>) -> Option<i64> {
+    Some(a?.max(b?))
+}
+
+/// What `count` answers for the body of a quantifier whose variable has `pair`.
+fn inside<T>(pair: Pair, pairs: &mut Vec<Pair>, count: impl FnOnce(&mut Vec<Pair>) -> T) -> T {
+    pairs.push(pair);
+    let answer = count(pairs);
+    pairs.pop();
+    answer
+}
+
+/// "Delay: flag 0; not, the part's; the conjunctions, the larger; for all, the
+/// larger of the body's and N(u)." `None` is infinity.
+fn delay(formula: &Formula, pairs: &mut Vec<Pair>) -> Option<i64> {
+    match formula {
+        Formula::Flag(..) => Some(0),
+        Formula::Not(part) => delay(part, pairs),
+        Formula::Then(f, g) | Formula::Beside(f, g) => larger(delay(f, pairs), delay(g, pairs)),
+        Formula::ForAll(first, second, body) => {
+            let pair = variable_pair(*first, *second, pairs);
+            let of_body = inside(pair, pairs, |pairs| delay(body, pairs));
+            larger(of_body, pair.u.map(n))
+        }
+    }
+}
+
+/// "History, with latest start k, 0 for the rule: flag 0; not, the part's;
+/// beside, the larger, same k; then, the larger of F's with k and G's with
+/// max(k, delay of F); for all, the larger of N(k - l) and the body's with
+/// max(k, N(u))." `None` is infinity; an infinite delay was refused before.
+fn history(formula: &Formula, k: i64, pairs: &mut Vec<Pair>) -> Option<i64> {
+    match formula {
+        Formula::Flag(..) => Some(0),
+        Formula::Not(part) => history(part, k, pairs),
+        Formula::Beside(f, g) => larger(history(f, k, pairs), history(g, k, pairs)),
+        Formula::Then(f, g) => {
+            let later = k.max(delay(f, pairs)?);
+            larger(history(f, k, pairs), history(g, later, pairs))
+        }
+        Formula::ForAll(first, second, body) => {
+            let pair = variable_pair(*first, *second, pairs);
+            let later = k.max(n(pair.u?));
+            let of_body = inside(pair, pairs, |pairs| history(body, later, pairs));
+            larger(reach_back(k, pair.l), of_body)
+        }
+    }
+}
+
+/// "N(k - l) is 0 if l is infinity and infinite if l is -infinity."
+fn reach_back(k: i64, l: Low) -> Option<i64> {
+    match l {
+        Low::Infinity => Some(0),
+        Low::MinusInfinity => None,
+        Low::At(l) => Some(n(k - l)),
+    }
+}
+
+/// "Cells: flag 0; not, the part's; then, 1 + the larger; beside, 1 + the sum;
+/// for all, 1 + W times (1 + the body's)." Asked only once delay and history
+/// are known to be finite. The largest, four ranges at full offsets times 60
+/// formulas, is below 10^19: no 128-bit sum or product overflows.
+fn cells(formula: &Formula, pairs: &mut Vec<Pair>) -> i128 {
+    match formula {
+        Formula::Flag(..) => 0,
+        Formula::Not(part) => cells(part, pairs),
+        Formula::Then(f, g) => 1 + cells(f, pairs).max(cells(g, pairs)),
+        Formula::Beside(f, g) => 1 + cells(f, pairs) + cells(g, pairs),
+        Formula::ForAll(first, second, body) => {
+            let pair = variable_pair(*first, *second, pairs);
+            let of_body = inside(pair, pairs, |pairs| cells(body, pairs));
+            1 + width(pair) * (1 + of_body)
+        }
+    }
+}
+
+/// "W is u - l + 1, or 0 if l is infinity or l > u."
+fn width(pair: Pair) -> i128 {
+    let u = pair.u.expect("an infinite u was refused with 11");
+    match pair.l {
+        Low::Infinity => 0,
+        Low::MinusInfinity => panic!("l of -infinity was refused with 13"),
+        Low::At(l) if l > u => 0,
+        Low::At(l) => (u - l + 1) as i128,
+    }
+}

@@ -1,0 +1,526 @@
+//! An implementation of the boundary in Rust, to test the two suites with: the
+//! right one must pass them, and each with a flaw must be caught. It keeps to
+//! the memory that it is lent, but evaluates anew at each step.
+//!
+//! It stands on `paper`, so it says nothing about the paper's meaning. What it
+//! tests is the suites: that they ask what they should, and see what differs.
+
+use crate::library::{Library, State, StepAnswer, StepLent, StepsAnswer, FALSE, OPEN, TRUE};
+use crate::paper::{
+    self, Bound, Figures, Formula, Lengths, Opened, Outcome, Refusal, Verdict, MOST_HISTORY,
+    MOST_LENGTH,
+};
+
+#[derive(Clone, Copy, Debug, PartialEq, Eq)]
+pub enum Flaw {
+    None,
+    // The engine.
+    StoresFirst,
+    ReadsUnusedHistory,
+    WrapsLate,
+    LeavesHistory,
+    JudgesAtTheEnd,
+    ReportsNothing,
+    ReportsDescending,
+    CountsOneMore,
+    EndsRangesLate,
+    ThenAsBeside,
+    WritesAfterReport,
+    WritesAfterTable,
+    TableBeforeHistory,
+    ReportBeforeTable,
+    AnswersOnRefusal,
+    RefusesOverwritten,
+    TakesShortReport,
+    ForgetsToZero,
+    // The batch call.
+    BatchFillsReport,
+    BatchForgetsLive,
+    BatchSwapsPairs,
+    // Figures, bodies, recordings, sheets.
+    ZeroIsThisTick,
+    DelayBelow255,
+    HistoryBelow4096,
+    CellsBelow4096,
+    CellsUpTo4097,
+    FourBeforeNine,
+    HistoryBeforeDelay,
+    FalseAtHorizon,
+    OpenBeforeTrying,
+    LongRecordings,
+    SheetMayGoOn,
+    RuleBeforeLayout,
+    ClearsBuffer,
+    RoomBeforeLengths,
+    // Hostile input.
+    WritesTwoHistoryBytes,
+    RefusesAndWrites,
+    TrustsState,
+}
+
+pub struct StandIn {
+    pub flaw: Flaw,
+}
+
+const BODY_AT: usize = 32;
+
+/// What the state holds.
+struct Held {
+    opened: Opened,
+    tick: u32,
+    live: u32,
+    /// Of the history after the last step; 0 but for one flaw.
+    history_sum: u64,
+}
+
+impl StandIn {
+    fn has(&self, flaw: Flaw) -> bool {
+        self.flaw == flaw
+    }
+
+    fn read_figures(&self, body: &[u8]) -> Result<Figures, Refusal> {
+        let read = paper::read_body(body);
+        if self.has(Flaw::FourBeforeNine) && read == Err(9) && ends_with_code(body) {
+            return Err(4);
+        }
+        self.formula_figures(&read?)
+    }
+
+    fn formula_figures(&self, formula: &Formula) -> Result<Figures, Refusal> {
+        let figures = if self.has(Flaw::ZeroIsThisTick) {
+            paper::formula_figures(&bounds_changed(formula, &zero_is_this_tick))
+        } else {
+            paper::formula_figures(formula)
+        };
+        match figures {
+            Ok(f) if self.has(Flaw::DelayBelow255) && f.delay == 255 => Err(12),
+            Ok(f) if self.has(Flaw::HistoryBelow4096) && f.history == 4096 => Err(14),
+            Ok(f) if self.has(Flaw::CellsBelow4096) && f.cells == 4096 => Err(15),
+            Err(15) if self.has(Flaw::CellsUpTo4097) && just_too_many(formula) => {
+                Ok(Figures { history: 0, delay: 0, cells: 4097 })
+            }
+            Err(11 | 12) if self.has(Flaw::HistoryBeforeDelay) && begins_at_0(formula) => Err(13),
+            other => other,
+        }
+    }
+
+    /// The formula that a flawed engine or evaluator takes for the rule.
+    fn meant(&self, formula: &Formula) -> Formula {
+        match self.flaw {
+            Flaw::EndsRangesLate => bounds_changed(formula, &|first, second| match second {
+                Bound::Variable(v, n) => (first, Bound::Variable(v, n + 1)),
+                other => (first, other),
+            }),
+            Flaw::ThenAsBeside => then_as_beside(formula),
+            _ => formula.clone(),
+        }
+    }
+
+    fn place(&self, sheet: &[u8], rule: usize) -> Result<(usize, usize), Refusal> {
+        let place = paper::rule_place(sheet, rule);
+        match place {
+            Err(2) if self.has(Flaw::RuleBeforeLayout) && rule >= sheet[0] as usize => Err(3),
+            Err(2) if self.has(Flaw::SheetMayGoOn) => {
+                paper::rule_place(&sheet[..sheet.len() - 1], rule).map_err(|_| 2)
+            }
+            other => other,
+        }
+    }
+
+    fn read_state(&self, state: &State) -> Result<Held, Refusal> {
+        let size = word16(state, 0);
+        let history_length = word16(state, 2);
+        if size > MOST_LENGTH {
+            return Err(21);
+        }
+        let checked = sum(&[&state[..20], &state[28..]]).to_le_bytes();
+        let dishonest = history_length > MOST_HISTORY || state[20..28] != checked;
+        if dishonest && !self.has(Flaw::TrustsState) {
+            return Err(21);
+        }
+        let formula = paper::read_body(&state[BODY_AT..BODY_AT + size]).map_err(|_| 21u32)?;
+        let figures = paper::formula_figures(&formula).map_err(|_| 21u32)?;
+        Ok(Held {
+            opened: Opened { formula, figures, history_length },
+            tick: u32::from_le_bytes(state[4..8].try_into().unwrap()),
+            live: u32::from_le_bytes(state[8..12].try_into().unwrap()),
+            history_sum: u64::from_le_bytes(state[12..20].try_into().unwrap()),
+        })
+    }
+
+    fn refusal(&self, held: &Held, lent: &StepLent) -> Option<Refusal> {
+        let mut lengths = Lengths {
+            history: lent.history.len(),
+            table: lent.cells.len(),
+            report: lent.report.len(),
+        };
+        if self.has(Flaw::TakesShortReport) && lengths.report + 1 == held.opened.needed_report() {
+            lengths.report += 1;
+        }
+        let refusal = paper::step_refusal(&held.opened, lengths, held.tick as u64);
+        let short_table = lengths.table < held.opened.needed_words();
+        let short_report = lengths.report < held.opened.needed_report();
+        match refusal {
+            Some(17) if self.has(Flaw::TableBeforeHistory) && short_table => Some(18),
+            Some(18) if self.has(Flaw::ReportBeforeTable) && short_report => Some(19),
+            None if self.has(Flaw::RefusesOverwritten)
+                && held.tick > 0
+                && held.history_sum != sum(&[lent.history]) =>
+            {
+                Some(21)
+            }
+            other => other,
+        }
+    }
+
+    /// The stream as far as it can matter, with 0 for what came before.
+    fn recording(&self, held: &Held, flag: u8, history: &[u8], cells: &[u32]) -> Vec<u8> {
+        let t = held.tick as usize;
+        let kept = if self.has(Flaw::ReadsUnusedHistory) {
+            history.len()
+        } else {
+            held.opened.figures.history as usize
+        };
+        let delay = held.opened.figures.delay as usize;
+        let mut recording = vec![0; t + 1];
+        for q in t.saturating_sub(kept + delay)..t {
+            recording[q] =
+                if q + kept >= t { history[q % history.len()] } else { cells[q % delay] as u8 };
+        }
+        recording[t] = flag;
+        recording
+    }
+
+    /// One step that nothing refuses: the report and the live count.
+    fn take(&self, held: &Held, flag: u8, lent: &mut StepLent) -> (Vec<u32>, usize) {
+        let t = held.tick as usize;
+        let figures = held.opened.figures;
+        if self.has(Flaw::StoresFirst) {
+            self.store(t, flag, lent.history);
+        }
+        let recording = self.recording(held, flag, lent.history, lent.cells);
+        let (report, live) = self.judge(held, &recording);
+        if figures.delay > 0 && t as u64 >= figures.history {
+            // The history forgets this one first; it may be needed still.
+            let leaving = t - figures.history as usize;
+            lent.cells[leaving % figures.delay as usize] = recording[leaving] as u32;
+        }
+        self.store(t, flag, lent.history);
+        if self.has(Flaw::WritesAfterTable) {
+            if let Some(word) = lent.cells.get_mut(held.opened.needed_words()) {
+                *word = 0;
+            }
+        }
+        (report, live)
+    }
+
+    fn store(&self, t: usize, flag: u8, history: &mut [u8]) {
+        let length = history.len();
+        if length == 0 || self.has(Flaw::LeavesHistory) {
+            return;
+        }
+        let at = if self.has(Flaw::WrapsLate) { t % (length + 1) } else { t % length };
+        if at < length {
+            history[at] = flag;
+        }
+        if self.has(Flaw::WritesTwoHistoryBytes) && t % 8 == 7 {
+            history[(t + 1) % length] = flag;
+        }
+    }
+
+    fn judge(&self, held: &Held, recording: &[u8]) -> (Vec<u32>, usize) {
+        let t = recording.len() - 1;
+        let delay = held.opened.figures.delay as usize;
+        let formula = self.meant(&held.opened.formula);
+        let mut report = Vec::new();
+        let mut live = 0;
+        for p in t.saturating_sub(delay)..=t {
+            let outcome = paper::rule_outcome(&formula, recording, p as i64);
+            if self.has(Flaw::JudgesAtTheEnd) {
+                let is_false = matches!(outcome, Outcome::Decided(Verdict::False, _));
+                if p + delay > t {
+                    live += 1;
+                } else if is_false {
+                    report.push(p as u32);
+                }
+                continue;
+            }
+            match outcome {
+                Outcome::Decided(Verdict::False, step) if step == t as i64 => report.push(p as u32),
+                Outcome::Decided(..) => {}
+                Outcome::Open => live += 1,
+            }
+        }
+        if self.has(Flaw::ReportsNothing) {
+            report.clear();
+        }
+        if self.has(Flaw::ReportsDescending) {
+            report.reverse();
+        }
+        (report, live + self.has(Flaw::CountsOneMore) as usize)
+    }
+
+    fn write_state(&self, held: &Held, state: &mut State) {
+        state[4..8].copy_from_slice(&held.tick.to_le_bytes());
+        state[8..12].copy_from_slice(&held.live.to_le_bytes());
+        state[12..20].copy_from_slice(&held.history_sum.to_le_bytes());
+        let checked = sum(&[&state[..20], &state[28..]]);
+        state[20..28].copy_from_slice(&checked.to_le_bytes());
+    }
+
+    fn advance(&self, held: &mut Held, flag: u8, lent: &mut StepLent) -> Vec<u32> {
+        let (report, live) = self.take(held, flag, lent);
+        held.tick += 1;
+        held.live = live as u32;
+        if self.has(Flaw::RefusesOverwritten) {
+            held.history_sum = sum(&[lent.history]);
+        }
+        report
+    }
+}
+
+impl Library for StandIn {
+    fn rule_place(&self, sheet: &[u8], rule: usize, start: &mut usize, size: &mut usize) -> u32 {
+        match self.place(sheet, rule) {
+            Err(number) => number,
+            Ok(place) => {
+                (*start, *size) = place;
+                0
+            }
+        }
+    }
+
+    fn write_sheet(
+        &self,
+        lengths: &[u16],
+        bodies: &[u8],
+        out: &mut [u8],
+        written: &mut usize,
+    ) -> u32 {
+        let needed = 1 + 4 * lengths.len() + bodies.len();
+        if self.has(Flaw::RoomBeforeLengths) && out.len() < needed {
+            return 22;
+        }
+        match paper::write_sheet(lengths, bodies, out) {
+            Err(number) => number,
+            Ok(length) => {
+                if self.has(Flaw::ClearsBuffer) {
+                    out[length..].fill(0);
+                }
+                *written = length;
+                0
+            }
+        }
+    }
+
+    fn figures(&self, body: &[u8], history: &mut u64, delay: &mut u64, cells: &mut u64) -> u32 {
+        match self.read_figures(body) {
+            Err(number) => number,
+            Ok(figures) => {
+                (*history, *delay, *cells) = (figures.history, figures.delay, figures.cells);
+                0
+            }
+        }
+    }
+
+    fn outcome(
+        &self,
+        body: &[u8],
+        recording: &[u8],
+        tick: usize,
+        verdict: &mut u32,
+        step: &mut u64,
+    ) -> u32 {
+        let mut recording = recording;
+        if self.has(Flaw::LongRecordings) && recording.len() == 65_536 {
+            recording = &recording[..65_535];
+        }
+        let horizon = recording.len() as i64 - 1;
+        match paper::evaluate(body, recording, tick) {
+            Err(number) => return number,
+            Ok(_) if self.has(Flaw::OpenBeforeTrying) && horizon == tick as i64 => *verdict = OPEN,
+            Ok(_) => {
+                let formula = self.meant(&paper::read_body(body).unwrap());
+                match paper::rule_outcome(&formula, recording, tick as i64) {
+                    Outcome::Open => (*verdict, *step) = (OPEN, 0),
+                    Outcome::Decided(Verdict::True, at) => (*verdict, *step) = (TRUE, at as u64),
+                    Outcome::Decided(Verdict::False, at) => {
+                        let late = self.has(Flaw::FalseAtHorizon);
+                        (*verdict, *step) = (FALSE, if late { horizon } else { at } as u64);
+                    }
+                }
+            }
+        }
+        0
+    }
+
+    fn open(
+        &self,
+        sheet: &[u8],
+        rule: usize,
+        history: &mut [u8],
+        cells: &[u32],
+        state: &mut State,
+    ) -> u32 {
+        let opened = match paper::open(sheet, rule, history.len(), cells.len()) {
+            Err(number) => return number,
+            Ok(opened) => opened,
+        };
+        if !self.has(Flaw::ForgetsToZero) {
+            history.fill(0);
+        }
+        let body = paper::rule_body(sheet, rule).expect("the opening read it");
+        state.fill(0);
+        state[0..2].copy_from_slice(&(body.len() as u16).to_le_bytes());
+        state[2..4].copy_from_slice(&(history.len() as u16).to_le_bytes());
+        state[BODY_AT..BODY_AT + body.len()].copy_from_slice(body);
+        self.write_state(&Held { opened, tick: 0, live: 0, history_sum: 0 }, state);
+        0
+    }
+
+    fn step(&self, state: &mut State, flag: u8, mut lent: StepLent, answer: StepAnswer) -> u32 {
+        let mut held = match self.read_state(state) {
+            Err(number) => {
+                if self.has(Flaw::RefusesAndWrites) {
+                    state[0] ^= 1;
+                }
+                return number;
+            }
+            Ok(held) => held,
+        };
+        if let Some(number) = self.refusal(&held, &lent) {
+            if self.has(Flaw::AnswersOnRefusal) {
+                *answer.live = 0;
+            }
+            return number;
+        }
+        let report = self.advance(&mut held, flag, &mut lent);
+        let room = report.len().min(lent.report.len());
+        lent.report[..room].copy_from_slice(&report[..room]);
+        if self.has(Flaw::WritesAfterReport) {
+            lent.report[room..].fill(0);
+        }
+        self.write_state(&held, state);
+        *answer.reported = report.len();
+        *answer.live = held.live as usize;
+        0
+    }
+
+    fn steps(
+        &self,
+        state: &mut State,
+        flags: &[u8],
+        mut lent: StepLent,
+        answer: StepsAnswer,
+    ) -> u32 {
+        let mut held = match self.read_state(state) {
+            Err(number) => return number,
+            Ok(held) => held,
+        };
+        let needed = 2 * held.opened.needed_report();
+        let (mut taken, mut words) = (0, 0);
+        let whole_report = Lengths {
+            history: lent.history.len(),
+            table: lent.cells.len(),
+            report: held.opened.needed_report(),
+        };
+        if let Some(number) = paper::step_refusal(&held.opened, whole_report, held.tick as u64) {
+            return number;
+        }
+        for &flag in flags {
+            let left = lent.report.len() - words;
+            let full = if self.has(Flaw::BatchFillsReport) { left == 0 } else { left < needed };
+            if full {
+                break;
+            }
+            let step = held.tick;
+            for tick in self.advance(&mut held, flag, &mut lent) {
+                let pair =
+                    if self.has(Flaw::BatchSwapsPairs) { [step, tick] } else { [tick, step] };
+                if words + 2 <= lent.report.len() {
+                    lent.report[words..words + 2].copy_from_slice(&pair);
+                    words += 2;
+                }
+            }
+            taken += 1;
+        }
+        self.write_state(&held, state);
+        *answer.taken = taken;
+        *answer.pairs = words / 2;
+        *answer.live = if self.has(Flaw::BatchForgetsLive) { 0 } else { held.live as usize };
+        0
+    }
+}
+
+fn word16(bytes: &[u8], at: usize) -> usize {
+    bytes[at] as usize + 256 * bytes[at + 1] as usize
+}
+
+/// FNV-1a.
+fn sum(parts: &[&[u8]]) -> u64 {
+    let mut sum = 0xCBF2_9CE4_8422_2325u64;
+    for part in parts {
+        for &byte in *part {
+            sum = (sum ^ byte as u64).wrapping_mul(0x0000_0100_0000_01B3);
+        }
+    }
+    sum
+}
+
+/// Whether the last byte is the code that refusal 9 is about.
+fn ends_with_code(body: &[u8]) -> bool {
+    paper::read_body(&body[..body.len() - 1]) == Err(4)
+}
+
+fn zero_is_this_tick(first: Bound, second: Bound) -> (Bound, Bound) {
+    match first {
+        Bound::Start(n) => (Bound::Variable(0, n), second),
+        other => (other, second),
+    }
+}
+
+fn begins_at_0(formula: &Formula) -> bool {
+    match formula {
+        Formula::Flag(..) => false,
+        Formula::Not(part) => begins_at_0(part),
+        Formula::Then(f, g) | Formula::Beside(f, g) => begins_at_0(f) || begins_at_0(g),
+        Formula::ForAll(first, _, part) => matches!(first, Bound::Start(_)) || begins_at_0(part),
+    }
+}
+
+/// Whether the formula is a bare range that needs 4,097 cells: X-4,094..X.
+fn just_too_many(formula: &Formula) -> bool {
+    match formula {
+        Formula::Not(part) => just_too_many(part),
+        Formula::ForAll(Bound::Variable(0, low), Bound::Variable(0, high), part) => {
+            high - low == 4094 && *high <= 0 && matches!(**part, Formula::Flag(..))
+        }
+        _ => false,
+    }
+}
+
+type BoundChange<'a> = &'a dyn Fn(Bound, Bound) -> (Bound, Bound);
+
+fn bounds_changed(formula: &Formula, change: BoundChange) -> Formula {
+    let part = |formula: &Formula| Box::new(bounds_changed(formula, change));
+    match formula {
+        Formula::Flag(..) => formula.clone(),
+        Formula::Not(f) => Formula::Not(part(f)),
+        Formula::Then(f, g) => Formula::Then(part(f), part(g)),
+        Formula::Beside(f, g) => Formula::Beside(part(f), part(g)),
+        Formula::ForAll(first, second, f) => {
+            let (first, second) = change(*first, *second);
+            Formula::ForAll(first, second, part(f))
+        }
+    }
+}
+
+fn then_as_beside(formula: &Formula) -> Formula {
+    let part = |formula: &Formula| Box::new(then_as_beside(formula));
+    match formula {
+        Formula::Flag(..) => formula.clone(),
+        Formula::Not(f) => Formula::Not(part(f)),
+        Formula::Then(f, g) | Formula::Beside(f, g) => Formula::Beside(part(f), part(g)),
+        Formula::ForAll(first, second, f) => Formula::ForAll(*first, *second, part(f)),
+    }
+}

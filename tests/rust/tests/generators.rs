@@ -1,0 +1,193 @@
+//! The generators make what they are for: each refusal with its neighbour just
+//! inside, interesting rules, streams with long runs.
+
+use rust_tests::paper::{
+    evaluate, figures, read_body, rule_place, write_sheet, Bound, Formula, MOST_HISTORY,
+    MOST_OFFSET,
+};
+use rust_tests::random::{
+    accepted_rule, aimed, any_body, damaged_sheet, depth, figure_boundary, size, stream,
+    twice_damaged, wild_formula, writer_input, Random,
+};
+
+/// A body aimed at refusal 4 to 10 gets that number, and its neighbour none.
+#[test]
+fn aimed_bodies() {
+    let mut random = Random::new(201);
+    for number in 4..=10 {
+        for _ in 0..1_000 {
+            let pair = aimed(&mut random, number);
+            assert_eq!(read_body(&pair.outside).err(), Some(number), "{pair:?}");
+            assert_eq!(figures(&pair.outside).err(), Some(number), "{pair:?}");
+            assert_eq!(evaluate(&pair.outside, &[], 0).err(), Some(number), "{pair:?}");
+            assert!(read_body(&pair.inside).is_ok(), "{number}: {pair:?}");
+        }
+    }
+}
+
+/// The same for 11 to 15, by the figures.
+#[test]
+fn figure_boundaries() {
+    let mut random = Random::new(202);
+    for number in 11..=15 {
+        for _ in 0..300 {
+            let pair = figure_boundary(&mut random, number);
+            assert_eq!(figures(&pair.outside).err(), Some(number), "{pair:?}");
+            assert!(figures(&pair.inside).is_ok(), "{number}: {pair:?}");
+        }
+    }
+}
+
+/// The limits themselves are met: delay 255, history 4,096, cells 4,096.
+#[test]
+fn boundaries_meet_the_limits() {
+    let mut random = Random::new(203);
+    let (mut delays, mut histories, mut cells) = (0, 0, 0);
+    for _ in 0..500 {
+        let inside =
+            |random: &mut Random, number| figures(&figure_boundary(random, number).inside).unwrap();
+        delays += (inside(&mut random, 12).delay == 255) as u64;
+        histories += (inside(&mut random, 14).history == MOST_HISTORY as u64) as u64;
+        cells += (inside(&mut random, 15).cells > 4_000) as u64;
+    }
+    assert_eq!((delays, histories), (500, 500));
+    assert!(cells > 150, "{cells} rules of more than 4,000 cells");
+}
+
+#[test]
+fn accepted_rules_are_interesting() {
+    let mut random = Random::new(204);
+    let rounds = 4_000;
+    let (mut short, mut waiting, mut reaching, mut four, mut large) = (0, 0, 0, 0, 0);
+    let mut codes = [0; 6];
+    for _ in 0..rounds {
+        let rule = accepted_rule(&mut random);
+        assert_eq!(figures(&rule.body), Ok(rule.figures));
+        assert_eq!(read_body(&rule.body), Ok(rule.formula.clone()));
+        short += (rule.figures.delay <= 20) as u64;
+        waiting += (1..=20).contains(&rule.figures.delay) as u64;
+        reaching += (rule.figures.history > 0) as u64;
+        four += (depth(&rule.formula) == 4) as u64;
+        large += (size(&rule.formula) > 20) as u64;
+        count_codes(&rule.formula, &mut codes);
+    }
+    assert!(short > rounds * 8 / 10, "{short} with delay 0..20");
+    assert!(waiting > rounds * 6 / 10, "{waiting} with delay 1..20");
+    assert!(reaching > rounds / 2, "{reaching} with history");
+    assert!(four > rounds / 10, "{four} with four nested ranges");
+    assert!(large > rounds / 100, "{large} with more than 20 formulas");
+    assert!(codes[1..].iter().all(|&count| count > rounds / 2), "codes {codes:?}");
+}
+
+fn count_codes(formula: &Formula, codes: &mut [u64; 6]) {
+    match formula {
+        Formula::Flag(..) => codes[1] += 1,
+        Formula::Not(part) => {
+            codes[2] += 1;
+            count_codes(part, codes);
+        }
+        Formula::Then(f, g) | Formula::Beside(f, g) => {
+            codes[if matches!(formula, Formula::Then(..)) { 3 } else { 4 }] += 1;
+            count_codes(f, codes);
+            count_codes(g, codes);
+        }
+        Formula::ForAll(_, _, part) => {
+            codes[5] += 1;
+            count_codes(part, codes);
+        }
+    }
+}
+
+/// Every kind of bound, and offsets at their limits.
+#[test]
+fn wild_formulas_are_wild() {
+    let mut random = Random::new(205);
+    let mut seen = Vec::new();
+    for _ in 0..3_000 {
+        bounds(&wild_formula(&mut random), &mut seen);
+    }
+    let count = |wanted: &dyn Fn(&Bound) -> bool| seen.iter().filter(|b| wanted(b)).count();
+    assert!(count(&|b| matches!(b, Bound::Start(_))) > 200);
+    assert!(count(&|b| *b == Bound::Infinity) > 200);
+    for limit in [-MOST_OFFSET, MOST_OFFSET] {
+        assert!(count(&|b| matches!(b, Bound::Variable(_, n) if *n == limit)) > 20);
+        assert!(count(&|b| *b == Bound::Start(limit)) > 5);
+    }
+    for variable in 0..=3 {
+        assert!(count(&|b| matches!(b, Bound::Variable(v, _) if *v == variable)) > 50);
+    }
+}
+
+fn bounds(formula: &Formula, seen: &mut Vec<Bound>) {
+    match formula {
+        Formula::Flag(..) => {}
+        Formula::Not(part) => bounds(part, seen),
+        Formula::Then(f, g) | Formula::Beside(f, g) => {
+            bounds(f, seen);
+            bounds(g, seen);
+        }
+        Formula::ForAll(first, second, part) => {
+            seen.extend([*first, *second]);
+            bounds(part, seen);
+        }
+    }
+}
+
+/// Bodies of any sort hit every number, and so do those damaged twice.
+#[test]
+fn any_bodies_hit_every_number() {
+    let mut random = Random::new(206);
+    let (mut any, mut twice) = ([0; 16], [0; 16]);
+    for _ in 0..8_000 {
+        any[figures(&any_body(&mut random)).err().unwrap_or(0) as usize] += 1;
+        twice[figures(&twice_damaged(&mut random)).err().unwrap_or(0) as usize] += 1;
+    }
+    assert!(any[4..].iter().all(|&count| count > 100) && any[0] > 1_000, "{any:?}");
+    assert!(twice[4..=8].iter().all(|&count| count > 50) && twice[10] > 50, "{twice:?}");
+}
+
+#[test]
+fn sheets_and_writers_hit_every_number() {
+    let mut random = Random::new(207);
+    let (mut readers, mut writers) = ([0; 23], [0; 23]);
+    for _ in 0..3_000 {
+        let sheet = damaged_sheet(&mut random);
+        readers[rule_place(&sheet, random.below(3)).err().unwrap_or(0) as usize] += 1;
+        let input = writer_input(&mut random);
+        let mut out = vec![0; input.room];
+        let written = write_sheet(&input.lengths, &input.bodies, &mut out);
+        writers[written.err().unwrap_or(0) as usize] += 1;
+    }
+    let readers_hit = [0, 1, 2, 3].iter().all(|&number| readers[number] > 20);
+    let writers_hit = [0, 1, 2, 22].iter().all(|&number| writers[number] > 100);
+    assert!(readers_hit && writers_hit, "readers {readers:?}, writers {writers:?}");
+}
+
+/// Long runs, single ups and alternations.
+#[test]
+fn streams_have_runs() {
+    let mut random = Random::new(208);
+    let (mut long, mut single, mut alternating) = (0, 0, 0);
+    for _ in 0..200 {
+        let flags = stream(&mut random, 300);
+        assert_eq!(flags.len(), 300);
+        let ups: Vec<bool> = flags.iter().map(|byte| byte & 1 == 1).collect();
+        long += (ups.windows(30).any(|w| w.iter().all(|&up| up))) as u64;
+        single += (ups.windows(9).any(|w| (0..9).all(|i| w[i] == (i == 4)))) as u64;
+        alternating += (ups.windows(12).any(|w| (1..12).all(|i| w[i] != w[i - 1]))) as u64;
+    }
+    assert!(long > 100 && single > 50 && alternating > 50, "{long}, {single}, {alternating}");
+}
+
+/// The same seed makes the same, another seed another.
+#[test]
+fn seeds_are_fixed() {
+    let make = |seed| {
+        let mut random = Random::new(seed);
+        (accepted_rule(&mut random).body, stream(&mut random, 50))
+    };
+    assert_eq!(make(1), make(1));
+    assert_ne!(make(1), make(2));
+    // The first word of splitmix64 with seed 0, as its author gives it.
+    assert_eq!(Random::new(0).word(), 0xE220_A839_7B1D_CDAF);
+}

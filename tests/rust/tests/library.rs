@@ -1,0 +1,100 @@
+//! The Rattle library against the paper (feature `library`). The sizes are
+//! chosen so that all of this takes well under three minutes.
+
+use rust_tests::compare::{self, Tally};
+use rust_tests::library::Linked;
+
+/// Together at least 20,000 rules and 2,000,000 steps, in two tests that run
+/// beside each other.
+const RULES: u64 = 10_000;
+const STEPS: u64 = 1_000_000;
+/// Every history length from 1 to 4,096 for one rule, so many steps each.
+const STEPS_A_LENGTH: usize = 40;
+/// Rounds of three bodies each.
+const BODIES: usize = 24_000;
+/// Bodies whose recordings are asked for every tick.
+const RECORDINGS: usize = 4_000;
+const LONG_RECORDINGS: usize = 20;
+const SHEETS: usize = 6_000;
+const WRITERS: usize = 6_000;
+const OPENINGS: usize = 12_000;
+
+fn check_runs(seed: u64) {
+    let tally = compare::runs(&Linked, seed, RULES, STEPS).unwrap();
+    assert!(tally.rules >= RULES && tally.steps >= STEPS, "{tally:?}");
+    check_tally(&tally);
+}
+
+/// The runs were worth it.
+fn check_tally(tally: &Tally) {
+    let steps = tally.steps;
+    assert!(tally.violations > steps / 10, "{tally:?}");
+    assert!(tally.late > steps / 40, "{tally:?}");
+    assert!(tally.several > steps / 400, "{tally:?}");
+    assert!(tally.batches > steps / 200 && tally.full_batches > steps / 10_000, "{tally:?}");
+    assert!(tally.foreign > steps / 10, "{tally:?}");
+    assert!(tally.refused.each_at_least(&[17, 18, 19], steps / 400), "{tally:?}");
+}
+
+#[test]
+fn runs_first_half() {
+    check_runs(1_001);
+}
+
+#[test]
+fn runs_second_half() {
+    check_runs(1_002);
+}
+
+#[test]
+fn every_history_length() {
+    let tally = compare::history_lengths(&Linked, 1_003, STEPS_A_LENGTH).unwrap();
+    assert_eq!(tally.rules, 4_096);
+    assert_eq!(tally.steps, 4_096 * STEPS_A_LENGTH as u64);
+}
+
+#[test]
+fn bodies() {
+    let numbers = compare::bodies(&Linked, 1_004, BODIES).unwrap();
+    let each = BODIES as u64 / 12;
+    assert!(numbers.each_at_least(&(4..=15).collect::<Vec<u32>>(), each), "{numbers:?}");
+    assert!(numbers.of(0) > 5 * each, "{numbers:?}");
+}
+
+#[test]
+fn limits() {
+    let numbers = compare::limits(&Linked).unwrap();
+    assert!(numbers.each_at_least(&[0, 11, 12, 13, 14, 15], 1), "{numbers:?}");
+}
+
+#[test]
+fn recordings() {
+    let asked = compare::recordings(&Linked, 1_005, RECORDINGS).unwrap();
+    assert!(asked > 10 * RECORDINGS as u64, "{asked} ticks asked");
+}
+
+#[test]
+fn long_recordings() {
+    let numbers = compare::long_recordings(&Linked, 1_006, LONG_RECORDINGS).unwrap();
+    assert!(numbers.each_at_least(&[0, 16], 2 * LONG_RECORDINGS as u64), "{numbers:?}");
+}
+
+#[test]
+fn sheets() {
+    let numbers = compare::sheets(&Linked, 1_007, SHEETS).unwrap();
+    assert!(numbers.each_at_least(&[0, 1, 2, 3], SHEETS as u64 / 8), "{numbers:?}");
+}
+
+#[test]
+fn writers() {
+    let numbers = compare::writers(&Linked, 1_008, WRITERS).unwrap();
+    assert!(numbers.each_at_least(&[0, 1, 2, 22], WRITERS as u64 / 40), "{numbers:?}");
+}
+
+#[test]
+fn openings() {
+    let numbers = compare::openings(&Linked, 1_009, OPENINGS).unwrap();
+    let often = OPENINGS as u64 / 200;
+    assert!(numbers.each_at_least(&(0..=15).collect::<Vec<u32>>(), often), "{numbers:?}");
+    assert!(numbers.each_at_least(&[17, 18], often), "{numbers:?}");
+}

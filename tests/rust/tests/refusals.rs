@@ -1,0 +1,352 @@
+//! Refusals and their order: "a number comes when its line holds and nothing
+//! earlier in the order does, and never otherwise".
+
+use rust_tests::notation::*;
+use rust_tests::paper::{
+    evaluate, figures, open, read_body, rule_body, rule_place, step_refusal, write_body,
+    write_sheet, Formula, Lengths, Refusal,
+};
+use rust_tests::random::sheet_of;
+
+#[track_caller]
+fn body_gets(hexadecimal: &str, due: Result<(), Refusal>) {
+    assert_eq!(read_body(&bytes(hexadecimal)).map(|_| ()), due, "{hexadecimal}");
+}
+
+#[track_caller]
+fn refused(hexadecimal: &str, due: Refusal) {
+    body_gets(hexadecimal, Err(due));
+}
+
+fn nots(count: usize) -> String {
+    "02 ".repeat(count)
+}
+
+/// The beginning of a range X..X.
+const RANGE: &str = "05 02 00 00 00 02 00 00 00 ";
+
+#[test]
+fn accepted_bodies() {
+    body_gets("01 00 00", Ok(()));
+    body_gets("01 00 07", Ok(()));
+    body_gets("02 01 00 00", Ok(()));
+    body_gets("03 01 00 00 01 00 01", Ok(()));
+    body_gets("04 01 00 00 01 00 01", Ok(()));
+    body_gets(&(RANGE.to_string() + "01 01 00"), Ok(()));
+    body_gets("05 00 00 FB FF 01 00 00 00 01 01 00", Ok(()));
+}
+
+#[test]
+fn too_early_an_end() {
+    refused("", 4);
+    refused("01", 4);
+    refused("01 00", 4);
+    refused("02", 4);
+    refused("03 01 00 00", 4);
+    refused("04 02 01 00 00", 4);
+    refused(RANGE, 4);
+    // The fixed bytes of a flag come before its variable and flag are looked at.
+    refused("01 09", 4);
+    // All 8 bytes of both bounds come before the first bound's kind.
+    refused("05 03", 4);
+    refused("05 03 00 00 00 03 00 00", 4);
+}
+
+#[test]
+fn unknown_code_or_kind() {
+    refused("00", 5);
+    refused("06", 5);
+    refused("FF 01 00 00", 5);
+    refused("02 06", 5);
+    // The kind's own number comes before the body's end.
+    refused("05 03 00 00 00 02 00 00 00", 5);
+    refused("05 02 00 00 00 03 00 00 00", 5);
+    // An unknown kind with an unbound variable and an offset out of range.
+    refused("05 03 09 00 10 02 00 00 00 01 00 00", 5);
+}
+
+#[test]
+fn unbound_variables() {
+    refused("01 01 00", 6);
+    // Before the flag.
+    refused("01 01 08", 6);
+    // A quantifier's own variable isn't bound in its bounds.
+    refused("05 02 01 00 00 02 00 00 00 01 01 00", 6);
+    refused("05 02 00 00 00 02 01 00 00 01 01 00", 6);
+    // Before the offset of the same bound, and before the next bound's kind.
+    refused("05 02 01 00 10 02 00 00 00 01 00 00", 6);
+    refused("05 02 01 00 00 03 00 00 00 01 00 00", 6);
+    // A variable is bound under its quantifier only, not beside it.
+    refused(&("04 ".to_string() + RANGE + "01 01 00 01 01 00"), 6);
+    // Under four quantifiers variable 4 is bound, 5 isn't.
+    body_gets(&(RANGE.repeat(4) + "01 04 00"), Ok(()));
+    refused(&(RANGE.repeat(4) + "01 05 00"), 6);
+}
+
+#[test]
+fn flags_above_7() {
+    refused("01 00 08", 7);
+    refused("01 00 FF", 7);
+    // Before bytes left over, and before what comes to its right.
+    refused("01 00 08 00", 7);
+    refused("03 01 00 08", 7);
+    refused("03 01 00 08 06", 7);
+    // But after what comes to its left.
+    refused("03 01 01 00 01 00 08", 6);
+}
+
+#[test]
+fn offsets_and_bytes_that_should_be_0() {
+    let with = |bound: &str| "05 ".to_string() + bound + " 02 00 00 00 01 00 00";
+    // 4,095 is FF 0F, -4,095 is 01 F0.
+    body_gets(&with("02 00 FF 0F"), Ok(()));
+    body_gets(&with("02 00 01 F0"), Ok(()));
+    refused(&with("02 00 00 10"), 8);
+    refused(&with("02 00 00 F0"), 8);
+    refused(&with("02 00 FF 7F"), 8);
+    refused(&with("02 00 00 80"), 8);
+    // Position 0 has an offset too.
+    body_gets(&with("00 00 FF 0F"), Ok(()));
+    refused(&with("00 00 00 10"), 8);
+    // Kinds 0 and 1 never give 6: their variable byte gives 8.
+    refused(&with("00 01 00 00"), 8);
+    refused(&with("00 FF 00 00"), 8);
+    refused(&with("01 01 00 00"), 8);
+    // Infinity has no offset.
+    body_gets(&with("01 00 00 00"), Ok(()));
+    refused(&with("01 00 01 00"), 8);
+    refused(&with("01 00 00 01"), 8);
+    // The first bound's 8 comes before the second's 5 and 6.
+    refused("05 02 00 00 10 03 00 00 00 01 00 00", 8);
+    refused("05 02 00 00 10 02 01 00 00 01 00 00", 8);
+    // And before the body's 4.
+    refused("05 02 00 00 10 02 00 00 00", 8);
+}
+
+#[test]
+fn too_many_formulas() {
+    body_gets(&(nots(63) + "01 00 00"), Ok(()));
+    refused(&(nots(64) + "01 00 00"), 9);
+    // Code present (4), known (5), 9, its fixed bytes present (4).
+    refused(&nots(64), 4);
+    refused(&(nots(64) + "06"), 5);
+    refused(&(nots(64) + "01"), 9);
+    refused(&(nots(64) + "05"), 9);
+    refused(&(nots(64) + "01 09 09"), 9);
+    refused(&nots(65), 9);
+    // 64 formulas that end, and more bytes: left over, whatever they are.
+    refused(&(nots(63) + "01 00 00 01 00 00"), 10);
+    // A flag to the left of the 65th formula is looked at first.
+    refused(&("03 01 00 08 ".to_string() + &nots(62) + "01 00 00"), 7);
+    // 31 conjunctions and 32 flags are 63; with a not before them 64; with two, 65.
+    let tree = "04 ".repeat(31) + &"01 00 00 ".repeat(32);
+    body_gets(&(nots(1) + &tree), Ok(()));
+    refused(&(nots(2) + &tree), 9);
+}
+
+#[test]
+fn too_many_nested() {
+    body_gets(&(RANGE.repeat(4) + "01 00 00"), Ok(()));
+    refused(&(RANGE.repeat(5) + "01 00 00"), 9);
+    refused(&(RANGE.repeat(4) + "05"), 9);
+    refused(&(RANGE.repeat(4) + "05 03 00 00 00 03 00 00 00"), 9);
+    refused(&(RANGE.repeat(4) + "02 02 05"), 9);
+    // Four nested on the left, four on the right: eight, but not nested.
+    let four = RANGE.repeat(4) + "01 04 00 ";
+    body_gets(&("04 ".to_string() + &four + &four), Ok(()));
+    // A wrong bound of the fourth comes before the fifth.
+    refused(&(RANGE.repeat(3) + "05 02 09 00 00 02 00 00 00 05"), 6);
+}
+
+#[test]
+fn bytes_left_over() {
+    refused("01 00 00 00", 10);
+    refused("01 00 00 06", 10);
+    refused("02 01 00 00 01 00 00", 10);
+}
+
+#[track_caller]
+fn figures_refuse(formula: Formula, due: Refusal) {
+    assert_eq!(figures(&write_body(&formula)), Err(due), "{formula:?}");
+}
+
+#[test]
+fn order_of_the_figures() {
+    // 10 before 11.
+    let mut body = write_body(&all(x(0), INFINITY, flag(0, Y)));
+    body.push(0);
+    assert_eq!(figures(&body), Err(10));
+    // Delay infinite and history infinite: 11.
+    figures_refuse(all(start(0), INFINITY, flag(0, Y)), 11);
+    // Delay infinite on one side, above 255 on the other: 11.
+    let endless = all(x(0), INFINITY, flag(0, Y));
+    figures_refuse(beside(all(x(256), x(256), flag(0, Y)), endless), 11);
+    // Delay above 255, history infinite: 12.
+    figures_refuse(all(start(0), x(256), flag(0, Y)), 12);
+    // History infinite on one side, above 4,096 on the other: 13.
+    let far = || all(x(-4095), x(-4095), all(y(-2), y(-2), flag(0, Z)));
+    figures_refuse(beside(far(), all(start(0), x(0), flag(0, Y))), 13);
+    // History above 4,096, too many cells: 14. And history infinite, too many: 13.
+    figures_refuse(beside(far(), all(x(-4000), x(99), flag(0, Y))), 14);
+    figures_refuse(all(start(0), x(0), all(x(-4000), x(99), flag(0, Z))), 13);
+    // Delay 256 and too many cells: 12.
+    figures_refuse(all(x(0), x(256), flag(0, Y)), 12);
+}
+
+#[test]
+fn infinity_as_first_bound() {
+    // l is infinity, but u counts: 11 with infinity, 12 with X+256.
+    figures_refuse(all(INFINITY, INFINITY, flag(0, Y)), 11);
+    figures_refuse(all(INFINITY, x(256), flag(0, Y)), 12);
+    // A variable of an endless range carries its u into the delay of the inner one;
+    // the outer one is refused for itself already.
+    figures_refuse(all(INFINITY, INFINITY, all(x(0), x(0), flag(0, Z))), 11);
+    // l of Y+5 is infinity too: 0 for N(k - l), W 0. Delay 2 from u of X+2.
+    let rule = all(INFINITY, x(2), all(y(5), x(0), flag(0, Z)));
+    let got = figures(&write_body(&rule)).unwrap();
+    assert_eq!((got.history, got.delay, got.cells), (0, 2, 6));
+}
+
+#[test]
+fn sheets() {
+    let sheet = sheet_of(&[vec![1, 0, 0], vec![9; 512], vec![7]]);
+    assert_eq!(rule_place(&sheet, 0), Ok((13, 3)));
+    assert_eq!(rule_place(&sheet, 1), Ok((16, 512)));
+    assert_eq!(rule_body(&sheet, 2), Ok(&[7u8][..]));
+    assert_eq!(rule_place(&sheet, 3), Err(3));
+    assert_eq!(rule_place(&sheet, usize::MAX), Err(3));
+    // 1: empty, n = 0, n = 33, table of contents cut.
+    assert_eq!(rule_place(&[], 0), Err(1));
+    assert_eq!(rule_place(&[0], 0), Err(1));
+    assert_eq!(rule_place(&vec![33; 400], 0), Err(1));
+    assert_eq!(rule_place(&sheet[..12], 0), Err(1));
+    // With the whole table and no body the layout is broken: 2.
+    assert_eq!(rule_place(&sheet[..13], 0), Err(2));
+    assert_eq!(rule_place(&sheet[..sheet.len() - 1], 0), Err(2));
+    // 1 before 3, 2 before 3.
+    assert_eq!(rule_place(&[], 9), Err(1));
+    assert_eq!(rule_place(&sheet[..sheet.len() - 1], 9), Err(2));
+}
+
+#[test]
+fn broken_entries() {
+    let sheet = sheet_of(&[vec![1, 0, 0], vec![9; 4]]);
+    let spoilt = |at: usize, byte: u8| {
+        let mut spoilt = sheet.clone();
+        spoilt[at] = byte;
+        rule_place(&spoilt, 0)
+    };
+    assert_eq!(spoilt(1, 8), Err(2), "first body not at 1 + 4n");
+    assert_eq!(spoilt(2, 1), Err(2), "high byte of an offset");
+    assert_eq!(spoilt(3, 2), Err(2), "second body after a gap");
+    assert_eq!(spoilt(5, 11), Err(2), "second body overlaps the first");
+    assert_eq!(spoilt(7, 3), Err(2), "a byte after the last body");
+    assert_eq!(spoilt(7, 5), Err(2), "a byte missing");
+    // Length 0, then 513, with the layout else whole: the sum is right.
+    assert_eq!(rule_place(&bytes("02 09 00 00 00 09 00 01 00 07"), 1), Err(2));
+    let mut long = bytes("01 05 00 01 02");
+    long.extend(vec![0; 513]);
+    assert_eq!(rule_place(&long, 0), Err(2));
+}
+
+#[test]
+fn longest_sheet() {
+    let sheet = sheet_of(&vec![vec![0xAB; 512]; 32]);
+    assert_eq!(sheet.len(), 16_513);
+    assert_eq!(rule_place(&sheet, 31), Ok((16_001, 512)));
+}
+
+#[test]
+fn writers() {
+    let mut out = [0xEE; 12];
+    assert_eq!(write_sheet(&[], &[], &mut out), Err(1));
+    assert_eq!(write_sheet(&[1; 33], &[0; 33], &mut out), Err(1));
+    assert_eq!(write_sheet(&[0], &[], &mut out), Err(2));
+    assert_eq!(write_sheet(&[513], &[0; 513], &mut out), Err(2));
+    assert_eq!(write_sheet(&[2], &[0; 3], &mut out), Err(2));
+    assert_eq!(write_sheet(&[2, 2], &[0; 3], &mut out), Err(2));
+    assert_eq!(write_sheet(&[3], &[0; 3], &mut out[..7]), Err(22));
+    // 1 before 2 and 22; 2 before 22.
+    assert_eq!(write_sheet(&[0; 33], &[], &mut []), Err(1));
+    assert_eq!(write_sheet(&[0], &[], &mut []), Err(2));
+    assert_eq!(out, [0xEE; 12], "a refusal writes nothing");
+    assert_eq!(write_sheet(&[3], &[7, 8, 9], &mut out), Ok(8));
+    assert_eq!(out.to_vec(), bytes("01 05 00 03 00 07 08 09 EE EE EE EE"));
+    // No room to spare.
+    assert_eq!(write_sheet(&[3], &[7, 8, 9], &mut out[..8]), Ok(8));
+}
+
+#[test]
+fn recordings() {
+    let body = [1, 0, 0];
+    assert_eq!(evaluate(&body, &[], 0), Err(16));
+    assert_eq!(evaluate(&body, &[1], 1), Err(16));
+    assert_eq!(evaluate(&body, &[1], usize::MAX), Err(16));
+    assert!(evaluate(&body, &vec![0; 65_535], 65_534).is_ok());
+    assert_eq!(evaluate(&body, &vec![0; 65_536], 0), Err(16));
+    // 4 to 10 before 16.
+    assert_eq!(evaluate(&[], &[], 0), Err(4));
+    assert_eq!(evaluate(&[1, 0, 0, 0], &vec![0; 65_536], 0), Err(10));
+    // "Also for a body that the engine refuses to open": 11, 12, 13, 15.
+    for rule in [
+        all(x(0), INFINITY, flag(0, Y)),
+        all(x(256), x(256), flag(0, Y)),
+        all(start(0), x(0), flag(0, Y)),
+        all(x(0), x(63), flag(0, Y)),
+    ] {
+        assert!(figures(&write_body(&rule)).is_err());
+        assert!(evaluate(&write_body(&rule), &[0, 0], 1).is_ok());
+    }
+}
+
+#[test]
+fn openings() {
+    // The example: history 1, delay 2, cells 21.
+    let example = bytes("02 04 01 00 00 05 02 00 FF FF 02 00 02 00 01 01 00");
+    let sheet = sheet_of(&[vec![6], example]);
+    let number = |rule, history, words| open(&sheet, rule, history, words).err();
+    assert_eq!(number(1, 1, 84), None);
+    assert_eq!(number(1, 4096, 85), None);
+    assert_eq!(number(1, 0, 84), Some(17));
+    assert_eq!(number(1, 4097, 84), Some(17));
+    assert_eq!(number(1, 1, 83), Some(18));
+    // 17 before 18; the body before 17; the rule number before the body.
+    assert_eq!(number(1, 0, 0), Some(17));
+    assert_eq!(number(0, 0, 0), Some(5));
+    assert_eq!(number(2, 0, 0), Some(3));
+    // Rule 0 is no formula; opening rule 1 doesn't look at it.
+    let endless = sheet_of(&[write_body(&all(start(0), x(0), flag(0, Y)))]);
+    assert_eq!(open(&endless, 0, 9999, 0).err(), Some(13));
+}
+
+#[test]
+fn steps() {
+    let example = bytes("02 04 01 00 00 05 02 00 FF FF 02 00 02 00 01 01 00");
+    let opened = open(&sheet_of(&[example]), 0, 5, 84).unwrap();
+    let number = |history, table, report, tick| {
+        step_refusal(&opened, Lengths { history, table, report }, tick)
+    };
+    assert_eq!(number(5, 84, 3, 0), None);
+    assert_eq!(number(5, 84, 3, 4_294_967_294), None);
+    // Not of length L, though long enough.
+    assert_eq!(number(6, 84, 3, 0), Some(17));
+    assert_eq!(number(4, 84, 3, 0), Some(17));
+    assert_eq!(number(5, 83, 3, 0), Some(18));
+    assert_eq!(number(5, 84, 2, 0), Some(19));
+    assert_eq!(number(5, 84, 3, 4_294_967_295), Some(20));
+    // In this order.
+    assert_eq!(number(0, 0, 0, 4_294_967_295), Some(17));
+    assert_eq!(number(5, 0, 0, 4_294_967_295), Some(18));
+    assert_eq!(number(5, 84, 0, 4_294_967_295), Some(19));
+}
+
+#[test]
+fn long_legal_body() {
+    // Ten towers of four ranges and a flag, one of three, and ten conjunctions:
+    // 10 * 5 + 4 + 10 = 64 formulas, 10 * 39 + 30 + 10 = 430 bytes.
+    let tower = |ranges: usize| RANGE.repeat(ranges) + "01 00 00 ";
+    let body = "04 ".repeat(10) + &tower(4).repeat(10) + &tower(3);
+    assert_eq!(bytes(&body).len(), 430);
+    body_gets(&body, Ok(()));
+    refused(&(nots(1) + &body), 9);
+}

@@ -1,0 +1,191 @@
+//! The suites themselves, tested with a stand-in for the library: the right one
+//! passes, and each wrong one is caught by the suite that is there for it.
+
+use rust_tests::compare::{self, Check};
+use rust_tests::hostile;
+use rust_tests::library::Library;
+use rust_tests::stand_in::{Flaw, StandIn};
+
+const RIGHT: StandIn = StandIn { flaw: Flaw::None };
+
+#[test]
+fn the_right_one_passes_bodies() {
+    let numbers = compare::bodies(&RIGHT, 301, 2_400).unwrap();
+    assert!(numbers.each_at_least(&(4..=15).collect::<Vec<u32>>(), 200), "{numbers:?}");
+    assert!(numbers.of(0) > 1_000, "{numbers:?}");
+    let numbers = compare::limits(&RIGHT).unwrap();
+    assert!(numbers.each_at_least(&[0, 11, 12, 13, 14, 15], 1), "{numbers:?}");
+}
+
+#[test]
+fn the_right_one_passes_recordings() {
+    assert!(compare::recordings(&RIGHT, 302, 400).unwrap() > 5_000);
+    let numbers = compare::long_recordings(&RIGHT, 303, 6).unwrap();
+    assert!(numbers.each_at_least(&[0, 16], 12), "{numbers:?}");
+}
+
+#[test]
+fn the_right_one_passes_sheets() {
+    let numbers = compare::sheets(&RIGHT, 304, 400).unwrap();
+    assert!(numbers.each_at_least(&[0, 1, 2, 3], 50), "{numbers:?}");
+    let numbers = compare::writers(&RIGHT, 305, 600).unwrap();
+    assert!(numbers.each_at_least(&[0, 1, 2, 22], 20), "{numbers:?}");
+    let numbers = compare::openings(&RIGHT, 306, 1_500).unwrap();
+    assert!(numbers.each_at_least(&[0, 1, 2, 3, 4, 5, 15, 17, 18], 10), "{numbers:?}");
+}
+
+#[test]
+fn the_right_one_passes_runs() {
+    let tally = compare::runs(&RIGHT, 307, 400, 24_000).unwrap();
+    assert!(tally.rules >= 400 && tally.steps >= 24_000, "{tally:?}");
+    assert!(tally.violations > 2_000 && tally.late > 500 && tally.several > 50, "{tally:?}");
+    assert!(tally.batches > 200 && tally.full_batches > 5, "{tally:?}");
+    assert!(tally.foreign > 2_000 && tally.live > 10_000, "{tally:?}");
+    assert!(tally.refused.each_at_least(&[17, 18, 19], 100), "{tally:?}");
+}
+
+#[test]
+fn the_right_one_passes_hostile_input() {
+    let numbers = hostile::random_states(&RIGHT, 308, 300).unwrap();
+    assert!(numbers.of(21) == 1_200, "{numbers:?}");
+    let numbers = hostile::damaged_states(&RIGHT, 309, 300).unwrap();
+    assert!(numbers.of(21) > 100 && numbers.of(0) > 100, "{numbers:?}");
+    assert_eq!(hostile::overwritten_histories(&RIGHT, 310, 100), Ok(3_000));
+    assert_eq!(hostile::forged_lengths(&RIGHT), Ok(80));
+    assert_eq!(hostile::forged_ticks(&RIGHT), Ok(vec![21, 21, 21, 21]));
+    assert_eq!(hostile::empty_slices(&RIGHT), Ok(()));
+    assert_eq!(hostile::huge_lengths(&RIGHT), Ok(()));
+}
+
+type Suite = fn(&dyn Library) -> Check;
+
+fn runs(library: &dyn Library) -> Check {
+    compare::runs(library, 311, 150, 9_000).map(|_| ())
+}
+
+fn bodies(library: &dyn Library) -> Check {
+    compare::bodies(library, 312, 600).map(|_| ())
+}
+
+fn limits(library: &dyn Library) -> Check {
+    compare::limits(library).map(|_| ())
+}
+
+fn recordings(library: &dyn Library) -> Check {
+    compare::recordings(library, 313, 100).map(|_| ())
+}
+
+fn long_recordings(library: &dyn Library) -> Check {
+    compare::long_recordings(library, 314, 1).map(|_| ())
+}
+
+fn sheets(library: &dyn Library) -> Check {
+    compare::sheets(library, 315, 300).map(|_| ())
+}
+
+fn writers(library: &dyn Library) -> Check {
+    compare::writers(library, 316, 300).map(|_| ())
+}
+
+fn openings(library: &dyn Library) -> Check {
+    compare::openings(library, 317, 300).map(|_| ())
+}
+
+fn damaged(library: &dyn Library) -> Check {
+    hostile::damaged_states(library, 318, 100).map(|_| ())
+}
+
+fn overwritten(library: &dyn Library) -> Check {
+    hostile::overwritten_histories(library, 319, 40).map(|_| ())
+}
+
+fn forged_lengths(library: &dyn Library) -> Check {
+    hostile::forged_lengths(library).map(|_| ())
+}
+
+/// Each flaw, the suite that must catch it, and a word of what it must say.
+const CAUGHT: &[(Flaw, Suite, &str)] = &[
+    (Flaw::StoresFirst, runs, "due is"),
+    (Flaw::ReadsUnusedHistory, runs, "due is"),
+    (Flaw::WrapsLate, runs, "the history is not as due"),
+    (Flaw::LeavesHistory, runs, "the history is not as due"),
+    (Flaw::JudgesAtTheEnd, runs, "due is"),
+    (Flaw::ReportsNothing, runs, "due is"),
+    (Flaw::ReportsDescending, runs, "due is"),
+    (Flaw::CountsOneMore, runs, "due is"),
+    (Flaw::EndsRangesLate, runs, "due is"),
+    (Flaw::EndsRangesLate, recordings, "due is"),
+    (Flaw::ThenAsBeside, runs, "due is"),
+    (Flaw::ThenAsBeside, recordings, "due is"),
+    (Flaw::WritesAfterReport, runs, "report words after its own"),
+    (Flaw::WritesAfterTable, runs, "table words after the needed cells"),
+    (Flaw::TableBeforeHistory, runs, "answered 18, due is 17"),
+    (Flaw::ReportBeforeTable, runs, "answered 19, due is 18"),
+    (Flaw::AnswersOnRefusal, runs, "an answer was written"),
+    (Flaw::RefusesOverwritten, runs, "answered 21"),
+    (Flaw::RefusesOverwritten, overwritten, "answered 21"),
+    (Flaw::TakesShortReport, runs, "answered 0, due is 19"),
+    (Flaw::ForgetsToZero, runs, "the history is not as due"),
+    (Flaw::ForgetsToZero, openings, "history not 0"),
+    (Flaw::BatchFillsReport, runs, "batch"),
+    (Flaw::BatchForgetsLive, runs, "batch"),
+    (Flaw::BatchSwapsPairs, runs, "batch"),
+    (Flaw::ZeroIsThisTick, bodies, "due is 13"),
+    (Flaw::ZeroIsThisTick, limits, "due is 13"),
+    (Flaw::DelayBelow255, bodies, "answered 12, due is 0"),
+    (Flaw::DelayBelow255, limits, "answered 12, due is 0"),
+    (Flaw::HistoryBelow4096, bodies, "answered 14, due is 0"),
+    (Flaw::HistoryBelow4096, limits, "answered 14, due is 0"),
+    (Flaw::CellsBelow4096, limits, "answered 15, due is 0"),
+    (Flaw::CellsUpTo4097, limits, "answered 0, due is 15"),
+    (Flaw::FourBeforeNine, bodies, "answered 4, due is 9"),
+    (Flaw::HistoryBeforeDelay, limits, "answered 13, due is 12"),
+    (Flaw::FalseAtHorizon, recordings, "due is"),
+    (Flaw::OpenBeforeTrying, recordings, "due is"),
+    (Flaw::LongRecordings, long_recordings, "due is (16"),
+    (Flaw::SheetMayGoOn, sheets, "due is 2"),
+    (Flaw::RuleBeforeLayout, sheets, "answered 3, due is 2"),
+    (Flaw::ClearsBuffer, writers, "the buffer is not as due"),
+    (Flaw::RoomBeforeLengths, writers, "answered 22, due is"),
+    (Flaw::WritesTwoHistoryBytes, overwritten, "history bytes were written"),
+    (Flaw::WritesTwoHistoryBytes, runs, "the history is not as due"),
+    (Flaw::RefusesAndWrites, damaged, "memory was changed"),
+    (Flaw::TrustsState, forged_lengths, "answered 17"),
+];
+
+#[test]
+fn each_wrong_one_is_caught() {
+    for (flaw, suite, word) in CAUGHT {
+        let seen = suite(&StandIn { flaw: *flaw });
+        let caught = matches!(&seen, Err(text) if text.contains(word));
+        assert!(caught, "{flaw:?} must fail with \"{word}\"; seen: {seen:?}");
+    }
+}
+
+/// With a state that isn't checked, the last tick gets its own number.
+#[test]
+fn the_last_tick_is_refused() {
+    let trusting = StandIn { flaw: Flaw::TrustsState };
+    assert_eq!(hostile::forged_ticks(&trusting), Ok(vec![20, 20, 0, 20]));
+}
+
+/// The same suites pass without a flaw, so that it is the flaw they caught.
+#[test]
+fn the_catching_suites_pass_the_right_one() {
+    let suites: [Suite; 11] = [
+        runs,
+        bodies,
+        limits,
+        recordings,
+        long_recordings,
+        sheets,
+        writers,
+        openings,
+        damaged,
+        overwritten,
+        forged_lengths,
+    ];
+    for suite in suites {
+        assert_eq!(suite(&RIGHT), Ok(()));
+    }
+}
