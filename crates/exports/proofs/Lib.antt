@@ -1,0 +1,4 @@
+mod Numbers
+mod States
+mod Calls
+mod Batches

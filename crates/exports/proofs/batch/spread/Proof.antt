@@ -1,0 +1,104 @@
+-- `exports::batch::spread` meets its contract: the ticks from i on are pairs, those before are as they were.
+-- Assumes nothing.
+use Prim.Native.Nat.{ℕ, suc, _+_, _*_, _-_, _≤_}
+use mathlib.Core.Path.{_≡_, refl}
+use mathlib.Core.List.{List, _++_}
+use native.Mathlib.Omega.{arith}
+use lib.ListN.{length, take, drop, length-set}
+use Rattle.exports.specs.Batch.{paired}
+use Rattle.exports.proofs.Batches.{spread-none, spread-front, spread-rest}
+use Rattle.exports.proofs.batch.spread.Statement.{statement}
+use Rattle.exports.proofs.batch.spread.Tie as tie
+
+abbrev Inv-loop : tie.InvT-loop
+Inv-loop report₀ n step i₀ report i =
+    (i ≤ n) × ((length report ≡ length report₀) × ((take (2 * i) report ≡ take (2 * i) report₀) × (drop (2 * i) report ≡ paired step (drop i (take n report₀)) ++ drop (2 * n) report₀)))
+
+abbrev μ-loop : tie.MeasureT-loop
+μ-loop report₀ n step i₀ report i = i
+
+loop-holds : tie.Need-loop-holds Inv-loop μ-loop
+loop-holds c = (omega arith, (refl, (refl, spread-none (c .args .report .now) (c .args .n) (c .args .step))))
+
+sub-i : tie.Need-sub-i Inv-loop μ-loop
+sub-i c = omega arith
+
+mul-tick : tie.Need-mul-tick Inv-loop μ-loop
+mul-tick c = omega arith
+
+slice-read-tick : tie.Need-slice-read-tick Inv-loop μ-loop
+slice-read-tick c = omega arith
+
+mul-report : tie.Need-mul-report Inv-loop μ-loop
+mul-report c = omega arith
+
+mul-report-2 : tie.Need-mul-report-2 Inv-loop μ-loop
+mul-report-2 c = omega arith
+
+slice-write-report : tie.Need-slice-write-report Inv-loop μ-loop
+slice-write-report c = omega arith
+
+mul-report-3 : tie.Need-mul-report-3 Inv-loop μ-loop
+mul-report-3 c = omega arith
+
+add-report : tie.Need-add-report Inv-loop μ-loop
+add-report c = omega arith
+
+mul-report-4 : tie.Need-mul-report-4 Inv-loop μ-loop
+mul-report-4 c = omega arith
+
+slice-write-report-2 : tie.Need-slice-write-report-2 Inv-loop μ-loop
+slice-write-report-2 c = simp length-set (omega arith)
+
+loop-less : tie.Need-loop-less Inv-loop μ-loop
+loop-less c = omega arith
+
+loop-again : tie.Need-loop-again Inv-loop μ-loop
+loop-again c =
+    let l = c .before .before .loop in
+    let a = c .before .before .before .args in
+    let r₀ : List ℕ = a .report .now in
+    let j : ℕ = l .i - 1 in
+    let e : l .i ≡ suc j = omega arith in
+    let front : take (2 * suc j) (l .report) ≡ take (2 * suc j) r₀ = rw e at (l .inv .1 .1 .0) in
+    let rest : drop (2 * suc j) (l .report) ≡ paired (a .step) (drop (suc j) (take (a .n) r₀)) ++ drop (2 * a .n) r₀ = rw e at (l .inv .1 .1 .1) in (
+      omega arith,
+      (
+        simp length-set (l .inv .1 .0),
+        (
+          spread-front r₀ (l .report) (a .n) (a .step) j (omega arith) (omega arith) (l .inv .1 .0) front rest,
+          spread-rest r₀ (l .report) (a .n) (a .step) j (omega arith) (omega arith) (l .inv .1 .0) front rest,
+        ),
+      ),
+    )
+
+same-length : tie.Need-same-length Inv-loop μ-loop
+same-length c = c .before .loop .inv .1 .0
+
+returns : tie.Need-returns Inv-loop μ-loop
+returns c =
+    let l = c .before .loop in
+    let e : l .i ≡ 0 = omega arith in
+    rw e at (l .inv .1 .1 .1)
+
+pub spread-spec : {M : Type 1} → statement M
+spread-spec =
+    tie.close
+    (tie.spec
+    Inv-loop
+    μ-loop
+    loop-holds
+    sub-i
+    mul-tick
+    slice-read-tick
+    mul-report
+    mul-report-2
+    slice-write-report
+    mul-report-3
+    add-report
+    mul-report-4
+    slice-write-report-2
+    loop-less
+    loop-again
+    same-length
+    returns)

@@ -1,0 +1,5 @@
+pub mod Answers
+pub mod Numbers
+pub mod States
+pub mod Calls
+pub mod Batch

@@ -1,0 +1,79 @@
+// A body's figures, and its outcome at a tick of a recording.
+ghost use mathlib.Core.Path.{_≡_};
+ghost use Rattle.rule.specs.Figures.{body-figures};
+ghost use Rattle.rule.specs.Recording.{recording-outcome};
+ghost use Rattle.exports.specs.Answers.{number, or-kept, verdict-number, step-number};
+use figures::FigureAnswer;
+use recording::Evaluated;
+use rule::Outcome;
+use rule::Verdict;
+
+// The figures of a body: refusals 4 to 15.
+#[no_mangle]
+pub extern "C" fn sw_figures(
+    body: &[u8],
+    history: &mut u64,
+    delay: &mut u64,
+    cells: &mut u64,
+) -> u32
+    ensures { λ n. ⌜ n ≡ number (body-figures (now (body .entry))) ⌝ }
+    ensures { λ n. ⌜ now (history .exit) ≡ or-kept (λ f. f .history) (body-figures (now (body .entry))) (now (history .entry)) ⌝ }
+    ensures { λ n. ⌜ now (delay .exit) ≡ or-kept (λ f. f .delay) (body-figures (now (body .entry))) (now (delay .entry)) ⌝ }
+    ensures { λ n. ⌜ now (cells .exit) ≡ or-kept (λ f. f .cells) (body-figures (now (body .entry))) (now (cells .entry)) ⌝ }
+{
+    let answer = figures::figures(body);
+    match answer {
+        FigureAnswer::Sized(f) => {
+            *history = f.history;
+            *delay = f.delay;
+            *cells = f.cells;
+            0
+        }
+        FigureAnswer::Refused(x) => refusal::number(x),
+    }
+}
+
+fn verdict_number(o: Outcome) -> u32
+    ensures { λ r. ⌜ r ≡ verdict-number o ⌝ }
+{
+    match o {
+        Outcome::Decided(v, _) => match v {
+            Verdict::True => 1,
+            Verdict::False => 2,
+        },
+        Outcome::Open => 0,
+    }
+}
+
+fn step_number(o: Outcome) -> u64
+    ensures { λ r. ⌜ r ≡ step-number o ⌝ }
+{
+    match o {
+        Outcome::Decided(_, d) => d,
+        Outcome::Open => 0,
+    }
+}
+
+// The outcome of a body at a tick of a recording: refusals 4 to 10, 16.
+#[no_mangle]
+pub extern "C" fn sw_outcome(
+    body: &[u8],
+    recording: &[u8],
+    tick: usize,
+    verdict: &mut u32,
+    step: &mut u64,
+) -> u32
+    ensures { λ n. ⌜ n ≡ number (recording-outcome (now (body .entry)) (now (recording .entry)) tick) ⌝ }
+    ensures { λ n. ⌜ now (verdict .exit) ≡ or-kept verdict-number (recording-outcome (now (body .entry)) (now (recording .entry)) tick) (now (verdict .entry)) ⌝ }
+    ensures { λ n. ⌜ now (step .exit) ≡ or-kept step-number (recording-outcome (now (body .entry)) (now (recording .entry)) tick) (now (step .entry)) ⌝ }
+{
+    let answer = recording::outcome_at(body, recording, tick);
+    match answer {
+        Evaluated::Answered(o) => {
+            *verdict = verdict_number(o);
+            *step = step_number(o);
+            0
+        }
+        Evaluated::Refused(x) => refusal::number(x),
+    }
+}

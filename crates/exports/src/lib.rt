@@ -1,0 +1,16 @@
+// The library for C and Rust: functions on numbers and lent slices (include/station_watch.h). Each answers 0 or document 01's refusal number; on a
+// refusal nothing lent is changed, answers included. A state is 544 bytes that the caller lends and each call looks at anew.
+mod batch;
+mod bodies;
+mod bytes;
+mod sheets;
+mod state;
+mod watching;
+
+pub use batch::sw_steps;
+pub use bodies::sw_figures;
+pub use bodies::sw_outcome;
+pub use sheets::sw_rule_place;
+pub use sheets::sw_write_sheet;
+pub use watching::sw_open;
+pub use watching::sw_step;

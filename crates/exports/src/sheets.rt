@@ -1,0 +1,53 @@
+// Reading and writing sheets.
+ghost use mathlib.Core.Path.{_≡_};
+ghost use lib.ListN.{length};
+ghost use Rattle.sheet.specs.Sheet.{rule-place};
+ghost use Rattle.sheet.specs.Writing.{sheet-length, buffer-after};
+ghost use Rattle.exports.specs.Answers.{number, or-kept};
+use sheet::Found;
+use sheet::Written;
+
+// Where a rule's body lies in its sheet: refusals 1 to 3.
+#[no_mangle]
+pub extern "C" fn sw_rule_place(
+    sheet: &[u8],
+    rule: usize,
+    start: &mut usize,
+    size: &mut usize,
+) -> u32
+    ensures { λ n. ⌜ n ≡ number (rule-place (now (sheet .entry)) rule) ⌝ }
+    ensures { λ n. ⌜ now (start .exit) ≡ or-kept (λ p. p .start) (rule-place (now (sheet .entry)) rule) (now (start .entry)) ⌝ }
+    ensures { λ n. ⌜ now (size .exit) ≡ or-kept (λ p. p .size) (rule-place (now (sheet .entry)) rule) (now (size .entry)) ⌝ }
+{
+    let place = sheet::find_rule(sheet, rule);
+    match place {
+        Found::At { start: a, size: z } => {
+            *start = a;
+            *size = z;
+            0
+        }
+        Found::Refused(x) => refusal::number(x),
+    }
+}
+
+// Writes the sheet of these bodies at the start of the buffer and answers its length: refusals 1, 2, 22.
+#[no_mangle]
+pub extern "C" fn sw_write_sheet(
+    lengths: &[u16],
+    bodies: &[u8],
+    out: &mut [u8],
+    written: &mut usize,
+) -> u32
+    ensures { λ n. ⌜ n ≡ number (sheet-length (now (lengths .entry)) (now (bodies .entry)) (length (now (out .entry)))) ⌝ }
+    ensures { λ n. ⌜ now (out .exit) ≡ buffer-after (now (lengths .entry)) (now (bodies .entry)) (now (out .entry)) ⌝ }
+    ensures { λ n. ⌜ now (written .exit) ≡ or-kept (λ n. n) (sheet-length (now (lengths .entry)) (now (bodies .entry)) (length (now (out .entry)))) (now (written .entry)) ⌝ }
+{
+    let answer = sheet::write_sheet(lengths, bodies, out);
+    match answer {
+        Written::Length(n) => {
+            *written = n;
+            0
+        }
+        Written::Refused(x) => refusal::number(x),
+    }
+}
