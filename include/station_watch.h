@@ -110,9 +110,9 @@ uint32_t sw_step(uint8_t state[SW_STATE_BYTES], uint8_t flag,
  * fewer than 2 * (delay + 1) report words are left; and at a step that would be
  * refused, which after the first can only be by 20. To go on, call it again with
  * the flags that were not taken and an empty report.
- * Answers 0, or, where the first step would be refused with a report that is long
- * enough, its number: 17, 18, 20, 21. So a report that is too short for even one
- * step is no refusal: 0 flags are taken.
+ * Answers 0, or, where a first step would be refused although its report is long
+ * enough, its number: 17, 18, 20, 21; also where there are no flags. A report that
+ * is too short for even one step is no refusal: 0 flags are taken.
  * After 0, *taken is how many flags were taken and *pairs how many pairs were
  * written; report words after the pairs are as they were. State, history and cell
  * table are what so many calls of sw_step leave, and *live is the state's live

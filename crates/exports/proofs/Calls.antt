@@ -116,7 +116,7 @@ module _ (sheet : List ℕ) (rule : ℕ) (history table : List ℕ) (r : OpenRes
 module _ (st : List ℕ) (flag : ℕ) (history cells report : List ℕ) where
   pub step-too-late : 4294967295 < number-at st 528 → LentStep st (step-with (refused 21) flag history cells report history cells report) st
   unfolding admit-bytes must
-  step-too-late h = record { keeps = (rw (lt-leb (number-at st 528) 4294967295 h), (refl, refl, refl)); bytes = refl }
+  step-too-late h = record { keeps = (rw (lt-leb (number-at st 528) 4294967295 h), (refl, refl, refl)); bytes = refl; goes-on = refl }
 
   module _ (low : number-at st 528 ≤ 4294967295) (s : code.State) (s-is : s ≡ loaded st) (r : StepResult) (history′ cells′ report′ : List ℕ)
       (p : StepPromise s flag history cells report r history′ cells′ report′) where
@@ -134,7 +134,7 @@ module _ (st : List ℕ) (flag : ℕ) (history cells report : List ℕ) where
 
     pub step-refused : {x : Refusal} → r .answer ≡ steps.Refused x
         → LentStep st (step-with (refused (number-of x)) flag history cells report history′ cells′ report′) st
-    step-refused e = let k = kept e in record { keeps = (admits (k .0), k .1); bytes = refl }
+    step-refused e = let k = kept e in record { keeps = (admits (k .0), k .1); bytes = refl; goes-on = refl }
 
     pub step-taken : {n live : ℕ} (st′ : List ℕ) → r .answer ≡ steps.Taken n live → length st ≡ 544 → live < 18446744073709551616 → st′ ≡ next-bytes st live
         → LentStep st (step-with (accepted (taken-as n live st′)) flag history cells report history′ cells′ report′) st′
@@ -165,4 +165,5 @@ module _ (st : List ℕ) (flag : ℕ) (history cells report : List ℕ) where
             },
           );
           bytes = w;
+          goes-on = refl;
         }

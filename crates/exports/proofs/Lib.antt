@@ -2,3 +2,4 @@ mod Numbers
 mod States
 mod Calls
 mod Batches
+pub mod Demand3

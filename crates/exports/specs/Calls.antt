@@ -11,6 +11,7 @@ use Rattle.demand.specs.Contract.{State, Opening, Taken, Step, must, admit-leng
 use Rattle.refusal.specs.Numbers.{number-of}
 use Rattle.engine.specs.declared.stepping.StepAnswer.{StepAnswer}
 use Rattle.engine.specs.declared.stepping.StepAnswer.the-variants as the-variants
+use Rattle.demand.specs.Demand.{state-after}
 use Rattle.engine.specs.Promises.{Stands}
 use Rattle.exports.specs.Answers.{answered}
 use Rattle.exports.specs.Numbers.{number-at}
@@ -61,10 +62,11 @@ abbrev pub bytes-after : Answer Taken → List ℕ → List ℕ
 bytes-after (refused n) st = st
 bytes-after (accepted a) st = next-bytes st (a .live-count)
 
--- A step on state bytes: what it answered, and what every lent byte and word holds after it.
+-- A step on state bytes: what it answered, and what every lent byte and word holds after it. The bytes hold the state that the answer has.
 pub record LentStep (st : List ℕ) (k : Step) (st′ : List ℕ) : Type 0 where
   pub keeps : LentStepped st k (k .answer)
   pub bytes : st′ ≡ bytes-after (k .answer) st
+  pub goes-on : state-in st′ ≡ state-after (state-in st) (k .answer)
 
 -- A call of sw_step, which answered n, so many reported and live, and left these state bytes.
 abbrev pub taken-as : ℕ → ℕ → List ℕ → Taken
