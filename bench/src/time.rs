@@ -1,0 +1,63 @@
+//! Nanoseconds a step. All ways of a row are measured in turns, round after round,
+//! so that what else the machine does falls on all of them; of the rounds the
+//! median is taken.
+
+use crate::ways::{open, Way, WAYS};
+use rust_tests::paper::Formula;
+use std::time::{Duration, Instant};
+
+const ROUNDS: usize = 31;
+/// A way's round is made this long, roughly.
+const ROUND: Duration = Duration::from_millis(3);
+
+/// A way that goes through a stream again and again.
+struct Runner<'a> {
+    way: Box<dyn Way>,
+    flags: &'a [u8],
+    at: usize,
+    /// Steps of a round.
+    steps: usize,
+    rounds: Vec<f64>,
+}
+
+impl<'a> Runner<'a> {
+    fn new(way: &str, rule: &Formula, flags: &'a [u8]) -> Runner<'a> {
+        let mut runner =
+            Runner { way: open(way, rule), flags, at: 0, steps: 1, rounds: Vec::new() };
+        while runner.steps < flags.len() && runner.take() < ROUND / 2 {
+            runner.steps *= 2;
+        }
+        runner
+    }
+
+    /// Takes a round's steps.
+    fn take(&mut self) -> Duration {
+        if self.at + self.steps > self.flags.len() {
+            self.at = 0;
+        }
+        let flags = &self.flags[self.at..self.at + self.steps];
+        self.at += self.steps;
+        let began = Instant::now();
+        self.way.take(flags);
+        began.elapsed()
+    }
+
+    fn round(&mut self) {
+        let took = self.take();
+        self.rounds.push(took.as_nanos() as f64 / self.steps as f64);
+    }
+
+    fn median(&mut self) -> f64 {
+        self.rounds.sort_by(f64::total_cmp);
+        self.rounds[self.rounds.len() / 2]
+    }
+}
+
+/// Nanoseconds a step, for each way.
+pub fn nanoseconds(rule: &Formula, flags: &[u8]) -> [f64; WAYS.len()] {
+    let mut runners = WAYS.map(|way| Runner::new(way, rule, flags));
+    for _ in 0..ROUNDS {
+        runners.iter_mut().for_each(Runner::round);
+    }
+    runners.each_mut().map(Runner::median)
+}

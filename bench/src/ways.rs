@@ -1,0 +1,200 @@
+//! The four ways of watching a rule that are compared. Each takes flag bytes and
+//! keeps a tally of what it reported, so that they can be checked against each
+//! other and none is optimised away.
+
+use crate::anew::Anew;
+use crate::plain::Engine;
+use rust_tests::paper::{write_body, Formula};
+use station_watch::{figures, write_sheet, Figures, State};
+
+/// Every violation in order, folded into one number, and the live counts.
+#[derive(Clone, Copy, Debug, Default, PartialEq, Eq)]
+pub struct Tally {
+    pub violations: u64,
+    pub folded: u64,
+}
+
+impl Tally {
+    pub fn add(&mut self, tick: u64, step: u64) {
+        self.violations += 1;
+        self.folded = self.folded.wrapping_mul(0x9E37_79B9_7F4A_7C15) ^ (tick << 32 | step);
+    }
+}
+
+/// A way of watching a rule.
+pub trait Way {
+    /// Takes the flag bytes.
+    fn take(&mut self, flags: &[u8]);
+    /// What was reported so far.
+    fn tally(&self) -> Tally;
+    /// How many ticks are open.
+    fn live(&self) -> usize;
+}
+
+pub const WAYS: [&str; 4] = ["step", "batch", "plain", "anew"];
+
+/// The way of this name, opened for a rule.
+pub fn open(way: &str, rule: &Formula) -> Box<dyn Way> {
+    match way {
+        "step" => Box::new(Single(Library::open(rule))),
+        "batch" => Box::new(Batch(Library::open(rule))),
+        "plain" => Box::new(Plain::open(rule)),
+        "anew" => Box::new(Evaluated::open(rule)),
+        _ => panic!("no way {way:?}; there are {WAYS:?}"),
+    }
+}
+
+/// The figures of a rule that can be opened.
+pub fn rule_figures(rule: &Formula) -> Figures {
+    figures(&write_body(rule)).expect("a rule that can be opened")
+}
+
+/// The rule's history, cells and report, all of the least length but the report,
+/// which has room for a batch.
+struct Library {
+    state: State,
+    history: Vec<u8>,
+    cells: Vec<u32>,
+    report: Vec<u32>,
+    next: u64,
+    live: usize,
+    tally: Tally,
+}
+
+/// Words of the report that a batch gets.
+const BATCH_REPORT: usize = 4096;
+
+impl Library {
+    fn open(rule: &Formula) -> Library {
+        let body = write_body(rule);
+        let needs = rule_figures(rule);
+        let mut sheet = vec![0; body.len() + 5];
+        write_sheet(&[body.len() as u16], &body, &mut sheet).expect("a body of 1 to 512 bytes");
+        let mut history = vec![0; needs.history];
+        let cells = vec![0; needs.cell_words()];
+        let state = State::open(&sheet, 0, &mut history, &cells).expect("lent what it needs");
+        let report = vec![0; BATCH_REPORT];
+        Library { state, history, cells, report, next: 0, live: 0, tally: Tally::default() }
+    }
+}
+
+/// The library, a call for each flag byte.
+struct Single(Library);
+
+impl Way for Single {
+    fn take(&mut self, flags: &[u8]) {
+        let l = &mut self.0;
+        for &flag in flags {
+            let step = l.state.step(flag, &mut l.history, &mut l.cells, &mut l.report).unwrap();
+            for &tick in step.ticks {
+                l.tally.add(tick as u64, l.next);
+            }
+            l.live = step.live;
+            l.next += 1;
+        }
+    }
+
+    fn tally(&self) -> Tally {
+        self.0.tally
+    }
+
+    fn live(&self) -> usize {
+        self.0.live
+    }
+}
+
+/// The library, as many flag bytes a call as the report has room for.
+struct Batch(Library);
+
+impl Way for Batch {
+    fn take(&mut self, flags: &[u8]) {
+        let l = &mut self.0;
+        let mut rest = flags;
+        while !rest.is_empty() {
+            let steps = l.state.steps(rest, &mut l.history, &mut l.cells, &mut l.report).unwrap();
+            for pair in steps.pairs.chunks_exact(2) {
+                l.tally.add(pair[0] as u64, pair[1] as u64);
+            }
+            l.live = steps.live;
+            rest = &rest[steps.taken..];
+        }
+    }
+
+    fn tally(&self) -> Tally {
+        self.0.tally
+    }
+
+    fn live(&self) -> usize {
+        self.0.live
+    }
+}
+
+/// The same engine, plainly in Rust.
+struct Plain {
+    engine: Engine,
+    report: Vec<u64>,
+    live: usize,
+    tally: Tally,
+}
+
+impl Plain {
+    fn open(rule: &Formula) -> Plain {
+        let engine = Engine::open(rule, rule_figures(rule));
+        Plain { engine, report: Vec::new(), live: 0, tally: Tally::default() }
+    }
+}
+
+impl Way for Plain {
+    fn take(&mut self, flags: &[u8]) {
+        for &flag in flags {
+            let step = self.engine.next();
+            self.live = self.engine.step(flag, &mut self.report);
+            for &tick in &self.report {
+                self.tally.add(tick, step);
+            }
+        }
+    }
+
+    fn tally(&self) -> Tally {
+        self.tally
+    }
+
+    fn live(&self) -> usize {
+        self.live
+    }
+}
+
+/// Every tick that can still be open, evaluated anew at each step.
+struct Evaluated {
+    watch: Anew,
+    report: Vec<u64>,
+    live: usize,
+    tally: Tally,
+}
+
+impl Evaluated {
+    fn open(rule: &Formula) -> Evaluated {
+        let watch = Anew::open(rule, rule_figures(rule).delay);
+        Evaluated { watch, report: Vec::new(), live: 0, tally: Tally::default() }
+    }
+}
+
+impl Way for Evaluated {
+    fn take(&mut self, flags: &[u8]) {
+        for &flag in flags {
+            let step = self.watch.next();
+            self.live = self.watch.step(flag, &mut self.report);
+            for &tick in &self.report {
+                self.tally.add(tick, step);
+            }
+        }
+    }
+
+    fn tally(&self) -> Tally {
+        self.tally
+    }
+
+    fn live(&self) -> usize {
+        self.live
+    }
+}
