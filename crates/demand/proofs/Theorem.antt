@@ -22,15 +22,13 @@ use Rattle.rule.specs.Figures.{figures, body-figures}
 use Rattle.rule.specs.Steps.{is-open}
 use Rattle.rule.proofs.Delay.{By, rule-decided}
 use Rattle.rule.proofs.Limits.{sizes}
+use Rattle.demand.proofs.Admission.{clash, opening-admitted}
 use Rattle.demand.proofs.Ring.{kept-next}
 use Rattle.demand.specs.Contract.{State, Opening, Taken, Step, must, room, admit-opening, fit-lengths, fit, as-21, admit-lengths, admit-step, Kept, Standing, Opened, Means, Takes, Unchanged, Stepped}
-use Rattle.demand.specs.Demand.{Call, step, write, state-after, ticks-after, added, stream, Run, done, stepped, strayed, wrote, Refused, Unfit, Refusal, Report, Due, Demand-3, Acceptable, Demanded, Demanded-21}
+use Rattle.demand.specs.Demand.{Call, step, write, state-after, ticks-after, added, stream, Run, done, stepped, strayed, wrote, Refused, Unfit, Refusal, Report, Due, Demand-3, Acceptable, Demanded-of, Demanded}
 use Rattle.demand.proofs.Whole.{whole}
 
 -- ---- tests and answers
-
-pub clash : {A : Type 0} {n : ℕ} {a : A} → refused n ≡ accepted a → ⊥
-clash e = let z : _≡_ {A = ℕ} 0 1 = cc in omega arith
 
 -- The four tests of a step pass, or one is the first that does not.
 abbrev pub Fits : Figures → ℕ → ℕ → Step → Type 0
@@ -58,10 +56,6 @@ fit-not-unfit f L t k a b c d (inr (inr (inl h))) = omega arith
 fit-not-unfit f L t k a b c d (inr (inr (inr h))) = d h
 
 -- ---- one step
-
-refused-is : (a : Answer Taken) → Refused a → (n : ℕ) × (a ≡ refused n)
-refused-is (refused n) r = (n, refl)
-refused-is (accepted a) r = absurd r
 
 longer : (a : Answer Taken) (b t : ℕ) (rest : List ℕ) → t + length (added a b rest) ≡ ticks-after t a + length rest
 longer (refused n) b t rest = refl
@@ -299,16 +293,18 @@ fresh Stands o F f c s p xs =
       stands = subst (λ (x : Figures). Stands s (take (4 * x .cells) (o .table′)) (recorded xs)) y (p .4 .stands (recorded xs));
     }
 
-pub demand-3 : (Stands : Standing) → Demanded Stands
-demand-3 Stands o F f = go (o .answer)
-  where
-    go : (a : Answer State) → Opened Stands o a → Acceptable o F f
-        → (s : State) × (a ≡ accepted s) × ((calls : List Call) → Run Stands (f .history) (length (o .history)) s (o .table′) (o .history′) 0 calls → Demand-3 F f (length (o .history)) calls)
-    go (refused n) w c = absurd (clash (sym (w .0) ∙ opening-is o F f c))
-    go (accepted s) w c = (
-      s,
-      refl,
-      λ calls r.
+module _ (Stands : Standing) (o : Opening) where
+  accepts : (F : Formula) (f : Figures) → Acceptable o F f → (a : Answer State) → Opened Stands o a → (s : State) × (a ≡ accepted s)
+  accepts F f c (refused n) w = absurd (clash (sym (w .0) ∙ opening-is o F f c))
+  accepts F f c (accepted s) w = (s, refl)
+
+  module _ (s : State) (w : Opened Stands o (accepted s)) where
+    rule-is : (F : Formula) × (f : Figures) × Acceptable o F f
+    rule-is = let z = opening-admitted o (w .1) (w .3) in (z .0, w .1, z .1)
+
+    module _ (F : Formula) (f : Figures) (c : Acceptable o F f) where
+      of-calls : (calls : List Call) → Run Stands (f .history) (length (o .history)) s (o .table′) (o .history′) 0 calls → Demand-3 F f (length (o .history)) calls
+      of-calls calls r =
           record {
             every-step = λ before k after q.
                 at (Due F f (length (o .history)) (stream calls)) before k after
@@ -317,10 +313,18 @@ demand-3 Stands o F f = go (o .answer)
             every-tick = λ p h.
                 decided-open (p + f .delay) (rule F (recorded (stream calls)) (p + f .delay) p)
                 (rule-decided F (f .delay) (sizes F f (c .figures-are) .1) (recorded (stream calls)) (p + f .delay) p (omega arith));
-          },
-    )
+          }
 
-pub demand-21 : (Stands : Standing) → Demanded-21 Stands
-demand-21 Stands o F f w c s e before k after r =
-    at (Refusal f (length (o .history))) before k after
-    (all-plain Stands o F f c [] r (fresh-plain Stands o F f c s (subst (Opened Stands o) e w) []))
+      of-refusals : (before : List Call) (k : Step) (after : List Call) → Run Stands 0 (length (o .history)) s (o .table′) (o .history′) 0 (before ++ (step k ∷ after))
+          → Refusal f (length (o .history)) (length (stream before)) k
+      of-refusals before k after r =
+          at (Refusal f (length (o .history))) before k after (all-plain Stands o F f c [] r (fresh-plain Stands o F f c s w []))
+
+pub demand-3 : (Stands : Standing) → Demanded Stands
+demand-3 Stands o w =
+    record {
+      accepts = λ F f c. accepts Stands o F f c (o .answer) w;
+      rule-is = λ s e. rule-is Stands o s (subst (Opened Stands o) e w);
+      demand-3 = λ s e. of-calls Stands o s (subst (Opened Stands o) e w);
+      refusals = λ s e. of-refusals Stands o s (subst (Opened Stands o) e w);
+    }

@@ -2,4 +2,6 @@ mod Numbers
 mod States
 mod Calls
 mod Batches
+mod Steps
+mod Lists
 pub mod Demand3

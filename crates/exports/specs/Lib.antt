@@ -3,3 +3,4 @@ pub mod Numbers
 pub mod States
 pub mod Calls
 pub mod Batch
+pub mod Lists
