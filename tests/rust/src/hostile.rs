@@ -3,133 +3,19 @@
 //!
 //! "For another dishonest state or table it [21] may come before any other; one
 //! not caught gets some ending step, which writes at most one history byte, the
-//! cell table and the report."
+//! cell table and the report." The library says exactly which are caught, so the
+//! number of every call is checked (`lot`, `states`).
+
+mod lot;
 
 use crate::compare::{self, hex, Check, Numbers, MARK};
 use crate::demand;
 use crate::lent::Lent;
-use crate::library::{Library, State, StepAnswer, StepLent, StepsAnswer, STATE_BYTES};
-use crate::paper::{CELL_WORDS, MOST_HISTORY};
+use crate::library::{Library, StepAnswer, StepLent, StepsAnswer, STATE_BYTES};
+use crate::paper::{CELL_WORDS, LAST_TICK, MOST_HISTORY};
 use crate::random::{self, Random, Rule, WriterInput};
-
-/// What a step is given.
-struct Lot {
-    state: Lent<u8>,
-    history: Lent<u8>,
-    cells: Lent<u32>,
-    report: Lent<u32>,
-}
-
-impl Lot {
-    fn new(state: &[u8], history: &[u8], cells: &[u32], report: &[u32]) -> Lot {
-        Lot {
-            state: Lent::new(state),
-            history: Lent::new(history),
-            cells: Lent::new(cells),
-            report: Lent::new(report),
-        }
-    }
-
-    fn content(&self) -> (Vec<u8>, Vec<u8>, Vec<u32>, Vec<u32>) {
-        let (state, history) = (self.state.seen().to_vec(), self.history.seen().to_vec());
-        (state, history, self.cells.seen().to_vec(), self.report.seen().to_vec())
-    }
-
-    fn guards_hold(&self) -> bool {
-        self.state.guards_hold()
-            && self.history.guards_hold()
-            && self.cells.guards_hold()
-            && self.report.guards_hold()
-    }
-
-    fn lend(&mut self) -> (&mut State, StepLent<'_>) {
-        let state = self.state.part().try_into().expect("a state has 544 bytes");
-        let lent = StepLent {
-            history: self.history.part(),
-            cells: self.cells.part(),
-            report: self.report.part(),
-        };
-        (state, lent)
-    }
-}
-
-/// A rule after some steps: state, history and cells as the library left them.
-fn honest(library: &dyn Library, random: &mut Random, rule: &Rule, steps: usize) -> Check<Lot> {
-    let least = rule.figures.history as usize;
-    let history_length = random.pick(&[least, (least + 1).min(MOST_HISTORY), least.max(40)]);
-    let needed = CELL_WORDS * rule.figures.cells as usize;
-    let sheet = random::sheet_of(std::slice::from_ref(&rule.body));
-    let report = vec![0; rule.figures.delay as usize + 1];
-    let history = random.bytes(history_length);
-    let mut lot = Lot::new(&[0; STATE_BYTES], &history, &random.words(needed), &report);
-    let cells = lot.cells.seen().to_vec();
-    let (state, lent) = lot.lend();
-    let number = library.open(&sheet, 0, lent.history, &cells, state);
-    demand!(number == 0, "opening answered {number} for {}", hex(&rule.body));
-    for flag in random::stream(random, steps) {
-        let number = step(library, &mut lot, flag)?.0;
-        demand!(number == 0, "an honest step answered {number} for {}", hex(&rule.body));
-    }
-    Ok(lot)
-}
-
-/// A step of whatever state: its number, how many it reports, how many live.
-/// What every step must keep to is checked here.
-fn step(library: &dyn Library, lot: &mut Lot, flag: u8) -> Check<(u32, usize, usize)> {
-    let before = lot.content();
-    let (mut reported, mut live) = (Lent::one(MARK as usize), Lent::one(MARK as usize));
-    let (state, lent) = lot.lend();
-    let answer = StepAnswer { reported: reported.slot(), live: live.slot() };
-    let number = library.step(state, flag, lent, answer);
-    let answered = (number, *reported.slot(), *live.slot());
-    check_kept(lot, &before, number, 1)?;
-    let unanswered = answered.1 == MARK as usize && answered.2 == MARK as usize;
-    demand!(number == 0 || unanswered, "refused with {number}, but an answer was written");
-    demand!(number != 0 || answered.1 <= lot.report.length(), "reports more than its room");
-    demand!(reported.guards_hold() && live.guards_hold(), "wrote outside its answers");
-    Ok(answered)
-}
-
-/// A batch of whatever state, in the same way.
-fn batch(library: &dyn Library, lot: &mut Lot, flags: &[u8]) -> Check<u32> {
-    let before = lot.content();
-    let mut lent_flags = Lent::new(flags);
-    let mut answers = [MARK as usize; 3].map(Lent::one);
-    let [taken, pairs, live] = &mut answers;
-    let (state, lent) = lot.lend();
-    let answer = StepsAnswer { taken: taken.slot(), pairs: pairs.slot(), live: live.slot() };
-    let number = library.steps(state, lent_flags.part(), lent, answer);
-    let [taken, pairs, _] = answers.each_ref().map(|answer| answer.seen()[0]);
-    check_kept(lot, &before, number, flags.len())?;
-    let unanswered = answers.iter().all(|answer| answer.seen()[0] == MARK as usize);
-    demand!(number == 0 || unanswered, "batch refused with {number}, but an answer was written");
-    let within = taken <= flags.len() && pairs <= lot.report.length() / 2;
-    demand!(number != 0 || within, "a batch took {taken}, wrote {pairs} pairs: more than its room");
-    demand!(lent_flags.seen() == flags, "a batch changed its flag bytes");
-    let guards = lent_flags.guards_hold() && answers.iter().all(Lent::guards_hold);
-    demand!(guards, "a batch wrote outside");
-    Ok(number)
-}
-
-/// A refusal changes nothing; a step taken writes at most one history byte, a
-/// batch of n steps at most n.
-fn check_kept(
-    lot: &Lot,
-    before: &(Vec<u8>, Vec<u8>, Vec<u32>, Vec<u32>),
-    number: u32,
-    steps: usize,
-) -> Check {
-    demand!(lot.guards_hold(), "wrote outside what was lent (answered {number})");
-    if number == 0 {
-        let pairs = lot.history.seen().iter().zip(&before.1);
-        let changed = pairs.filter(|(now, then)| now != then).count();
-        demand!(changed <= steps, "{changed} history bytes were written in {steps} steps");
-        return Ok(());
-    }
-    demand!((17..=21).contains(&number), "a step answered {number}");
-    demand!(lot.content() == *before, "refused with {number}, but memory was changed");
-    Ok(())
-}
+use crate::states::{number_at, put_number, LIVE_AT, NEXT_AT, OPENED_AT, SIZE_AT};
+use lot::{batch, honest, step, Lot};
 
 /// States and tables of random content, in lots of random lengths.
 pub fn random_states(library: &dyn Library, seed: u64, count: usize) -> Check<Numbers> {
@@ -141,13 +27,26 @@ pub fn random_states(library: &dyn Library, seed: u64, count: usize) -> Check<Nu
         let (words, room) = (random.pick(&[0, 3, 12, 84, 900, 16_384]), random.size(0, 300));
         let (history, cells) = (random.bytes(history_length), random_table(&mut random, words));
         let mut lot = Lot::new(&state, &history, &cells, &random.words(room));
-        for _ in 0..3 {
-            numbers.add(step(library, &mut lot, random.byte())?.0);
-        }
-        let flags = random.bytes(5);
-        numbers.add(batch(library, &mut lot, &flags)?);
+        take_some(library, &mut random, &mut lot, 3, &mut numbers)?;
     }
     Ok(numbers)
+}
+
+/// So many steps, then a batch of up to nine flags.
+fn take_some(
+    library: &dyn Library,
+    random: &mut Random,
+    lot: &mut Lot,
+    steps: usize,
+    numbers: &mut Numbers,
+) -> Check {
+    for _ in 0..steps {
+        numbers.add(step(library, lot, random.byte())?.0);
+    }
+    let count = random.size(0, 9);
+    let flags = random.bytes(count);
+    numbers.add(batch(library, lot, &flags)?.0);
+    Ok(())
 }
 
 fn random_state(random: &mut Random) -> Vec<u8> {
@@ -178,6 +77,61 @@ fn random_table(random: &mut Random, words: usize) -> Vec<u32> {
     }
 }
 
+/// States of accepted rules whose numbers are around every limit, with noise in
+/// the room after the body and in the table, in lots of about the right lengths.
+pub fn forged_states(library: &dyn Library, seed: u64, count: usize) -> Check<Numbers> {
+    let mut random = Random::new(seed);
+    let mut numbers = Numbers::default();
+    for _ in 0..count {
+        let rule = random::accepted_rule(&mut random);
+        let mut lot = forged_lot(&mut random, &rule);
+        take_some(library, &mut random, &mut lot, 3, &mut numbers)?;
+    }
+    Ok(numbers)
+}
+
+fn forged_lot(random: &mut Random, rule: &Rule) -> Lot {
+    let state = forged_state(random, rule);
+    let own = (number_at(&state, OPENED_AT) as usize).min(2 * MOST_HISTORY);
+    let length = if random.one_in(8) { random.pick(&[0, own + 1, MOST_HISTORY]) } else { own };
+    let needed = CELL_WORDS * rule.figures.cells as usize;
+    let words = random.pick(&[needed, needed, needed, needed + 3, needed - 1]);
+    let one = rule.figures.delay as usize + 1;
+    let room = random.pick(&[one, 2 * one, 2 * one + 3, 8 * one, 2 * one - 1, one - 1, 0]);
+    let (history, cells) = (random.bytes(length), random_table(random, words));
+    Lot::new(&state, &history, &cells, &random.words(room))
+}
+
+fn forged_state(random: &mut Random, rule: &Rule) -> Vec<u8> {
+    let (body, least) = (forged_body(random, rule), rule.figures.history);
+    let size = body.len() as u64;
+    let sizes = [0, size - 1, size + 1, 512, 513, 65_536 + size, (1 << 32) + size, u64::MAX];
+    let long = [least.saturating_sub(1), 4096, 4097, 65_536 + least, (1 << 32) + least, u64::MAX];
+    let late = [LAST_TICK, LAST_TICK - 1, LAST_TICK - 2, LAST_TICK + 1, u64::MAX];
+    let early = random.below(1 << 20) as u64;
+    let live = random.below(300) as u64;
+    let mut state = random.bytes(STATE_BYTES);
+    state[..body.len()].copy_from_slice(&body);
+    let mut put = |at, right, wrong: &[u64], seldom| {
+        let number = if random.one_in(seldom) { random.pick(wrong) } else { right };
+        put_number(&mut state, at, number);
+    };
+    put(SIZE_AT, size, &sizes, 8);
+    put(OPENED_AT, least, &long, 4);
+    put(NEXT_AT, early, &late, 3);
+    put(LIVE_AT, live, &[256, 1 << 32, u64::MAX], 4);
+    state
+}
+
+/// The rule's body, or now and then one that is read but has no figures.
+fn forged_body(random: &mut Random, rule: &Rule) -> Vec<u8> {
+    if random.one_in(10) {
+        let number = random.size(11, 15) as u32;
+        return random::neighbours(random, number).outside;
+    }
+    rule.body.clone()
+}
+
 /// Honest states and tables with some bytes or words changed, or not of one
 /// another.
 pub fn damaged_states(library: &dyn Library, seed: u64, count: usize) -> Check<Numbers> {
@@ -196,18 +150,17 @@ pub fn damaged_states(library: &dyn Library, seed: u64, count: usize) -> Check<N
             }
             _ => take_foreign_state(library, &mut random, &mut lot)?,
         }
-        for _ in 0..6 {
-            numbers.add(step(library, &mut lot, random.byte())?.0);
-        }
-        let flags = random.bytes(9);
-        numbers.add(batch(library, &mut lot, &flags)?);
+        take_some(library, &mut random, &mut lot, 6, &mut numbers)?;
     }
     Ok(numbers)
 }
 
+/// Some bytes of the body, or of the four numbers after it.
 fn damage_state(random: &mut Random, lot: &mut Lot) {
     for _ in 0..random.size(1, 3) {
-        let at = random.below(STATE_BYTES);
+        let numbers = random.one_in(2);
+        let at =
+            if numbers { random.size(SIZE_AT, STATE_BYTES - 1) } else { random.below(SIZE_AT) };
         lot.state.part()[at] = match random.below(3) {
             0 => random.byte(),
             1 => lot.state.seen()[at] ^ (1 << random.below(8)),
@@ -290,20 +243,18 @@ fn overwrite(random: &mut Random, history: &mut Lent<u8>) {
 }
 
 /// "It [21] always comes, first of all, for a state whose L is above 4,096."
-/// Where a state holds L is found by opening with two lengths.
 pub fn forged_lengths(library: &dyn Library) -> Check<u64> {
-    let place = find_number(&bare_flag(library, 513, 0)?, &bare_flag(library, 1027, 0)?)?;
     let mut refused = 0;
-    for length in [4097, 4098, 8192, 32_768, 65_535u16] {
-        for lent in [0, 513, MOST_HISTORY, length as usize] {
+    for length in [4097, 4098, 65_535, 65_536 + 513, (1 << 32) + 513, u64::MAX] {
+        for lent in [0, 513, MOST_HISTORY, MOST_HISTORY + 1] {
             for (words, room) in [(4, 2), (0, 0)] {
-                let mut lot = bare_flag(library, 513, 0)?;
-                lot.state.part()[place..place + 2].copy_from_slice(&length.to_le_bytes());
+                let mut lot = bare_flag(library, 513)?;
+                put_number(lot.state.part(), OPENED_AT, length);
                 lot.history = Lent::new(&vec![9; lent]);
                 lot.cells = Lent::new(&vec![0; words]);
                 lot.report = Lent::new(&vec![0; room]);
                 let one = step(library, &mut lot, 0)?.0;
-                let many = batch(library, &mut lot, &[0, 1])?;
+                let many = batch(library, &mut lot, &[0, 1])?.0;
                 demand!((one, many) == (21, 21), "L {length}: answered {one} and {many}");
                 refused += 2;
             }
@@ -313,46 +264,41 @@ pub fn forged_lengths(library: &dyn Library) -> Check<u64> {
 }
 
 /// "20: the tick to be taken is 4,294,967,295." No test can take so many steps;
-/// the tick is put into the state. As no opening left that, 21 may come too.
-pub fn forged_ticks(library: &dyn Library) -> Check<Vec<u32>> {
-    let place = find_number(&bare_flag(library, 0, 513)?, &bare_flag(library, 0, 1027)?)?;
-    let mut lot = bare_flag(library, 0, 513)?;
-    lot.state.part()[place..place + 4].copy_from_slice(&u32::MAX.to_le_bytes());
+/// the tick is put into the state. For each tick: what a step answered, what a
+/// batch of two flags after it answered, and how many of them it took.
+pub const DUE_TICKS: &[(u64, u32, u32, usize)] = &[
+    (LAST_TICK - 3, 0, 0, 2),
+    (LAST_TICK - 2, 0, 0, 1),
+    (LAST_TICK - 1, 0, 20, 0),
+    (LAST_TICK, 20, 20, 0),
+    (LAST_TICK + 1, 21, 21, 0),
+    (LAST_TICK + 6, 21, 21, 0),
+    (u64::MAX, 21, 21, 0),
+];
+
+/// What came for the ticks of `DUE_TICKS`.
+pub fn forged_ticks(library: &dyn Library) -> Check<Vec<(u64, u32, u32, usize)>> {
+    DUE_TICKS.iter().map(|due| forged_tick(library, due.0)).collect()
+}
+
+fn forged_tick(library: &dyn Library, tick: u64) -> Check<(u64, u32, u32, usize)> {
+    let mut lot = bare_flag(library, 0)?;
+    put_number(lot.state.part(), NEXT_AT, tick);
+    lot.report = Lent::new(&[0; 9]);
     let one = step(library, &mut lot, 0)?.0;
-    let many = batch(library, &mut lot, &[0])?;
-    demand!(one == 20 || one == 21, "a step at the last tick answered {one}");
-    demand!(many == 20 || many == 21, "a batch at the last tick answered {many}");
-    // The tick before it may be taken, and then no other.
-    let mut lot = bare_flag(library, 0, 513)?;
-    lot.state.part()[place..place + 4].copy_from_slice(&(u32::MAX - 1).to_le_bytes());
-    let before = step(library, &mut lot, 0)?.0;
-    demand!(before == 0 || before == 21, "the step before the last tick answered {before}");
-    let after = step(library, &mut lot, 0)?.0;
-    demand!(after == 20 || after == 21, "the step after it answered {after}");
-    Ok(vec![one, many, before, after])
+    let (many, taken) = batch(library, &mut lot, &[0, 1])?;
+    Ok((tick, one, many, if many == 0 { taken } else { 0 }))
 }
 
 /// The rule "flag 0 at X", which has no history, no delay and one cell, opened
-/// with a history of `length` bytes, after so many steps.
-fn bare_flag(library: &dyn Library, length: usize, steps: usize) -> Check<Lot> {
+/// with a history of `length` bytes.
+fn bare_flag(library: &dyn Library, length: usize) -> Check<Lot> {
     let sheet = random::sheet_of(&[vec![1, 0, 0]]);
     let mut lot = Lot::new(&[0; STATE_BYTES], &vec![0; length], &[0; 4], &[0; 2]);
     let (state, lent) = lot.lend();
     let number = library.open(&sheet, 0, lent.history, &[0; 4], state);
     demand!(number == 0, "opening a bare flag answered {number}");
-    for _ in 0..steps {
-        let number = step(library, &mut lot, 1)?.0;
-        demand!(number == 0, "a step of a bare flag answered {number}");
-    }
     Ok(lot)
-}
-
-/// Where the first state holds 513 and the second 1,027, low byte first.
-fn find_number(first: &Lot, second: &Lot) -> Check<usize> {
-    let holds =
-        |lot: &Lot, at: usize, number: u16| lot.state.seen()[at..at + 2] == number.to_le_bytes();
-    let found = (0..STATE_BYTES - 4).find(|&at| holds(first, at, 513) && holds(second, at, 1027));
-    found.ok_or("the state holds this number in another form: adapt find_number".to_string())
 }
 
 /// Empty slices, whose pointers dangle.

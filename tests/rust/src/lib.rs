@@ -6,6 +6,7 @@
 //! - `random`: fixed-seed generators of rules, bodies, sheets and streams.
 //! - `lent`: buffers with guards around them, to be lent to the library.
 //! - `library`: the boundary to the library.
+//! - `states`: a state's bytes, and which number a call on any of them is due.
 //! - `notation`: short names, with which the tests write rules and recordings.
 //! - `compare`, `hostile`: the two suites, for any implementation of the boundary.
 //! - `stand_in`: an implementation in Rust, right or wrong in a chosen way, with
@@ -19,3 +20,4 @@ pub mod notation;
 pub mod paper;
 pub mod random;
 pub mod stand_in;
+pub mod states;

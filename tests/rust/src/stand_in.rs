@@ -1,15 +1,17 @@
 //! An implementation of the boundary in Rust, to test the two suites with: the
 //! right one must pass them, and each with a flaw must be caught. It keeps to
-//! the memory that it is lent, but evaluates anew at each step.
+//! the memory that it is lent, with a state's bytes as the header says, but
+//! evaluates anew at each step.
 //!
 //! It stands on `paper`, so it says nothing about the paper's meaning. What it
 //! tests is the suites: that they ask what they should, and see what differs.
 
 use crate::library::{Library, State, StepAnswer, StepLent, StepsAnswer, FALSE, OPEN, TRUE};
 use crate::paper::{
-    self, Bound, Figures, Formula, Lengths, Opened, Outcome, Refusal, Verdict, MOST_HISTORY,
-    MOST_LENGTH,
+    self, Bound, Figures, Formula, Lengths, Opened, Outcome, Refusal, Verdict, LAST_TICK,
+    MOST_HISTORY, MOST_LENGTH,
 };
+use crate::states::{self, number_at, put_number, LIVE_AT, NEXT_AT, OPENED_AT, SIZE_AT};
 
 #[derive(Clone, Copy, Debug, PartialEq, Eq)]
 pub enum Flaw {
@@ -55,22 +57,32 @@ pub enum Flaw {
     // Hostile input.
     WritesTwoHistoryBytes,
     RefusesAndWrites,
-    TrustsState,
+    TrustsLength,
+    ShortHistoryIs17,
+    CutsTicks,
+    TakesLastTick,
+    BatchTakesLastTick,
+    SizeOfTwoBytes,
+    BodyByItsNumber,
+    RefusesHighLive,
+    ChangesStateBody,
+    BatchAnswers19,
+    TakesEmptyBatch,
 }
 
 pub struct StandIn {
     pub flaw: Flaw,
 }
 
-const BODY_AT: usize = 32;
+/// The ticks before the last so many don't matter to a step: delay, history and
+/// an offset from position 0 are 255, 4,096 and 4,095 at most.
+const FAR: usize = 16_384;
 
 /// What the state holds.
 struct Held {
     opened: Opened,
-    tick: u32,
-    live: u32,
-    /// Of the history after the last step; 0 but for one flaw.
-    history_sum: u64,
+    tick: u64,
+    live: u64,
 }
 
 impl StandIn {
@@ -127,25 +139,31 @@ impl StandIn {
         }
     }
 
+    /// "Answers [..] 21 for a state that no opening gives."
     fn read_state(&self, state: &State) -> Result<Held, Refusal> {
-        let size = word16(state, 0);
-        let history_length = word16(state, 2);
-        if size > MOST_LENGTH {
+        let numbers = [SIZE_AT, OPENED_AT, NEXT_AT, LIVE_AT].map(|at| number_at(state, at));
+        let [mut size, length, mut tick, live] = numbers;
+        if self.has(Flaw::SizeOfTwoBytes) {
+            size %= 65_536;
+        }
+        if self.has(Flaw::CutsTicks) {
+            tick %= LAST_TICK + 1;
+        }
+        let too_long = length > MOST_HISTORY as u64 && !self.has(Flaw::TrustsLength);
+        if size > MOST_LENGTH as u64 || too_long || tick > LAST_TICK {
             return Err(21);
         }
-        let checked = sum(&[&state[..20], &state[28..]]).to_le_bytes();
-        let dishonest = history_length > MOST_HISTORY || state[20..28] != checked;
-        if dishonest && !self.has(Flaw::TrustsState) {
+        let by_21 = |number| if self.has(Flaw::BodyByItsNumber) { number } else { 21 };
+        let formula = paper::read_body(&state[..size as usize]).map_err(by_21)?;
+        let figures = paper::formula_figures(&formula).map_err(by_21)?;
+        if length < figures.history {
+            return Err(if self.has(Flaw::ShortHistoryIs17) { 17 } else { 21 });
+        }
+        if live > figures.delay && self.has(Flaw::RefusesHighLive) {
             return Err(21);
         }
-        let formula = paper::read_body(&state[BODY_AT..BODY_AT + size]).map_err(|_| 21u32)?;
-        let figures = paper::formula_figures(&formula).map_err(|_| 21u32)?;
-        Ok(Held {
-            opened: Opened { formula, figures, history_length },
-            tick: u32::from_le_bytes(state[4..8].try_into().unwrap()),
-            live: u32::from_le_bytes(state[8..12].try_into().unwrap()),
-            history_sum: u64::from_le_bytes(state[12..20].try_into().unwrap()),
-        })
+        let opened = Opened { formula, figures, history_length: length as usize };
+        Ok(Held { opened, tick, live })
     }
 
     fn refusal(&self, held: &Held, lent: &StepLent) -> Option<Refusal> {
@@ -157,15 +175,16 @@ impl StandIn {
         if self.has(Flaw::TakesShortReport) && lengths.report + 1 == held.opened.needed_report() {
             lengths.report += 1;
         }
-        let refusal = paper::step_refusal(&held.opened, lengths, held.tick as u64);
+        let refusal = paper::step_refusal(&held.opened, lengths, held.tick);
         let short_table = lengths.table < held.opened.needed_words();
         let short_report = lengths.report < held.opened.needed_report();
         match refusal {
             Some(17) if self.has(Flaw::TableBeforeHistory) && short_table => Some(18),
             Some(18) if self.has(Flaw::ReportBeforeTable) && short_report => Some(19),
+            Some(20) if self.has(Flaw::TakesLastTick) => None,
             None if self.has(Flaw::RefusesOverwritten)
                 && held.tick > 0
-                && held.history_sum != sum(&[lent.history]) =>
+                && lent.cells[held.opened.needed_words() - 1] != sum(lent.history) =>
             {
                 Some(21)
             }
@@ -173,22 +192,24 @@ impl StandIn {
         }
     }
 
-    /// The stream as far as it can matter, with 0 for what came before.
-    fn recording(&self, held: &Held, flag: u8, history: &[u8], cells: &[u32]) -> Vec<u8> {
+    /// The stream as far as it can matter, with 0 for what came before, and the
+    /// tick that it begins with.
+    fn recording(&self, held: &Held, flag: u8, history: &[u8], cells: &[u32]) -> (usize, Vec<u8>) {
         let t = held.tick as usize;
+        let begin = t.saturating_sub(FAR);
         let kept = if self.has(Flaw::ReadsUnusedHistory) {
             history.len()
         } else {
             held.opened.figures.history as usize
         };
         let delay = held.opened.figures.delay as usize;
-        let mut recording = vec![0; t + 1];
+        let mut recording = vec![0; t + 1 - begin];
         for q in t.saturating_sub(kept + delay)..t {
-            recording[q] =
+            recording[q - begin] =
                 if q + kept >= t { history[q % history.len()] } else { cells[q % delay] as u8 };
         }
-        recording[t] = flag;
-        recording
+        recording[t - begin] = flag;
+        (begin, recording)
     }
 
     /// One step that nothing refuses: the report and the live count.
@@ -198,12 +219,12 @@ impl StandIn {
         if self.has(Flaw::StoresFirst) {
             self.store(t, flag, lent.history);
         }
-        let recording = self.recording(held, flag, lent.history, lent.cells);
-        let (report, live) = self.judge(held, &recording);
+        let (begin, recording) = self.recording(held, flag, lent.history, lent.cells);
+        let (report, live) = self.judge(held, begin, &recording);
         if figures.delay > 0 && t as u64 >= figures.history {
             // The history forgets this one first; it may be needed still.
             let leaving = t - figures.history as usize;
-            lent.cells[leaving % figures.delay as usize] = recording[leaving] as u32;
+            lent.cells[leaving % figures.delay as usize] = recording[leaving - begin] as u32;
         }
         self.store(t, flag, lent.history);
         if self.has(Flaw::WritesAfterTable) {
@@ -228,14 +249,14 @@ impl StandIn {
         }
     }
 
-    fn judge(&self, held: &Held, recording: &[u8]) -> (Vec<u32>, usize) {
-        let t = recording.len() - 1;
+    fn judge(&self, held: &Held, begin: usize, recording: &[u8]) -> (Vec<u32>, usize) {
+        let t = begin + recording.len() - 1;
         let delay = held.opened.figures.delay as usize;
         let formula = self.meant(&held.opened.formula);
         let mut report = Vec::new();
         let mut live = 0;
         for p in t.saturating_sub(delay)..=t {
-            let outcome = paper::rule_outcome(&formula, recording, p as i64);
+            let outcome = paper::rule_outcome(&formula, recording, (p - begin) as i64);
             if self.has(Flaw::JudgesAtTheEnd) {
                 let is_false = matches!(outcome, Outcome::Decided(Verdict::False, _));
                 if p + delay > t {
@@ -246,7 +267,9 @@ impl StandIn {
                 continue;
             }
             match outcome {
-                Outcome::Decided(Verdict::False, step) if step == t as i64 => report.push(p as u32),
+                Outcome::Decided(Verdict::False, step) if step == (t - begin) as i64 => {
+                    report.push(p as u32)
+                }
                 Outcome::Decided(..) => {}
                 Outcome::Open => live += 1,
             }
@@ -261,19 +284,20 @@ impl StandIn {
     }
 
     fn write_state(&self, held: &Held, state: &mut State) {
-        state[4..8].copy_from_slice(&held.tick.to_le_bytes());
-        state[8..12].copy_from_slice(&held.live.to_le_bytes());
-        state[12..20].copy_from_slice(&held.history_sum.to_le_bytes());
-        let checked = sum(&[&state[..20], &state[28..]]);
-        state[20..28].copy_from_slice(&checked.to_le_bytes());
+        put_number(state, NEXT_AT, held.tick);
+        put_number(state, LIVE_AT, held.live);
+        if self.has(Flaw::ChangesStateBody) {
+            state[SIZE_AT - 1] = 0;
+        }
     }
 
     fn advance(&self, held: &mut Held, flag: u8, lent: &mut StepLent) -> Vec<u32> {
         let (report, live) = self.take(held, flag, lent);
         held.tick += 1;
-        held.live = live as u32;
+        held.live = live as u64;
         if self.has(Flaw::RefusesOverwritten) {
-            held.history_sum = sum(&[lent.history]);
+            // The last of the needed words is free: they are more than the delay.
+            lent.cells[held.opened.needed_words() - 1] = sum(lent.history);
         }
         report
     }
@@ -362,19 +386,14 @@ impl Library for StandIn {
         cells: &[u32],
         state: &mut State,
     ) -> u32 {
-        let opened = match paper::open(sheet, rule, history.len(), cells.len()) {
-            Err(number) => return number,
-            Ok(opened) => opened,
-        };
+        if let Err(number) = paper::open(sheet, rule, history.len(), cells.len()) {
+            return number;
+        }
         if !self.has(Flaw::ForgetsToZero) {
             history.fill(0);
         }
         let body = paper::rule_body(sheet, rule).expect("the opening read it");
-        state.fill(0);
-        state[0..2].copy_from_slice(&(body.len() as u16).to_le_bytes());
-        state[2..4].copy_from_slice(&(history.len() as u16).to_le_bytes());
-        state[BODY_AT..BODY_AT + body.len()].copy_from_slice(body);
-        self.write_state(&Held { opened, tick: 0, live: 0, history_sum: 0 }, state);
+        *state = states::fresh(body, history.len());
         0
     }
 
@@ -413,6 +432,11 @@ impl Library for StandIn {
         mut lent: StepLent,
         answer: StepsAnswer,
     ) -> u32 {
+        if self.has(Flaw::TakesEmptyBatch) && flags.is_empty() {
+            (*answer.taken, *answer.pairs) = (0, 0);
+            *answer.live = number_at(state, LIVE_AT) as usize;
+            return 0;
+        }
         let mut held = match self.read_state(state) {
             Err(number) => return number,
             Ok(held) => held,
@@ -424,16 +448,20 @@ impl Library for StandIn {
             table: lent.cells.len(),
             report: held.opened.needed_report(),
         };
-        if let Some(number) = paper::step_refusal(&held.opened, whole_report, held.tick as u64) {
+        if let Some(number) = paper::step_refusal(&held.opened, whole_report, held.tick) {
             return number;
+        }
+        if self.has(Flaw::BatchAnswers19) && lent.report.len() < needed {
+            return 19;
         }
         for &flag in flags {
             let left = lent.report.len() - words;
             let full = if self.has(Flaw::BatchFillsReport) { left == 0 } else { left < needed };
-            if full {
+            let at_last = held.tick == LAST_TICK && !self.has(Flaw::BatchTakesLastTick);
+            if full || at_last {
                 break;
             }
-            let step = held.tick;
+            let step = held.tick as u32;
             for tick in self.advance(&mut held, flag, &mut lent) {
                 let pair =
                     if self.has(Flaw::BatchSwapsPairs) { [step, tick] } else { [tick, step] };
@@ -452,19 +480,10 @@ impl Library for StandIn {
     }
 }
 
-fn word16(bytes: &[u8], at: usize) -> usize {
-    bytes[at] as usize + 256 * bytes[at + 1] as usize
-}
-
 /// FNV-1a.
-fn sum(parts: &[&[u8]]) -> u64 {
-    let mut sum = 0xCBF2_9CE4_8422_2325u64;
-    for part in parts {
-        for &byte in *part {
-            sum = (sum ^ byte as u64).wrapping_mul(0x0000_0100_0000_01B3);
-        }
-    }
-    sum
+fn sum(bytes: &[u8]) -> u32 {
+    let mix = |sum: u32, &byte: &u8| (sum ^ byte as u32).wrapping_mul(0x0100_0193);
+    bytes.iter().fold(0x811C_9DC5, mix)
 }
 
 /// Whether the last byte is the code that refusal 9 is about.

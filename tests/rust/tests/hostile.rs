@@ -1,27 +1,44 @@
 //! Hostile input to the Rattle library (feature `library`).
 
+use rust_tests::compare::Numbers;
 use rust_tests::hostile;
 use rust_tests::library::Linked;
 
-/// States of random content, four calls each.
-const RANDOM_STATES: usize = 20_000;
+/// States of random content, which are no rule, four calls each.
+const RANDOM_STATES: usize = 10_000;
+/// States in the right form with numbers around the limits, four calls each.
+const FORGED_STATES: usize = 20_000;
 /// Honest states, damaged or put beside foreign cells, seven calls each.
 const DAMAGED_STATES: usize = 20_000;
 /// Runs of thirty steps with an overwritten history.
 const OVERWRITTEN: usize = 5_000;
 
+fn calls(numbers: &Numbers) -> u64 {
+    (0..=22).map(|number| numbers.of(number)).sum()
+}
+
 #[test]
 fn random_states() {
     let numbers = hostile::random_states(&Linked, 2_001, RANDOM_STATES).unwrap();
-    let calls: u64 = (0..=22).map(|number| numbers.of(number)).sum();
-    assert_eq!(calls, 4 * RANDOM_STATES as u64, "{numbers:?}");
+    assert_eq!(numbers.of(21), 4 * RANDOM_STATES as u64, "{numbers:?}");
+}
+
+#[test]
+fn forged_states() {
+    let numbers = hostile::forged_states(&Linked, 2_004, FORGED_STATES).unwrap();
+    assert_eq!(calls(&numbers), 4 * FORGED_STATES as u64, "{numbers:?}");
+    assert!(numbers.each_at_least(&[17, 18, 19, 20], FORGED_STATES as u64 / 8), "{numbers:?}");
+    assert!(numbers.each_at_least(&[0, 21], FORGED_STATES as u64 / 2), "{numbers:?}");
 }
 
 #[test]
 fn damaged_states() {
     let numbers = hostile::damaged_states(&Linked, 2_002, DAMAGED_STATES).unwrap();
-    let calls: u64 = (0..=22).map(|number| numbers.of(number)).sum();
-    assert_eq!(calls, 7 * DAMAGED_STATES as u64, "{numbers:?}");
+    assert_eq!(calls(&numbers), 7 * DAMAGED_STATES as u64, "{numbers:?}");
+    let count = DAMAGED_STATES as u64;
+    assert!(numbers.of(0) > 3 * count && numbers.of(21) > count, "{numbers:?}");
+    assert!(numbers.of(17) > count / 2 && numbers.of(19) > count / 8, "{numbers:?}");
+    assert!(numbers.of(18) > count / 400, "{numbers:?}");
 }
 
 #[test]
@@ -32,13 +49,12 @@ fn overwritten_histories() {
 
 #[test]
 fn forged_lengths() {
-    assert_eq!(hostile::forged_lengths(&Linked), Ok(80));
+    assert_eq!(hostile::forged_lengths(&Linked), Ok(96));
 }
 
 #[test]
 fn forged_ticks() {
-    let numbers = hostile::forged_ticks(&Linked).unwrap();
-    assert_eq!(numbers.len(), 4);
+    assert_eq!(hostile::forged_ticks(&Linked), Ok(hostile::DUE_TICKS.to_vec()));
 }
 
 #[test]

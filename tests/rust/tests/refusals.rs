@@ -7,6 +7,7 @@ use rust_tests::paper::{
     write_sheet, Formula, Lengths, Refusal,
 };
 use rust_tests::random::sheet_of;
+use rust_tests::states;
 
 #[track_caller]
 fn body_gets(hexadecimal: &str, due: Result<(), Refusal>) {
@@ -338,6 +339,40 @@ fn steps() {
     assert_eq!(number(0, 0, 0, 4_294_967_295), Some(17));
     assert_eq!(number(5, 0, 0, 4_294_967_295), Some(18));
     assert_eq!(number(5, 84, 0, 4_294_967_295), Some(19));
+}
+
+/// The same on a state's bytes, where 21 comes before all others.
+#[test]
+fn steps_on_state_bytes() {
+    let example = bytes("02 04 01 00 00 05 02 00 FF FF 02 00 02 00 01 01 00");
+    let right = Lengths { history: 5, table: 84, report: 3 };
+    let number = |at, content, lengths| {
+        let mut state = states::fresh(&example, 5);
+        states::put_number(&mut state, at, content);
+        let step = states::admit_step(&state, lengths).err().unwrap_or(0);
+        (step, states::admit_batch(&state, lengths).err().unwrap_or(0))
+    };
+    let next = |tick, lengths| number(states::NEXT_AT, tick, lengths);
+    assert_eq!(next(0, right), (0, 0));
+    assert_eq!(next(4_294_967_294, right), (0, 0));
+    assert_eq!(next(4_294_967_295, right), (20, 20));
+    assert_eq!(next(4_294_967_295, Lengths { report: 2, ..right }), (19, 20));
+    assert_eq!(next(0, Lengths { report: 2, ..right }), (19, 0));
+    assert_eq!(next(0, Lengths { table: 83, report: 2, ..right }), (18, 18));
+    assert_eq!(next(0, Lengths { history: 4, table: 83, report: 2 }), (17, 17));
+    let wrong = Lengths { history: 4, table: 0, report: 0 };
+    for lengths in [right, wrong] {
+        assert_eq!(next(4_294_967_296, lengths), (21, 21));
+        // L above 4,096, and below the history figure, which is 1.
+        assert_eq!(number(states::OPENED_AT, 4097, lengths), (21, 21));
+        assert_eq!(number(states::OPENED_AT, 0, lengths), (21, 21));
+        // A body cut short, one with bytes left over, one that has no room.
+        for size in [0, 16, 18, 512, 513, u64::MAX] {
+            assert_eq!(number(states::SIZE_AT, size, lengths), (21, 21));
+        }
+    }
+    assert_eq!(number(states::OPENED_AT, 4096, Lengths { history: 4096, ..right }), (0, 0));
+    assert_eq!(number(states::LIVE_AT, u64::MAX, right), (0, 0));
 }
 
 #[test]

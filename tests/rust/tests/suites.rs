@@ -48,11 +48,13 @@ fn the_right_one_passes_runs() {
 fn the_right_one_passes_hostile_input() {
     let numbers = hostile::random_states(&RIGHT, 308, 300).unwrap();
     assert!(numbers.of(21) == 1_200, "{numbers:?}");
+    let numbers = hostile::forged_states(&RIGHT, 320, 600).unwrap();
+    assert!(numbers.each_at_least(&[0, 17, 18, 19, 20, 21], 60), "{numbers:?}");
     let numbers = hostile::damaged_states(&RIGHT, 309, 300).unwrap();
-    assert!(numbers.of(21) > 100 && numbers.of(0) > 100, "{numbers:?}");
+    assert!(numbers.each_at_least(&[0, 17, 21], 100), "{numbers:?}");
     assert_eq!(hostile::overwritten_histories(&RIGHT, 310, 100), Ok(3_000));
-    assert_eq!(hostile::forged_lengths(&RIGHT), Ok(80));
-    assert_eq!(hostile::forged_ticks(&RIGHT), Ok(vec![21, 21, 21, 21]));
+    assert_eq!(hostile::forged_lengths(&RIGHT), Ok(96));
+    assert_eq!(hostile::forged_ticks(&RIGHT), Ok(hostile::DUE_TICKS.to_vec()));
     assert_eq!(hostile::empty_slices(&RIGHT), Ok(()));
     assert_eq!(hostile::huge_lengths(&RIGHT), Ok(()));
 }
@@ -91,6 +93,10 @@ fn openings(library: &dyn Library) -> Check {
     compare::openings(library, 317, 300).map(|_| ())
 }
 
+fn forged(library: &dyn Library) -> Check {
+    hostile::forged_states(library, 321, 200).map(|_| ())
+}
+
 fn damaged(library: &dyn Library) -> Check {
     hostile::damaged_states(library, 318, 100).map(|_| ())
 }
@@ -101,6 +107,10 @@ fn overwritten(library: &dyn Library) -> Check {
 
 fn forged_lengths(library: &dyn Library) -> Check {
     hostile::forged_lengths(library).map(|_| ())
+}
+
+fn forged_ticks(library: &dyn Library) -> Check {
+    hostile::forged_ticks(library).map(|_| ())
 }
 
 /// Each flaw, the suite that must catch it, and a word of what it must say.
@@ -147,10 +157,25 @@ const CAUGHT: &[(Flaw, Suite, &str)] = &[
     (Flaw::RuleBeforeLayout, sheets, "answered 3, due is 2"),
     (Flaw::ClearsBuffer, writers, "the buffer is not as due"),
     (Flaw::RoomBeforeLengths, writers, "answered 22, due is"),
-    (Flaw::WritesTwoHistoryBytes, overwritten, "history bytes were written"),
+    (Flaw::WritesTwoHistoryBytes, overwritten, "the history is not as due"),
     (Flaw::WritesTwoHistoryBytes, runs, "the history is not as due"),
     (Flaw::RefusesAndWrites, damaged, "memory was changed"),
-    (Flaw::TrustsState, forged_lengths, "answered 17"),
+    (Flaw::TrustsLength, forged_lengths, "answered 17, due is 21"),
+    (Flaw::TrustsLength, forged, "answered 17, due is 21"),
+    (Flaw::ShortHistoryIs17, forged, "answered 17, due is 21"),
+    (Flaw::CutsTicks, forged_ticks, "answered 0, due is 21"),
+    (Flaw::CutsTicks, forged, ", due is 21"),
+    (Flaw::TakesLastTick, forged_ticks, "step answered 0, due is 20"),
+    (Flaw::TakesLastTick, forged, "step answered 0, due is 20"),
+    (Flaw::BatchTakesLastTick, forged_ticks, "a batch took the last tick"),
+    (Flaw::SizeOfTwoBytes, forged, ", due is 21"),
+    (Flaw::BodyByItsNumber, forged, ", due is 21"),
+    (Flaw::BodyByItsNumber, damaged, ", due is 21"),
+    (Flaw::RefusesHighLive, forged, "answered 21, due is"),
+    (Flaw::RefusesHighLive, damaged, "answered 21, due is"),
+    (Flaw::ChangesStateBody, forged, "the state is not as due"),
+    (Flaw::BatchAnswers19, forged, "batch answered 19, due is 0"),
+    (Flaw::TakesEmptyBatch, forged, "batch answered 0, due is"),
 ];
 
 #[test]
@@ -162,17 +187,10 @@ fn each_wrong_one_is_caught() {
     }
 }
 
-/// With a state that isn't checked, the last tick gets its own number.
-#[test]
-fn the_last_tick_is_refused() {
-    let trusting = StandIn { flaw: Flaw::TrustsState };
-    assert_eq!(hostile::forged_ticks(&trusting), Ok(vec![20, 20, 0, 20]));
-}
-
 /// The same suites pass without a flaw, so that it is the flaw they caught.
 #[test]
 fn the_catching_suites_pass_the_right_one() {
-    let suites: [Suite; 11] = [
+    let suites: [Suite; 13] = [
         runs,
         bodies,
         limits,
@@ -181,9 +199,11 @@ fn the_catching_suites_pass_the_right_one() {
         sheets,
         writers,
         openings,
+        forged,
         damaged,
         overwritten,
         forged_lengths,
+        forged_ticks,
     ];
     for suite in suites {
         assert_eq!(suite(&RIGHT), Ok(()));
