@@ -35,6 +35,8 @@ pub enum Flaw {
     RefusesOverwritten,
     TakesShortReport,
     ForgetsToZero,
+    LeavesStateRoom,
+    LeavesLiveInState,
     // The batch call.
     BatchFillsReport,
     BatchForgetsLive,
@@ -49,6 +51,7 @@ pub enum Flaw {
     HistoryBeforeDelay,
     FalseAtHorizon,
     OpenBeforeTrying,
+    OpenAtHorizon,
     LongRecordings,
     SheetMayGoOn,
     RuleBeforeLayout,
@@ -285,7 +288,9 @@ impl StandIn {
 
     fn write_state(&self, held: &Held, state: &mut State) {
         put_number(state, NEXT_AT, held.tick);
-        put_number(state, LIVE_AT, held.live);
+        if !self.has(Flaw::LeavesLiveInState) {
+            put_number(state, LIVE_AT, held.live);
+        }
         if self.has(Flaw::ChangesStateBody) {
             state[SIZE_AT - 1] = 0;
         }
@@ -362,11 +367,16 @@ impl Library for StandIn {
         let horizon = recording.len() as i64 - 1;
         match paper::evaluate(body, recording, tick) {
             Err(number) => return number,
-            Ok(_) if self.has(Flaw::OpenBeforeTrying) && horizon == tick as i64 => *verdict = OPEN,
+            Ok(_) if self.has(Flaw::OpenBeforeTrying) && horizon == tick as i64 => {
+                (*verdict, *step) = (OPEN, 0)
+            }
             Ok(_) => {
                 let formula = self.meant(&paper::read_body(body).unwrap());
                 match paper::rule_outcome(&formula, recording, tick as i64) {
-                    Outcome::Open => (*verdict, *step) = (OPEN, 0),
+                    Outcome::Open => {
+                        let late = self.has(Flaw::OpenAtHorizon);
+                        (*verdict, *step) = (OPEN, if late { horizon as u64 } else { 0 });
+                    }
                     Outcome::Decided(Verdict::True, at) => (*verdict, *step) = (TRUE, at as u64),
                     Outcome::Decided(Verdict::False, at) => {
                         let late = self.has(Flaw::FalseAtHorizon);
@@ -393,7 +403,11 @@ impl Library for StandIn {
             history.fill(0);
         }
         let body = paper::rule_body(sheet, rule).expect("the opening read it");
+        let old = *state;
         *state = states::fresh(body, history.len());
+        if self.has(Flaw::LeavesStateRoom) {
+            state[body.len()..SIZE_AT].copy_from_slice(&old[body.len()..SIZE_AT]);
+        }
         0
     }
 

@@ -7,6 +7,7 @@ use crate::lent::Lent;
 use crate::library::{Library, State, FALSE, OPEN, STATE_BYTES, TRUE};
 use crate::paper::{self, Outcome, Verdict};
 use crate::random::{Random, WriterInput};
+use crate::states;
 
 pub(super) fn state_of(lent: &mut Lent<u8>) -> &mut State {
     lent.part().try_into().expect("a state has 544 bytes")
@@ -94,8 +95,7 @@ pub fn figures(library: &dyn Library, body: &[u8]) -> Check<u32> {
     Ok(number)
 }
 
-/// "Evaluator: 4 to 10, 16." What it answers as the step of an open outcome is
-/// not looked at.
+/// "Evaluator: 4 to 10, 16." The step of an open outcome is answered as 0.
 pub fn outcome(library: &dyn Library, body: &[u8], recording: &[u8], tick: usize) -> Check<u32> {
     let about = || format!("tick {tick} of {} for {}", hex(recording), hex(body));
     let (mut lent_body, mut lent_recording) = (Lent::new(body), Lent::new(recording));
@@ -105,7 +105,7 @@ pub fn outcome(library: &dyn Library, body: &[u8], recording: &[u8], tick: usize
     let answered = (number, *verdict.slot(), *step.slot());
     let due = match paper::evaluate(body, recording, tick) {
         Err(number) => (number, MARK as u32, MARK),
-        Ok(Outcome::Open) => (0, OPEN, answered.2),
+        Ok(Outcome::Open) => (0, OPEN, 0),
         Ok(Outcome::Decided(Verdict::True, at)) => (0, TRUE, at as u64),
         Ok(Outcome::Decided(Verdict::False, at)) => (0, FALSE, at as u64),
     };
@@ -118,8 +118,8 @@ pub fn outcome(library: &dyn Library, body: &[u8], recording: &[u8], tick: usize
     Ok(number)
 }
 
-/// "Opening: 1 to 15, 17, 18." An accepted one "zeroes the history"; at this
-/// boundary it is lent the table only to be read.
+/// "Opening: 1 to 15, 17, 18." An accepted one "zeroes the history" and sets all
+/// bytes of the state; at this boundary it is lent the table only to be read.
 pub fn opening(
     library: &dyn Library,
     random: &mut Random,
@@ -147,6 +147,9 @@ pub fn opening(
     demand!(number == due, "{}: answered {number}, due is {due}", about());
     if number == 0 {
         demand!(history.seen().iter().all(|&byte| byte == 0), "{}: history not 0", about());
+        let body = paper::rule_body(sheet, rule).expect("the opening read it");
+        let fresh = states::fresh(body, history_length);
+        demand!(state.seen() == fresh, "{}: the state is not as due", about());
     } else {
         demand!(history.seen() == history_before, "{}: history was changed", about());
         demand!(state.seen() == state_before, "{}: state was changed", about());

@@ -7,9 +7,10 @@ use super::calls::state_of;
 use super::{hex, Check, Numbers, MARK};
 use crate::demand;
 use crate::lent::Lent;
-use crate::library::{Library, StepAnswer, StepLent, StepsAnswer, STATE_BYTES};
+use crate::library::{Library, State, StepAnswer, StepLent, StepsAnswer, STATE_BYTES};
 use crate::paper::{self, Lengths, Opened, Watch, MOST_HISTORY};
 use crate::random::{self, Random, Rule};
+use crate::states;
 
 /// What was seen over all runs.
 #[derive(Clone, Debug, Default)]
@@ -65,6 +66,8 @@ struct Run<'a> {
     state: Lent<u8>,
     history: Lent<u8>,
     cells: Lent<u32>,
+    /// What the state must hold: every byte is the header's to say.
+    due_state: State,
     /// What the history must hold.
     due_history: Vec<u8>,
     /// What the table words after the needed cells must hold.
@@ -89,6 +92,7 @@ impl<'a> Run<'a> {
             opened,
             state: Lent::shifted(&random.bytes(STATE_BYTES), random.below(8)),
             history: Lent::shifted(&random.bytes(history_length), random.below(8)),
+            due_state: states::fresh(&rule.body, history_length),
             due_history: vec![0; history_length],
             due_tail: table[needed..].to_vec(),
             cells: Lent::new(&table),
@@ -162,10 +166,13 @@ impl<'a> Run<'a> {
             // "History byte t mod L becomes the flag byte and no other changes".
             self.due_history[t % length] = flag;
         }
-        self.watch.step(flag)
+        let answer = self.watch.step(flag);
+        states::put_taken(&mut self.due_state, 1, answer.live);
+        answer
     }
 
     fn check_memory(&self) -> Check {
+        demand!(self.state.seen() == self.due_state, "the state is not as due");
         demand!(self.history.seen() == self.due_history, "the history is not as due");
         let tail = &self.cells.seen()[self.opened.needed_words()..];
         demand!(tail == self.due_tail, "table words after the needed cells were changed");
@@ -353,8 +360,8 @@ impl<'a> Run<'a> {
         (flags.len(), words)
     }
 
-    /// A batch whose report has no room for its first step takes none: it
-    /// answers 0 and 0 steps, or 19. Either way it changes nothing else.
+    /// A batch whose report has no room for its first step takes none, which is
+    /// no refusal, and changes nothing but its answers.
     fn starved_batch(&mut self, random: &mut Random, room: usize, flags: &[u8]) -> Check {
         let before = self.memory();
         let report_before = random.words(room);
@@ -372,12 +379,9 @@ impl<'a> Run<'a> {
             StepsAnswer { taken: taken.slot(), pairs: pairs.slot(), live: live.slot() },
         );
         let answered = answers.each_ref().map(|answer| answer.seen()[0]);
-        let as_due = match number {
-            0 => answered == [0, 0, self.watch.live()],
-            19 => answered == [MARK as usize; 3],
-            _ => false,
-        };
-        demand!(as_due, "a batch with room {room} answered {number}, {answered:?}");
+        let due = [0, 0, self.watch.live()];
+        demand!(number == 0, "a batch with room {room} answered {number}, due is 0");
+        demand!(answered == due, "a batch with room {room}: {answered:?}, due is {due:?}");
         demand!(self.memory() == before, "a batch that took nothing changed memory");
         demand!(report.seen() == report_before, "a batch that took nothing wrote a report");
         let guards = report.guards_hold() && answers.iter().all(Lent::guards_hold);
