@@ -1,87 +1,18 @@
 #!/usr/bin/env python3
-"""The figures of bodies, worked out from document 01 alone, for crates/figures_cases.
+"""The figures of bodies, worked out from "Figures" of document 01 alone, for crates/figures_cases.
 
-  python3 tests/oracle/figures.py crates/figures_cases/src/main.rt > crates/figures_cases/stdout
+  python3 tests/oracle/figures.py crates/figures_cases/src/main.rt     what that program must write (its file stdout)
 
 It takes the names and bodies of the calls `case(b"name", b"body")` out of the program's source, in order, and writes the line that
-document 01 asks for each. It shares nothing with the library: bodies are parsed and measured here anew, in whole numbers of any size.
+document 01 asks for each. Bodies are read by paper.py beside it.
 """
-import math
 import re
 import sys
 
-INF = math.inf
-
-
-class Refused(Exception):
-    pass
-
-
-# ---- "The body", "From the input"
-
-class Body:
-    """Inside a body from left to right: code present (4), known (5), 9, its fixed bytes present (4), then for a flag 6, 7; for each bound
-    5, 6, 8."""
-
-    def __init__(self, data):
-        self.data, self.at, self.formulas = data, 0, 0
-
-    def fixed(self, n):
-        if self.at + n > len(self.data):
-            raise Refused(4)
-        piece = self.data[self.at:self.at + n]
-        self.at += n
-        return piece
-
-    def formula(self, around):
-        """`around` quantifiers are around it, so the variables 0 to `around` are bound."""
-        code = self.fixed(1)[0]
-        if code not in (1, 2, 3, 4, 5):
-            raise Refused(5)
-        self.formulas += 1
-        if self.formulas > 64 or (code == 5 and around == 4):
-            raise Refused(9)
-        if code == 1:
-            variable, flag = self.fixed(2)
-            if variable > around:
-                raise Refused(6)
-            if flag > 7:
-                raise Refused(7)
-            return ("flag", variable, flag)
-        if code == 2:
-            return ("not", self.formula(around))
-        if code == 3 or code == 4:
-            first = self.formula(around)
-            return ("then" if code == 3 else "beside", first, self.formula(around))
-        piece = self.fixed(8)
-        first = bound(piece[:4], around)
-        second = bound(piece[4:], around)
-        return ("all", first, second, self.formula(around + 1))
-
-
-def bound(four, around):
-    kind, variable, low, high = four
-    offset = low + 256 * high
-    if offset >= 32768:
-        offset -= 65536
-    if kind > 2:
-        raise Refused(5)
-    if kind == 2 and variable > around:
-        raise Refused(6)
-    if not -4095 <= offset <= 4095 or (kind != 2 and variable != 0) or (kind == 1 and offset != 0):
-        raise Refused(8)
-    return (kind, variable, offset)
-
-
-def parse(data):
-    body = Body(data)
-    formula = body.formula(0)
-    if body.at != len(data):
-        raise Refused(10)
-    return formula
-
+from paper import INF, Refused, read
 
 # ---- "Figures"
+
 
 def positive(a):
     """N(a) is a, or 0 if a is negative."""
@@ -149,7 +80,8 @@ def cells(f, pairs):
 
 
 def figures(data):
-    f = parse(data)
+    """History, delay and cells of a body, "or a refusal from 4 to 15"."""
+    f = read(data)
     start = [(0, 0)]
     d, h = delay(f, start), history(f, start, 0)
     if d == INF:
@@ -173,14 +105,23 @@ def answer(data):
         return "refused %d" % why.args[0]
 
 
+# ---- the cases of a program
+
+
 def text(literal):
     return re.sub(rb"\\x([0-9a-f]{2})", lambda m: bytes([int(m.group(1), 16)]), literal)
 
 
+def cases(path):
+    """Name and bytes of each call `case(b"name", b"bytes")` of a program's source."""
+    with open(path, "rb") as source:
+        found = re.findall(rb'case\(\s*b"([^"]*)",\s*b"([^"]*)",?\s*\)', source.read())
+    return [(name.decode(), text(literal)) for name, literal in found]
+
+
 def main():
-    source = open(sys.argv[1], "rb").read()
-    for name, body in re.findall(rb'case\(\s*b"([^"]*)",\s*b"([^"]*)",?\s*\)', source):
-        print("%s: %s" % (name.decode(), answer(text(body))))
+    for name, body in cases(sys.argv[1]):
+        print("%s: %s" % (name, answer(body)))
 
 
 if __name__ == "__main__":

@@ -5,148 +5,24 @@
   outcomes.py long      what crates/recording_long must write (its file stdout)
 
 The cases stand here and in the two programs; a program writes each body and recording before its outcomes, so that a
-case that differs shows. Nothing here is shared with the library: the body is read, and the meaning evaluated, by the
-sentences of document 01, with Python's own whole numbers.
+case that differs shows. Bodies are read, and the meaning evaluated, by paper.py beside it.
 """
 import sys
 
-# ---- outcomes: (verdict, step) or OPEN
-
-OPEN = None
+from paper import OPEN, Refused, outcome, read
 
 
-class Refused(Exception):
-    """A refusal, by its number."""
-
-
-# ---- "The body" and "From the input"
-
-
-class Reader:
-    def __init__(self, body):
-        self.body, self.at, self.formulas = body, 0, 0
-
-    def byte(self, k):
-        return self.body[self.at + k]
-
-    def word(self, k):
-        w = self.byte(k) + 256 * self.byte(k + 1)
-        return w - 65536 if w >= 32768 else w
-
-    def bound(self, k, nested):
-        kind, v, n = self.byte(k), self.byte(k + 1), self.word(k + 2)
-        if kind > 2:
-            raise Refused(5)
-        if kind == 2 and v > nested:
-            raise Refused(6)
-        if kind != 2 and v != 0:
-            raise Refused(8)
-        if kind == 1 and n != 0:
-            raise Refused(8)
-        if abs(n) > 4095:
-            raise Refused(8)
-        return kind, v, n
-
-    def formula(self, nested):
-        """A formula inside so many quantifiers: its code, then what it holds."""
-        if self.at >= len(self.body):
-            raise Refused(4)
-        code = self.byte(0)
-        if code not in (1, 2, 3, 4, 5):
-            raise Refused(5)
-        self.formulas += 1
-        if self.formulas > 64 or (code == 5 and nested == 4):
-            raise Refused(9)
-        fixed = {1: 3, 5: 9}.get(code, 1)
-        if self.at + fixed > len(self.body):
-            raise Refused(4)
-        if code == 1:
-            v, k = self.byte(1), self.byte(2)
-            if v > nested:
-                raise Refused(6)
-            if k > 7:
-                raise Refused(7)
-            self.at += 3
-            return 1, v, k
-        if code == 5:
-            first, last = self.bound(1, nested), self.bound(5, nested)
-            self.at += 9
-            return 5, first, last, self.formula(nested + 1)
-        self.at += 1
-        first = self.formula(nested)
-        return (2, first) if code == 2 else (code, first, self.formula(nested))
-
-
-def read(body):
-    r = Reader(body)
-    f = r.formula(0)
-    if r.at != len(body):
-        raise Refused(10)
-    return f
-
-
-# ---- "Meaning"
-
-INFINITY = float("inf")
-
-
-def place(bound, env):
-    kind, v, n = bound
-    if kind == 1:
-        return INFINITY
-    return env[v] + n if kind == 2 else n
-
-
-def false_steps(parts):
-    return [o[1] for o in parts if o is not OPEN and not o[0]]
-
-
-def evaluate(f, flags, env, s, hurry=False):
-    """The outcome over the ticks 0 to len(flags) - 1 of a formula started at step s, its variables at the positions env.
-
-    With `hurry`, a range's bodies that start at or after a step at which one is false are left out: none is false earlier.
-    """
-    t = len(flags) - 1
-    code = f[0]
-    if code == 1:
-        return (flags[env[f[1]]] >> f[2]) & 1 == 1, s
-    if code == 2:
-        o = evaluate(f[1], flags, env, s, hurry)
-        return o if o is OPEN else (not o[0], o[1])
-    if code == 3:
-        o = evaluate(f[1], flags, env, s, hurry)
-        return evaluate(f[2], flags, env, o[1], hurry) if o is not OPEN and o[0] else o
-    if code == 4:
-        parts = [evaluate(f[1], flags, env, s, hurry), evaluate(f[2], flags, env, s, hurry)]
-        complete = True
-    else:
-        p1, p2 = place(f[1], env), place(f[2], env)
-        if p1 == INFINITY or p1 > p2 or p2 < 0:
-            return True, s
-        first, last = max(0, p1), min(p2, t)
-        parts = []
-        for q in range(first, last + 1):
-            if hurry and false_steps(parts) and false_steps(parts)[0] <= max(s, q):
-                break
-            parts.append(evaluate(f[3], flags, env + [q], max(s, q), hurry))
-        complete = p2 <= t
-    if false_steps(parts):
-        return False, min(false_steps(parts))
-    if complete and OPEN not in parts:
-        return True, max(o[1] for o in parts)
-    return OPEN
-
-
-def outcome_at(body, flags, tick, hurry=False):
+def outcome_at(body, flags, tick):
+    """ "The rule at tick p is its formula started at p with variable 0 equal to p." "Evaluator: 4 to 10, 16." """
     f = read(body)
     if len(flags) > 65535 or tick >= len(flags):
         raise Refused(16)
-    return evaluate(f, flags, [tick], tick, hurry)
+    return outcome(f, flags, len(flags) - 1, (tick,), tick)
 
 
-def shown(body, flags, tick, hurry=False):
+def shown(body, flags, tick):
     try:
-        o = outcome_at(body, flags, tick, hurry)
+        o = outcome_at(body, flags, tick)
     except Refused as why:
         return f"refused {why}"
     return "open" if o is OPEN else f"{'true' if o[0] else 'false'} at {o[1]}"
@@ -240,7 +116,7 @@ def long():
     nested = h("05 02000000 01000000 05 02010000 01000000 01 02 00")
     print(f"65000: {shown(nested, up, 65000)}")
     for tick in (0, 32767):
-        print(f"{tick}: {shown(nested, bytes(65535), tick, hurry=True)}")
+        print(f"{tick}: {shown(nested, bytes(65535), tick)}")
 
 
 if __name__ == "__main__":
