@@ -1,17 +1,17 @@
 // The lines that the program `watch` prints. Each is put together in a buffer, so that the program can write it at once and whoever follows its
-// output sees whole lines.
+// output sees whole lines: the line stands at the front of the buffer, whose other bytes stay as they were, and the answer is the line's length.
 ghost use mathlib.Core.Path.{_≡_};
 ghost use mathlib.Core.List.{_++_};
 ghost use Prim.Native.Nat.{_+_, _≤_};
-ghost use lib.ListN.{length, take};
+ghost use lib.ListN.{length, take, drop};
 ghost use Rattle.io.specs.Counts.{Counts};
 ghost use Rattle.watch_lines.specs.Lines.{numeral, with-field, refused-line, figures-line, violation-line, end-line};
 
-// Puts bytes after the first `at` ones, and answers how many there are then.
+// Puts bytes after the first `at` ones, and answers how many there are then. The bytes after those stay as they were.
 fn put_text(out: &mut [u8], at: usize, text: &[u8]) -> usize
     requires { ⌜ at + length (now text) ≤ length (now out) ⌝ }
     ensures { λ r. ⌜ r ≡ at + length (now (text .entry)) ⌝ }
-    ensures { λ r. ⌜ take r (now (out .exit)) ≡ take at (now (out .entry)) ++ now (text .entry) ⌝ }
+    ensures { λ r. ⌜ now (out .exit) ≡ (take at (now (out .entry)) ++ now (text .entry)) ++ drop r (now (out .entry)) ⌝ }
 {
     let mut i: usize = 0;
     while i < text.len() {
@@ -25,7 +25,8 @@ fn put_text(out: &mut [u8], at: usize, text: &[u8]) -> usize
 fn put_number(out: &mut [u8], at: usize, n: u64) -> usize
     requires { ⌜ at + 20 ≤ length (now out) ⌝ }
     ensures { λ r. ⌜ r ≤ at + 20 ⌝ }
-    ensures { λ r. ⌜ take r (now (out .exit)) ≡ take at (now (out .entry)) ++ numeral n ⌝ }
+    ensures { λ r. ⌜ r ≡ at + length (numeral n) ⌝ }
+    ensures { λ r. ⌜ now (out .exit) ≡ (take at (now (out .entry)) ++ numeral n) ++ drop r (now (out .entry)) ⌝ }
 {
     let mut digits = [0u8; 20];
     let k = io::decimal(n, &mut digits);
@@ -36,24 +37,28 @@ fn put_number(out: &mut [u8], at: usize, n: u64) -> usize
 fn put_field(out: &mut [u8], at: usize, word: &[u8], n: u64) -> usize
     requires { ⌜ (at + length (now word)) + 20 ≤ length (now out) ⌝ }
     ensures { λ r. ⌜ r ≤ (at + length (now (word .entry))) + 20 ⌝ }
-    ensures { λ r. ⌜ take r (now (out .exit)) ≡ with-field (take at (now (out .entry))) (now (word .entry)) n ⌝ }
+    ensures { λ r. ⌜ r ≡ (at + length (now (word .entry))) + length (numeral n) ⌝ }
+    ensures { λ r. ⌜ now (out .exit) ≡ with-field (take at (now (out .entry))) (now (word .entry)) n ++ drop r (now (out .entry)) ⌝ }
 {
     let a = put_text(out, at, word);
     put_number(out, a, n)
 }
 
-// Each line stands at the front of the buffer; the answer is its length.
+// The line of a refusal, by its number.
 pub fn refused_line(number: u64, out: &mut [u8; 128]) -> usize
     ensures { λ r. ⌜ Counts r (now (out .exit)) ⌝ }
-    ensures { λ r. ⌜ take r (now (out .exit)) ≡ refused-line number ⌝ }
+    ensures { λ r. ⌜ r ≡ length (refused-line number) ⌝ }
+    ensures { λ r. ⌜ now (out .exit) ≡ refused-line number ++ drop r (now (out .entry)) ⌝ }
 {
     let a = put_field(out, 0, b"refused ", number);
     put_text(out, a, b"\n")
 }
 
+// The line of an opened rule: its three figures.
 pub fn figures_line(history: u64, delay: u64, cells: u64, out: &mut [u8; 128]) -> usize
     ensures { λ r. ⌜ Counts r (now (out .exit)) ⌝ }
-    ensures { λ r. ⌜ take r (now (out .exit)) ≡ figures-line history delay cells ⌝ }
+    ensures { λ r. ⌜ r ≡ length (figures-line history delay cells) ⌝ }
+    ensures { λ r. ⌜ now (out .exit) ≡ figures-line history delay cells ++ drop r (now (out .entry)) ⌝ }
 {
     let a = put_field(out, 0, b"rule 0 history ", history);
     let b = put_field(out, a, b" delay ", delay);
@@ -61,18 +66,22 @@ pub fn figures_line(history: u64, delay: u64, cells: u64, out: &mut [u8; 128]) -
     put_text(out, c, b"\n")
 }
 
+// The line of one violated tick, and of the step that decided it.
 pub fn violation_line(tick: u64, step: u64, out: &mut [u8; 128]) -> usize
     ensures { λ r. ⌜ Counts r (now (out .exit)) ⌝ }
-    ensures { λ r. ⌜ take r (now (out .exit)) ≡ violation-line tick step ⌝ }
+    ensures { λ r. ⌜ r ≡ length (violation-line tick step) ⌝ }
+    ensures { λ r. ⌜ now (out .exit) ≡ violation-line tick step ++ drop r (now (out .entry)) ⌝ }
 {
     let a = put_field(out, 0, b"violation ", tick);
     let b = put_field(out, a, b" at ", step);
     put_text(out, b, b"\n")
 }
 
+// The last line of a run: the ticks taken, the violations, and the ticks still live.
 pub fn end_line(ticks: u64, violations: u64, live: u64, out: &mut [u8; 128]) -> usize
     ensures { λ r. ⌜ Counts r (now (out .exit)) ⌝ }
-    ensures { λ r. ⌜ take r (now (out .exit)) ≡ end-line ticks violations live ⌝ }
+    ensures { λ r. ⌜ r ≡ length (end-line ticks violations live) ⌝ }
+    ensures { λ r. ⌜ now (out .exit) ≡ end-line ticks violations live ++ drop r (now (out .entry)) ⌝ }
 {
     let a = put_field(out, 0, b"end ", ticks);
     let b = put_field(out, a, b" steps ", violations);

@@ -1,9 +1,12 @@
 -- `watch_lines::end_line` meets its contract. Assumes nothing.
 use Prim.Native.Nat.{_≤_}
+use denote.Ref.{now}
 use mathlib.Core.Path.{_≡_, sym}
+use mathlib.Core.List.{[]}
 use native.Mathlib.Omega.{arith}
 use lib.Seq.{length-take-le}
-use Rattle.watch_lines.specs.Lines.{end-line}
+use Rattle.watch_lines.specs.Lines.{with-field, end-word, steps-word, violations-word, live-word, end-line}
+use Rattle.watch_lines.proofs.Laying.{laid-none, laid-field, laid-more}
 use borrow.Author.Needs.{needs}
 use Rattle.watch_lines.proofs.end_line.Statement.{statement}
 use Rattle.watch_lines.proofs.end_line.Tie as tie
@@ -35,9 +38,21 @@ put-text-requires c κs = search needs
 returns : tie.Need-returns
 unfolding end-line
 returns c =
+    let start = c .before .before .before .before .before .before .before .before .before .before .before .before in
+    let bytes = now (start .args .out) in
+    let first = c .before .before .before .before .before .before .before .before .before .put-field in
+    let first-line = with-field [] end-word (start .args .ticks) in
+    let first-laid = laid-field [] end-word (start .args .ticks) bytes bytes (first .last .0) 0 (first .result) (laid-none bytes) (first .ensures .1 .0) (first .ensures .1 .1) in
+    let second = c .before .before .before .before .before .before .put-field2 in
+    let second-line = with-field first-line steps-word (start .args .violations) in
+    let second-laid = laid-field first-line steps-word (start .args .violations) bytes (first .last .0) (second .last .0) (first .result) (second .result) first-laid (second .ensures .1 .0) (second .ensures .1 .1) in
+    let third = c .before .before .before .put-field3 in
+    let third-line = with-field second-line violations-word (start .args .live) in
+    let third-laid = laid-field second-line violations-word (start .args .live) bytes (second .last .0) (third .last .0) (second .result) (third .result) second-laid (third .ensures .1 .0) (third .ensures .1 .1) in
     let p = c .put-text in
+    let laid = laid-more third-line live-word bytes (third .last .0) (p .last .0) (third .result) (p .result) third-laid (p .ensures .0) (p .ensures .1) in
     let room : p .result ≤ 128 = search needs in
-    ((omega arith, sym (length-take-le (p .result) (p .last .0) (omega arith))), cc (p .ensures .1, c .before .before .before .before .before .before .before .before .before .put-field .ensures .1, c .before .before .before .before .before .before .put-field2 .ensures .1, c .before .before .before .put-field3 .ensures .1))
+    ((omega arith, sym (length-take-le (p .result) (p .last .0) (omega arith))), (sym (laid .0), laid .1))
 
 pub end-line-spec : {M : Type 1} → statement M
 end-line-spec =

@@ -37,7 +37,8 @@ returns c =
     let n = start .args .n in
     let small : n < 18446744073709551616 = omega (arith, start .fits .n) in
     let k : d .result ≤ 20 = most-digits (d .result) n small (d .ensures .1 .0) in
-    (omega (arith, p .ensures .0, d .ensures .0 .1), cc (p .ensures .1, d .ensures .1 .1, numeral-of (d .result) n small (d .ensures .1 .0)))
+    let is = numeral-of (d .result) n small (d .ensures .1 .0) in
+    (omega (arith, p .ensures .0, d .ensures .0 .1), (cc (p .ensures .0, d .ensures .1 .1, is), cc (p .ensures .1, d .ensures .1 .1, is)))
 
 pub put-number-spec : {M : Type 1} → statement M
 put-number-spec =

@@ -6,7 +6,7 @@ use native.Mathlib.Numerals.{add-one}
 use denote.Ref.{now}
 use borrow.Author.Needs.{needs}
 use lib.ListN.{length, length-set}
-use lib.Seq.{paste, paste-zero, paste-suc, take-paste, take-length}
+use lib.Seq.{paste, paste-zero, paste-suc, take-length}
 use Rattle.watch_lines.proofs.put_text.Statement.{statement}
 use Rattle.watch_lines.proofs.put_text.Tie as tie
 
@@ -54,7 +54,7 @@ returns c =
     let l = c .before .loop in
     let a = c .before .before .args in
     let e : l .i ≡ length (now (a .text)) = omega arith in
-    (omega arith, rw (l .inv .2, e, take-paste (now (a .out)) (a .at) (now (a .text)) (length (now (a .text))) (omega arith) (omega arith), take-length (now (a .text))))
+    (omega arith, rw (l .inv .2, e, take-length (now (a .text))))
 
 pub put-text-spec : {M : Type 1} → statement M
 put-text-spec =
