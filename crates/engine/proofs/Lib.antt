@@ -1,3 +1,4 @@
+mod Copying
 mod States
 mod Opens
 mod Steps

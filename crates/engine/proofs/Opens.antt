@@ -23,13 +23,14 @@ use Rattle.engine.specs.declared.opening.OpenAnswer.{OpenAnswer}
 use Rattle.engine.specs.declared.opening.OpenAnswer.the-variants as answer
 use Rattle.engine.specs.declared.opening.OpenResult.{OpenResult}
 use Rattle.engine.specs.declared.state.State as code
-use Rattle.engine.specs.States.{state-of, fresh-state, blank-state}
+use Rattle.engine.specs.States.{state-of, fresh-state, fresh-code, blank-code}
 use Rattle.engine.specs.Promises.{Stands, open-answer, opening-call, Blank, OpenPromise, BodyOpenedBy, BodyOpened}
+use Rattle.engine.proofs.States.{fresh-is, blank-is}
 
 -- ---- opening the rule with a body
 
 module _ (b history : List ℕ) (cells : ℕ) (a : FigureAnswer) (told-is : told a ≡ and-then (body-figures b) (room (length history) cells)) where
-  pub body-refused : {x : Refusal} (r : OpenResult) → a ≡ sized.Refused x → (r .answer ≡ answer.Refused x) × (state-of (r .state) ≡ blank-state)
+  pub body-refused : {x : Refusal} (r : OpenResult) → a ≡ sized.Refused x → (r .answer ≡ answer.Refused x) × (r .state ≡ blank-code)
       → BodyOpened b history cells r history
   body-refused {x} r e w =
       subst (λ (o : OpenAnswer). BodyOpenedBy b history cells o (r .state) history) (sym (w .0)) (sym told-is ∙ ap told e, (w .1, refl))
@@ -63,7 +64,7 @@ module _ (sheet : List ℕ) (number : ℕ) (place-of : Found) (found-is : found 
   part-size part e i = body-size sheet number part (part-is part e i) .1
 
   module _ (history cells : List ℕ) where
-    pub open-refused : {x : Refusal} (r : OpenResult) → place-of ≡ place.Refused x → (r .answer ≡ answer.Refused x) × (state-of (r .state) ≡ blank-state)
+    pub open-refused : {x : Refusal} (r : OpenResult) → place-of ≡ place.Refused x → (r .answer ≡ answer.Refused x) × (r .state ≡ blank-code)
         → OpenPromise sheet number history cells r history
     unfolding and-then
     open-refused {x} r e w = go (r .answer) (w .0)
@@ -72,7 +73,7 @@ module _ (sheet : List ℕ) (number : ℕ) (place-of : Found) (found-is : found 
         go answer.Opened i = let z : _≡_ {A = ℕ} 0 1 = cc in absurd (omega arith)
         go (answer.Refused y) i =
             let j : x ≡ y = cc in
-            record { keeps = (rw (sheet-refused e) (ap (λ (v : Refusal). refused (number-of v)) j), refl, refl); blank = w .1 }
+            record { keeps = (rw (sheet-refused e) (ap (λ (v : Refusal). refused (number-of v)) j), refl, refl); blank = ap state-of (w .1) ∙ blank-is; state-is = w .1 }
 
     pub open-body-keeps : {start size : ℕ} (part : List ℕ) (r : OpenResult) (history′ : List ℕ) → place-of ≡ place.At start size → part ≡ body-part (rule-body sheet number)
         → BodyOpened part history (length cells) r history′ → OpenPromise sheet number history cells r history′
@@ -85,6 +86,7 @@ module _ (sheet : List ℕ) (number : ℕ) (place-of : Found) (found-is : found 
         go : (o : OpenAnswer) → BodyOpenedBy part history (length cells) o (r .state) history′
             → OpenPromise sheet number history cells (record { answer = o; state = r .state }) history′
         go answer.Opened v =
+            let s : state-of (r .state) ≡ fresh-state part (length history) = ap state-of (v .1 .0) ∙ fresh-is part (length history) (part-size part e i) in
             record {
               keeps = (
                 part,
@@ -92,13 +94,14 @@ module _ (sheet : List ℕ) (number : ℕ) (place-of : Found) (found-is : found 
                 is,
                 rw is (v .0 .1),
                 record {
-                  state = v .1 .0;
+                  state = s;
                   zeroed = v .1 .1;
                   table-length = refl;
                   table-rest = refl;
-                  stands = λ flags. rw (v .1 .0) (fresh-stands part _ (length history) flags);
+                  stands = λ flags. rw s (fresh-stands part _ (length history) flags);
                 },
               );
               blank = tt;
+              state-is = v .1 .0 ∙ ap (λ (b : List ℕ). fresh-code b (length history)) i;
             }
-        go (answer.Refused x) v = record { keeps = (rw is (v .0), v .1 .1, refl); blank = v .1 .0 }
+        go (answer.Refused x) v = record { keeps = (rw is (v .0), v .1 .1, refl); blank = ap state-of (v .1 .0) ∙ blank-is; state-is = v .1 .0 }

@@ -1,15 +1,36 @@
--- What the states of the code stand for.
-use Prim.Native.Nat.{ℕ, _≤_}
+-- What the states that the calls give stand for.
+use Prim.Native.Nat.{ℕ, zero, suc, _-_, _≤_}
 use mathlib.Core.Path.{_≡_, refl, ap, _∙_}
-use mathlib.Core.Bool.{cond}
-use mathlib.Core.List.{List, []}
-use lib.Dec.{leb}
-use lib.ListN.{length, take}
+use mathlib.Core.List.{List, _++_}
+use native.Mathlib.Nat.{sub-zero, zero-sub, suc-sub-suc}
+use lib.ListN.{length, replicate, drop}
+use lib.Seq.{take-append-seam}
 use borrow.Author.Tests.{le-leb}
-use Rattle.demand.specs.Contract.{State}
-use Rattle.engine.specs.States.{state-of, fresh-state}
+use Rattle.engine.specs.declared.state.State as code
+use Rattle.engine.specs.States.{state-of, fresh-state, blank-state, next-state, padded, fresh-code, blank-code, next-code}
 
-pub fresh-is : (body bytes : List ℕ) (L : ℕ) → length body ≤ 512 → take (length body) bytes ≡ body
-    → state-of (record { body = bytes; size = length body; opened = L; next = 0; live = 0 }) ≡ fresh-state body L
+-- What is left of a row of equal bytes.
+drop-replicate : (n m a : ℕ) → drop n (replicate m a) ≡ replicate (m - n) a
+drop-replicate zero m a = rw sub-zero
+drop-replicate (suc n) zero a = rw zero-sub
+drop-replicate (suc n) (suc m) a = rw suc-sub-suc (drop-replicate n m a)
+
+-- The fields with a body copied to the front of 512 bytes that are 0.
+pub copied-is : (b bytes : List ℕ) (L : ℕ) → bytes ≡ b ++ drop (length b) (replicate 512 0)
+    → _≡_ {A = code.State} (record { body = bytes; size = length b; opened = L; next = 0; live = 0 }) (fresh-code b L)
+unfolding padded
+copied-is b bytes L e =
+    ap (λ (l : List ℕ). record { body = l; size = length b; opened = L; next = 0; live = 0 })
+    (e ∙ ap (λ (l : List ℕ). b ++ l) (drop-replicate (length b) 512 0))
+
+pub fresh-is : (b : List ℕ) (L : ℕ) → length b ≤ 512 → state-of (fresh-code b L) ≡ fresh-state b L
+unfolding state-of padded
+fresh-is b L h = simp (le-leb (length b) 512 h, take-append-seam b (replicate (512 - length b) 0))
+
+pub blank-is : state-of blank-code ≡ blank-state
 unfolding state-of
-fresh-is body bytes L h e = simp (le-leb (length body) 512 h, e)
+blank-is = refl
+
+pub next-is : (s : code.State) (live : ℕ) → state-of (next-code s live) ≡ next-state (state-of s) live
+unfolding state-of
+next-is s live = refl

@@ -22,8 +22,9 @@ use Rattle.instances.specs.declared.taking.Taking.the-variants as taking
 use Rattle.instances.specs.Taking.{TickMeans, TickTaken, TickPromise}
 use Rattle.engine.specs.declared.state.State as code
 use Rattle.engine.specs.declared.stepping.StepAnswer.the-variants as answer
-use Rattle.engine.specs.States.{state-of, next-state}
+use Rattle.engine.specs.States.{state-of, next-state, next-code}
 use Rattle.engine.specs.Promises.{Stands, step-call, StepPromise}
+use Rattle.engine.proofs.States.{next-is}
 
 -- No body is no rule: 21, whatever else is brought.
 no-rule : (L t h c n : ℕ) → admit-lengths [] L t h c n ≡ refused 21
@@ -41,6 +42,7 @@ module _ (s : code.State) (flag : ℕ) (history cells report : List ℕ) where
       record {
         keeps = (simp (lt-leb (s .size) 512 i) (no-rule (s .opened) (s .next) (length history) (length cells) (length report)), (refl, refl, refl));
         given-back = refl;
+        state-is = refl;
       }
 
   module _ (short : s .size ≤ 512) where
@@ -61,7 +63,7 @@ module _ (s : code.State) (flag : ℕ) (history cells report : List ℕ) where
     unfolding state-of
     step-refused a {x} cells′ report′ e p =
         let q = owned (taking.Refused x) cells′ report′ (subst (λ (y : Taking). Promised y cells′ report′) e p) in
-        record { keeps = (q .0, (refl, q .1 .0, q .1 .1)); given-back = refl }
+        record { keeps = (q .0, (refl, q .1 .0, q .1 .1)); given-back = refl; state-is = refl }
 
     module _ (a : Taking) {n live : ℕ} (cells′ report′ : List ℕ) (e : a ≡ taking.Taken n live) (p : Promised a cells′ report′) where
       took : TickPromise ((state-of s) .body-bytes) (s .opened) (s .next) history flag cells report (taking.Taken n live) cells′ report′
@@ -77,10 +79,11 @@ module _ (s : code.State) (flag : ℕ) (history cells report : List ℕ) where
       pub tick-left : s .next < 4294967296 → s .next < 4294967295
       tick-left i = omega (arith, admitted .tick-left)
 
-      pub step-taken : (s′ : code.State) (history′ : List ℕ) → history′ ≡ set history (s .next % length history) flag → state-of s′ ≡ next-state (state-of s) live
+      pub step-taken : (s′ : code.State) (history′ : List ℕ) → history′ ≡ set history (s .next % length history) flag → s′ ≡ next-code s live
           → StepPromise s flag history cells report (record { answer = answer.Taken n live; state = s′ }) history′ cells′ report′
       unfolding state-of figures-are
-      step-taken s′ history′ i j =
+      step-taken s′ history′ i k =
+          let j : state-of s′ ≡ next-state (state-of s) live = ap state-of k ∙ next-is s live in
           record {
             keeps = (
               figures-are,
@@ -99,4 +102,5 @@ module _ (s : code.State) (flag : ℕ) (history cells report : List ℕ) where
               },
             );
             given-back = tt;
+            state-is = k;
           }

@@ -5,6 +5,7 @@ use mathlib.Core.List.{List}
 use lib.ListN.{length, replicate}
 use Rattle.refusal.specs.Answer.{Answer, refused, accepted, and-then}
 use Rattle.refusal.specs.Numbers.{number-of}
+use Rattle.sheet.specs.Sheet.{rule-body, body-part}
 use Rattle.rule.specs.declared.Figures.{Figures}
 use Rattle.rule.specs.Figures.{body-figures}
 use Rattle.demand.specs.Contract.{State, Opening, Taken, Step, room, Standing, Opened, Stepped}
@@ -16,7 +17,7 @@ use Rattle.engine.specs.declared.opening.OpenResult.{OpenResult}
 use Rattle.engine.specs.declared.stepping.StepAnswer.{StepAnswer}
 use Rattle.engine.specs.declared.stepping.StepAnswer as steps
 use Rattle.engine.specs.declared.stepping.StepResult.{StepResult}
-use Rattle.engine.specs.States.{state-of, fresh-state, blank-state}
+use Rattle.engine.specs.States.{state-of, blank-state, fresh-code, blank-code, next-code}
 
 -- State and needed cells are what the ticks of a stream before the state's next tick leave (crates/instances says what that is inside the cells).
 abbrev pub Stands : Standing
@@ -66,22 +67,33 @@ abbrev pub GivenBack : StepAnswer → code.State → code.State → Type 0
 GivenBack (steps.the-variants.Taken n live) s s′ = Unit {0}
 GivenBack (steps.the-variants.Refused x) s s′ = s′ ≡ s
 
+-- Which state of the code stands beside an answer of open, where the rule has this body and the history this length, and of step.
+abbrev pub open-state : OpenAnswer → List ℕ → ℕ → code.State
+open-state opens.the-variants.Opened b L = fresh-code b L
+open-state (opens.the-variants.Refused x) b L = blank-code
+
+abbrev pub step-state : StepAnswer → code.State → code.State
+step-state (steps.the-variants.Taken n live) s = next-code s live
+step-state (steps.the-variants.Refused x) s = s
+
 pub record OpenPromise (sheet : List ℕ) (number : ℕ) (history table : List ℕ) (r : OpenResult) (history′ : List ℕ) : Type 0 where
   pub keeps : Opened Stands (opening-call sheet number history table r history′) (open-answer (r .answer) (r .state))
   pub blank : Blank (r .answer) (r .state)
+  pub state-is : r .state ≡ open-state (r .answer) (body-part (rule-body sheet number)) (length history)
 
 pub record StepPromise (s : code.State) (flag : ℕ) (history cells report : List ℕ) (r : StepResult) (history′ cells′ report′ : List ℕ) : Type 0 where
   pub keeps : Stepped Stands (state-of s) (step-call flag history cells report r history′ cells′ report′) (step-answer (r .answer) (r .state))
   pub given-back : GivenBack (r .answer) s (r .state)
+  pub state-is : r .state ≡ step-state (r .answer) s
 
 -- ---- inside the crate: opening the rule with this body
 
 abbrev pub BodyOpenedBy : List ℕ → List ℕ → ℕ → OpenAnswer → code.State → List ℕ → Type 0
 BodyOpenedBy b history table opens.the-variants.Opened s history′ =
     ((f : Figures) × (and-then (body-figures b) (room (length history) table) ≡ accepted f))
-    × ((state-of s ≡ fresh-state b (length history)) × (history′ ≡ replicate (length history) 0))
+    × ((s ≡ fresh-code b (length history)) × (history′ ≡ replicate (length history) 0))
 BodyOpenedBy b history table (opens.the-variants.Refused x) s history′ =
-    (and-then (body-figures b) (room (length history) table) ≡ refused (number-of x)) × ((state-of s ≡ blank-state) × (history′ ≡ history))
+    (and-then (body-figures b) (room (length history) table) ≡ refused (number-of x)) × ((s ≡ blank-code) × (history′ ≡ history))
 
 abbrev pub BodyOpened : List ℕ → List ℕ → ℕ → OpenResult → List ℕ → Type 0
 BodyOpened b history table r history′ = BodyOpenedBy b history table (r .answer) (r .state) history′

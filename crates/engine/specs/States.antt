@@ -1,9 +1,9 @@
--- What a state of the code stands for.
-use Prim.Native.Nat.{ℕ, suc}
+-- What a state of the code stands for, and which states the calls give.
+use Prim.Native.Nat.{ℕ, suc, _-_}
 use mathlib.Core.Bool.{cond}
-use mathlib.Core.List.{List, []}
+use mathlib.Core.List.{List, [], _++_}
 use lib.Dec.{leb}
-use lib.ListN.{take}
+use lib.ListN.{length, replicate, take}
 use Rattle.demand.specs.Contract.{State}
 use Rattle.engine.specs.declared.state.State as code
 
@@ -26,3 +26,17 @@ blank-state = record { body-bytes = []; opened = 0; next = 0; live-count = 0 }
 
 abbrev pub next-state : State → ℕ → State
 next-state s live = record { body-bytes = s .body-bytes; opened = s .opened; next = suc (s .next); live-count = live }
+
+-- A rule's body in the 512 bytes that a state has for it, with 0 in the rest.
+unfoldable pub padded : List ℕ → List ℕ
+padded b = b ++ replicate (512 - length b) 0
+
+-- The same three as states of the code, with every field.
+abbrev pub fresh-code : List ℕ → ℕ → code.State
+fresh-code b L = record { body = padded b; size = length b; opened = L; next = 0; live = 0 }
+
+abbrev pub blank-code : code.State
+blank-code = record { body = padded []; size = 0; opened = 0; next = 0; live = 0 }
+
+abbrev pub next-code : code.State → ℕ → code.State
+next-code s live = record { body = s .body; size = s .size; opened = s .opened; next = suc (s .next); live = live }

@@ -2,7 +2,7 @@
 ghost use mathlib.Core.Path.{_≡_};
 ghost use Prim.Native.Nat.{_≤_};
 ghost use lib.ListN.{length, replicate};
-ghost use Rattle.engine.specs.States.{state-of, blank-state};
+ghost use Rattle.engine.specs.States.{blank-code};
 ghost use Rattle.engine.specs.Promises.{BodyOpened, OpenPromise};
 use crate::state::State;
 use crate::state::blank;
@@ -24,7 +24,7 @@ pub struct OpenResult {
 }
 
 fn refused(x: Refusal) -> OpenResult
-    ensures { λ r. ⌜ (r .answer ≡ OpenAnswer.Refused x) × (state-of (r .state) ≡ blank-state) ⌝ }
+    ensures { λ r. ⌜ (r .answer ≡ OpenAnswer.Refused x) × (r .state ≡ blank-code) ⌝ }
 {
     OpenResult {
         answer: OpenAnswer::Refused(x),

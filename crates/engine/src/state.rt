@@ -1,8 +1,9 @@
 // What an opening and its steps carry from call to call.
 ghost use mathlib.Core.Path.{_≡_};
-ghost use Prim.Native.Nat.{suc, _+_, _≤_, _<_};
-ghost use lib.ListN.{length, take};
-ghost use Rattle.engine.specs.States.{state-of, fresh-state, blank-state, next-state};
+ghost use mathlib.Core.List.{_++_};
+ghost use Prim.Native.Nat.{_≤_, _<_};
+ghost use lib.ListN.{length, drop};
+ghost use Rattle.engine.specs.States.{fresh-code, blank-code, next-code};
 
 // The rule's body in the first `size` bytes, the length of the opened history, the tick to be taken, and how many ticks are live.
 pub struct State {
@@ -13,10 +14,10 @@ pub struct State {
     pub live: usize,
 }
 
-// Copies bytes to the front of others.
+// Copies bytes to the front of others; the ones after them stay as they were.
 fn copy_bytes(from: &[u8], to: &mut [u8])
     requires { ⌜ length (now from) ≤ length (now to) ⌝ }
-    ensures { λ _. ⌜ take (length (now (from .entry))) (now (to .exit)) ≡ now (from .entry) ⌝ }
+    ensures { λ _. ⌜ now (to .exit) ≡ now (from .entry) ++ drop (length (now (from .entry))) (now (to .entry)) ⌝ }
 {
     let mut i: usize = 0;
     while i < from.len() {
@@ -28,7 +29,7 @@ fn copy_bytes(from: &[u8], to: &mut [u8])
 // The state that an accepted opening gives.
 pub(crate) fn fresh(body: &[u8], opened: usize) -> State
     requires { ⌜ length (now body) ≤ 512 ⌝ }
-    ensures { λ r. ⌜ state-of r ≡ fresh-state (now (body .entry)) opened ⌝ }
+    ensures { λ r. ⌜ r ≡ fresh-code (now (body .entry)) opened ⌝ }
 {
     let mut bytes = [0u8; 512];
     copy_bytes(body, &mut bytes);
@@ -43,7 +44,7 @@ pub(crate) fn fresh(body: &[u8], opened: usize) -> State
 
 // What stands beside the number of a refused opening: a state with an empty body, which every step refuses by 21.
 pub(crate) fn blank() -> State
-    ensures { λ r. ⌜ state-of r ≡ blank-state ⌝ }
+    ensures { λ r. ⌜ r ≡ blank-code ⌝ }
 {
     State {
         body: [0u8; 512],
@@ -57,7 +58,7 @@ pub(crate) fn blank() -> State
 // The state after a step that took its tick.
 pub(crate) fn after_tick(mut state: State, live: usize) -> State
     requires { ⌜ state .next < 4294967295 ⌝ }
-    ensures { λ r. ⌜ state-of r ≡ next-state (state-of state) live ⌝ }
+    ensures { λ r. ⌜ r ≡ next-code state live ⌝ }
 {
     state.next = state.next + 1;
     state.live = live;

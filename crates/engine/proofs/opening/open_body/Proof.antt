@@ -2,7 +2,7 @@
 -- Assumes nothing.
 use mathlib.Core.Path.{ap, _∙_}
 use lib.ListN.{length}
-use Rattle.engine.specs.States.{fresh-state}
+use Rattle.engine.specs.States.{fresh-code}
 use Rattle.engine.proofs.Opens.{body-refused, body-accepted}
 use borrow.Author.Needs.{needs}
 use Rattle.engine.proofs.opening.open_body.Statement.{statement}
@@ -40,7 +40,7 @@ returns-2 c =
     let s₀ = c .before .before .before .before .before .before .before .before .before .before .before in (
       body-accepted (s₀ .args .body .now) (s₀ .args .history .now) (length (s₀ .args .cells .now)) (c .before .before .before .before .before .before .before .admit-opening .result) (c .before .before .before .before .before .before .before .admit-opening .ensures)
           (c .before .before .before .before .before .enum-told .given .1),
-      (c .fresh .ensures ∙ ap (fresh-state (s₀ .args .body .now)) (c .before .before .before .zero .kept .0), c .before .before .before .zero .ensures),
+      (c .fresh .ensures ∙ ap (fresh-code (s₀ .args .body .now)) (c .before .before .before .zero .kept .0), c .before .before .before .zero .ensures),
     )
 
 pub open-body-spec : {M : Type 1} → statement M

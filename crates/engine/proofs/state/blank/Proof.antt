@@ -1,11 +1,12 @@
 use mathlib.Core.Path.{refl}
-use Rattle.engine.specs.States.{state-of}
+use mathlib.Core.List.{[]}
+use lib.ListN.{replicate}
+use Rattle.engine.proofs.States.{copied-is}
 use Rattle.engine.proofs.state.blank.Statement.{statement}
 use Rattle.engine.proofs.state.blank.Tie as tie
 
 returns : tie.Need-returns
-unfolding state-of
-returns c = refl
+returns c = copied-is [] (replicate 512 0) 0 refl
 
 pub blank-spec : {M : Type 1} → statement M
 blank-spec = tie.close (tie.spec returns)

@@ -1,17 +1,17 @@
--- `engine::state::copy_bytes` meets its contract: the first i bytes are copied.
+-- `engine::state::copy_bytes` meets its contract: the first i bytes are copied, the rest are as they were.
 -- Assumes nothing.
 use Prim.Native.Nat.{ℕ, _-_, _≤_}
-use mathlib.Core.Path.{_≡_, refl, sym, ap, _∙_, subst}
-use mathlib.Core.List.{List, [], _∷_, _++_}
-use native.Mathlib.Numerals.{add-one}
+use mathlib.Core.Path.{_≡_, refl, ap, _∙_, subst}
+use mathlib.Core.List.{List, _++_}
 use native.Mathlib.Omega.{arith}
-use lib.ListN.{length, getD, take, set, length-set}
-use lib.Seq.{take-suc, take-suc-set, take-length}
+use lib.ListN.{length, getD, take, drop, set, length-set}
+use lib.Seq.{take-length}
+use Rattle.engine.proofs.Copying.{copy-more}
 use Rattle.engine.proofs.state.copy_bytes.Statement.{statement}
 use Rattle.engine.proofs.state.copy_bytes.Tie as tie
 
 abbrev Inv-loop : tie.InvT-loop
-Inv-loop from to₀ i₀ to i = (i ≤ length from) × ((length to ≡ length to₀) × (take i to ≡ take i from))
+Inv-loop from to₀ i₀ to i = (i ≤ length from) × ((length to ≡ length to₀) × (to ≡ take i from ++ drop i to₀))
 
 abbrev μ-loop : tie.MeasureT-loop
 μ-loop from to₀ i₀ to i = length from - i
@@ -35,13 +35,10 @@ loop-again : tie.Need-loop-again Inv-loop μ-loop
 loop-again c =
     let l = c .before .before .loop in
     let from : List ℕ = c .before .before .before .args .from .now in
+    let to₀ : List ℕ = c .before .before .before .args .to .now in
     let b : ℕ = getD from (l .i) 0 in (
       omega arith,
-      (
-        length-set (l .to) (l .i) b ∙ l .inv .1 .0,
-        rw add-one
-            (take-suc-set (l .to) (l .i) b (omega arith) ∙ ap (λ (h : List ℕ). h ++ (b ∷ [])) (l .inv .1 .1) ∙ sym (take-suc from (l .i) 0 (omega arith))),
-      ),
+      (length-set (l .to) (l .i) b ∙ l .inv .1 .0, ap (λ (h : List ℕ). set h (l .i) b) (l .inv .1 .1) ∙ copy-more (l .i) from to₀ (omega arith) (omega arith)),
     )
 
 same-length : tie.Need-same-length Inv-loop μ-loop
@@ -51,8 +48,9 @@ returns : tie.Need-returns Inv-loop μ-loop
 returns c =
     let l = c .before .loop in
     let from : List ℕ = c .before .before .args .from .now in
+    let to₀ : List ℕ = c .before .before .args .to .now in
     let e : l .i ≡ length from = omega arith in
-    subst (λ (k : ℕ). take k (l .to) ≡ take k from) e (l .inv .1 .1) ∙ take-length from
+    subst (λ (k : ℕ). l .to ≡ take k from ++ drop k to₀) e (l .inv .1 .1) ∙ ap (λ (h : List ℕ). h ++ drop (length from) to₀) (take-length from)
 
 pub copy-bytes-spec : {M : Type 1} → statement M
 copy-bytes-spec =
