@@ -10,14 +10,15 @@ use lib.Seq.{take-suc, take-suc-set, take-at, take-all, take-take, take-append-l
 use borrow.Author.Tests.{le-leb}
 use Rattle.sheet.specs.Writing.{splice}
 use Rattle.sheet.proofs.Stores.{take-splice, length-splice}
-use Rattle.engine.specs.States.{state-of, fresh-state, next-state}
+use Rattle.engine.specs.States.{state-of, fresh-state, next-state, padded}
 use Rattle.exports.specs.Numbers.{digits, number-at}
-use Rattle.exports.specs.States.{loaded, state-in, body-room, fresh-bytes, next-bytes}
+use Rattle.exports.specs.States.{loaded, state-in, fresh-bytes, next-bytes}
 use Rattle.exports.proofs.Numbers.{length-digits, number-before, number-last}
 
 -- ---- the body's room
 
-pub length-room : (b : List ℕ) → length b ≤ 512 → length (body-room b) ≡ 512
+pub length-room : (b : List ℕ) → length b ≤ 512 → length (padded b) ≡ 512
+unfolding padded
 length-room b h = simp (length-append, length-replicate) (omega arith)
 
 -- A byte of the room is the body's, and 0 past its end.
@@ -28,14 +29,15 @@ room-byte [] (suc n) (suc i) = room-byte [] n i
 room-byte (x ∷ b) n zero = refl
 room-byte (x ∷ b) n (suc i) = room-byte b n i
 
-pub room-on : (st b : List ℕ) (i : ℕ) → length b ≤ 512 → i < 512 → i < length st → take i st ≡ take i (body-room b)
-    → take (i + 1) (set st i (getD b i 0)) ≡ take (i + 1) (body-room b)
+pub room-on : (st b : List ℕ) (i : ℕ) → length b ≤ 512 → i < 512 → i < length st → take i st ≡ take i (padded b)
+    → take (i + 1) (set st i (getD b i 0)) ≡ take (i + 1) (padded b)
+unfolding padded
 room-on st b i h below inside e =
     rw add-one
     (take-suc-set st i (getD b i 0) inside
     ∙ ap (λ (l : List ℕ). l ++ (getD b i 0 ∷ [])) e
-    ∙ ap (λ (v : ℕ). take i (body-room b) ++ (v ∷ [])) (sym (room-byte b (512 - length b) i))
-    ∙ sym (take-suc (body-room b) i 0 (omega (arith, length-room b h))))
+    ∙ ap (λ (v : ℕ). take i (padded b) ++ (v ∷ [])) (sym (room-byte b (512 - length b) i))
+    ∙ sym (take-suc (padded b) i 0 (omega (arith, length-room b h))))
 
 -- ---- storing one number after another
 
@@ -59,21 +61,21 @@ next-stored st m w tick live n t e₁ e₂ =
     let f₂ : take 544 w ≡ (take 528 st ++ digits 8 (tick + 1)) ++ digits 8 live = ap (take 544) e₂ ∙ stored-front m 536 live _ f₁ (omega arith) in
     sym (take-all 544 w (omega arith)) ∙ f₂ ∙ ap (λ (k : ℕ). (take 528 st ++ digits 8 (k + 1)) ++ digits 8 live) t
 
-pub fresh-stored : (st b : List ℕ) (L : ℕ) (s₀ s₁ s₂ s₃ s₄ : List ℕ) → length st ≡ 544 → length b ≤ 512 → s₀ ≡ body-room b ++ drop 512 st
+pub fresh-stored : (st b : List ℕ) (L : ℕ) (s₀ s₁ s₂ s₃ s₄ : List ℕ) → length st ≡ 544 → length b ≤ 512 → s₀ ≡ padded b ++ drop 512 st
     → s₁ ≡ splice s₀ 512 (digits 8 (length b)) → s₂ ≡ splice s₁ 520 (digits 8 L) → s₃ ≡ splice s₂ 528 (digits 8 0) → s₄ ≡ splice s₃ 536 (digits 8 0)
     → s₄ ≡ fresh-bytes b L
 unfolding fresh-bytes
 fresh-stored st b L s₀ s₁ s₂ s₃ s₄ n h e₀ e₁ e₂ e₃ e₄ =
     let r = length-room b h in
-    let n₀ : length s₀ ≡ 544 = ap length e₀ ∙ length-append (body-room b) (drop 512 st) ∙ (let d = length-drop 512 st in omega arith) in
+    let n₀ : length s₀ ≡ 544 = ap length e₀ ∙ length-append (padded b) (drop 512 st) ∙ (let d = length-drop 512 st in omega arith) in
     let n₁ : length s₁ ≡ 544 = ap length e₁ ∙ stored-length s₀ 512 (length b) (take 512 s₀) refl (omega arith) ∙ n₀ in
     let n₂ : length s₂ ≡ 544 = ap length e₂ ∙ stored-length s₁ 520 L (take 520 s₁) refl (omega arith) ∙ n₁ in
     let n₃ : length s₃ ≡ 544 = ap length e₃ ∙ stored-length s₂ 528 0 (take 528 s₂) refl (omega arith) ∙ n₂ in
     let n₄ : length s₄ ≡ 544 = ap length e₄ ∙ stored-length s₃ 536 0 (take 536 s₃) refl (omega arith) ∙ n₃ in
-    let f₀ : take 512 s₀ ≡ body-room b = ap (take 512) e₀ ∙ take-at (body-room b) (drop 512 st) 512 r in
-    let f₁ : take 520 s₁ ≡ body-room b ++ digits 8 (length b) = ap (take 520) e₁ ∙ stored-front s₀ 512 (length b) _ f₀ (omega arith) in
-    let f₂ : take 528 s₂ ≡ (body-room b ++ digits 8 (length b)) ++ digits 8 L = ap (take 528) e₂ ∙ stored-front s₁ 520 L _ f₁ (omega arith) in
-    let f₃ : take 536 s₃ ≡ ((body-room b ++ digits 8 (length b)) ++ digits 8 L) ++ digits 8 0 = ap (take 536) e₃ ∙ stored-front s₂ 528 0 _ f₂ (omega arith) in
+    let f₀ : take 512 s₀ ≡ padded b = ap (take 512) e₀ ∙ take-at (padded b) (drop 512 st) 512 r in
+    let f₁ : take 520 s₁ ≡ padded b ++ digits 8 (length b) = ap (take 520) e₁ ∙ stored-front s₀ 512 (length b) _ f₀ (omega arith) in
+    let f₂ : take 528 s₂ ≡ (padded b ++ digits 8 (length b)) ++ digits 8 L = ap (take 528) e₂ ∙ stored-front s₁ 520 L _ f₁ (omega arith) in
+    let f₃ : take 536 s₃ ≡ ((padded b ++ digits 8 (length b)) ++ digits 8 L) ++ digits 8 0 = ap (take 536) e₃ ∙ stored-front s₂ 528 0 _ f₂ (omega arith) in
     sym (take-all 544 s₄ (omega arith)) ∙ ap (take 544) e₄ ∙ stored-front s₃ 536 0 _ f₃ (omega arith)
 
 -- ---- reading what was stored
@@ -83,9 +85,9 @@ length-after p x n e = length-append p (digits 8 x) ∙ (let d = length-digits 8
 
 -- The state of an opening is read back.
 pub fresh-read : (b : List ℕ) (L : ℕ) → length b ≤ 512 → L < 18446744073709551616 → state-in (fresh-bytes b L) ≡ fresh-state b L
-unfolding state-in loaded fresh-bytes state-of
+unfolding state-in loaded fresh-bytes state-of padded
 fresh-read b L h fits =
-    let R = body-room b in
+    let R = padded b in
     let A = R ++ digits 8 (length b) in
     let B = A ++ digits 8 L in
     let C = B ++ digits 8 0 in

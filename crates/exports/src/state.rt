@@ -4,7 +4,8 @@ ghost use Prim.Native.Nat.{_+_, _≤_};
 ghost use lib.ListN.{length, drop};
 ghost use mathlib.Core.List.{_++_};
 ghost use Rattle.exports.specs.Numbers.{number-at};
-ghost use Rattle.exports.specs.States.{loaded, body-room, fresh-bytes, next-bytes};
+ghost use Rattle.engine.specs.States.{padded};
+ghost use Rattle.exports.specs.States.{loaded, fresh-bytes, next-bytes};
 use crate::bytes::copy_front;
 use crate::bytes::number_at;
 use crate::bytes::put_number;
@@ -32,7 +33,7 @@ pub(crate) fn load(state: &[u8; 544]) -> State
 fn put_body(state: &mut [u8], body: &[u8])
     requires { ⌜ length (now body) ≤ 512 ⌝ }
     requires { ⌜ 512 ≤ length (now state) ⌝ }
-    ensures { λ _. ⌜ now (state .exit) ≡ body-room (now (body .entry)) ++ drop 512 (now (state .entry)) ⌝ }
+    ensures { λ _. ⌜ now (state .exit) ≡ padded (now (body .entry)) ++ drop 512 (now (state .entry)) ⌝ }
 {
     let mut i: usize = 0;
     while i < 512 {

@@ -8,14 +8,14 @@ use native.Mathlib.Omega.{arith}
 use borrow.Author.Needs.{needs}
 use lib.ListN.{length, take, drop, length-set, take-append-drop}
 use lib.Seq.{take-all, drop-set-lt, drop-drop}
-use Rattle.exports.specs.States.{body-room}
+use Rattle.engine.specs.States.{padded}
 use Rattle.exports.proofs.States.{length-room, room-on}
 use Rattle.exports.proofs.state.put_body.Statement.{statement}
 use Rattle.exports.proofs.state.put_body.Tie as tie
 
 abbrev Inv-loop : tie.InvT-loop
 Inv-loop state₀ body i₀ state i =
-    (i ≤ 512) × ((length state ≡ length state₀) × ((take i state ≡ take i (body-room body)) × (drop i state ≡ drop i state₀)))
+    (i ≤ 512) × ((length state ≡ length state₀) × ((take i state ≡ take i (padded body)) × (drop i state ≡ drop i state₀)))
 
 abbrev μ-loop : tie.MeasureT-loop
 μ-loop state₀ body i₀ state i = 512 - i
@@ -63,8 +63,8 @@ returns c =
     let body : List ℕ = s₀ .args .body .now in
     let e : l .i ≡ 512 = omega arith in
     sym (take-append-drop 512 (l .state))
-    ∙ ap (λ (h : List ℕ). h ++ drop 512 (l .state)) (rw e at (l .inv .1 .1 .0) ∙ take-all 512 (body-room body) (omega (arith, length-room body (s₀ .pre .0))))
-    ∙ ap (λ (h : List ℕ). body-room body ++ h) (rw e at (l .inv .1 .1 .1))
+    ∙ ap (λ (h : List ℕ). h ++ drop 512 (l .state)) (rw e at (l .inv .1 .1 .0) ∙ take-all 512 (padded body) (omega (arith, length-room body (s₀ .pre .0))))
+    ∙ ap (λ (h : List ℕ). padded body ++ h) (rw e at (l .inv .1 .1 .1))
 
 pub put-body-spec : {M : Type 1} → statement M
 put-body-spec =
