@@ -1,9 +1,9 @@
 #!/usr/bin/env python3
 """The figures of bodies, worked out from "Figures" of document 01 alone, for crates/figures_cases.
 
-  python3 tests/oracle/figures.py crates/figures_cases/src/main.rt     what that program must write (its file stdout)
+  python3 tests/oracle/figures.py crates/figures_cases/src/{marked,layout,limits}.rt     what that program must write (its file stdout)
 
-It takes the names and bodies of the calls `case(b"name", b"body")` out of the program's source, in order, and writes the line that
+It takes the names and bodies of the calls `case(b"name", b"body")` out of the program's sources, in order, and writes the line that
 document 01 asks for each. Bodies are read by paper.py beside it.
 """
 import re
@@ -120,8 +120,9 @@ def cases(path):
 
 
 def main():
-    for name, body in cases(sys.argv[1]):
-        print("%s: %s" % (name, answer(body)))
+    for path in sys.argv[1:]:
+        for name, body in cases(path):
+            print("%s: %s" % (name, answer(body)))
 
 
 if __name__ == "__main__":

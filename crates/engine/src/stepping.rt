@@ -12,6 +12,7 @@ pub enum StepAnswer {
     Refused(Refusal),
 }
 
+// The state after the step stands beside its answer; a refused step gives its own state back.
 pub struct StepResult {
     pub answer: StepAnswer,
     pub state: State,
