@@ -8,6 +8,10 @@ ghost use Rattle.exports.specs.States.{state-in};
 ghost use Rattle.exports.specs.Calls.{admit-bytes};
 ghost use Rattle.exports.specs.Batch.{paired, PairStep, Batch, BatchPromise};
 use crate::bytes::number_at;
+use crate::state::LIVE_AT;
+use crate::state::NEXT_AT;
+use crate::state::OPENED_AT;
+use crate::state::SIZE_AT;
 use crate::watching::take_step;
 use engine::StepAnswer;
 use figures::FigureAnswer;
@@ -23,7 +27,7 @@ struct Counts {
 fn body_size(state: &[u8]) -> usize
     ensures { λ r. ⌜ (r ≤ 512) × (take r (now (state .entry)) ≡ (state-in (now (state .entry))) .body-bytes) ⌝ }
 {
-    let size = number_at(state, 512);
+    let size = number_at(state, SIZE_AT);
     if 512 < size {
         return 0;
     }
@@ -35,11 +39,11 @@ fn admit_batch(state: &[u8], history: usize, cells: usize) -> FigureAnswer
     requires { ⌜ 512 ≤ length (now state) ⌝ }
     ensures { λ r. ⌜ told r ≡ admit-bytes (now (state .entry)) history cells 256 ⌝ }
 {
-    let tick = number_at(state, 528);
+    let tick = number_at(state, NEXT_AT);
     if 4294967295 < tick {
         return FigureAnswer::Refused(Refusal::StateNotOpened);
     }
-    let opened = number_at(state, 520);
+    let opened = number_at(state, OPENED_AT);
     let size = body_size(state);
     let mut nodes = [0u32; 768];
     admission::admit_step(
@@ -79,7 +83,7 @@ fn step_pairs(
     requires { ⌜ 2 * half ≤ length (now report) ⌝ }
     ensures { λ r. ⌜ PairStep half (now (state .entry)) flag (now (history .entry)) (now (cells .entry)) (now (report .entry)) r (now (state .exit)) (now (history .exit)) (now (cells .exit)) (now (report .exit)) ⌝ }
 {
-    let step = number_at(state, 528);
+    let step = number_at(state, NEXT_AT);
     let answer = take_step(state, flag, history, cells, &mut report[..half]);
     match answer {
         StepAnswer::Refused(x) => StepAnswer::Refused(x),
@@ -153,7 +157,7 @@ pub extern "C" fn sw_steps(
             let counts = take_flags(state, flags, history, cells, report, delay);
             *taken = counts.taken;
             *pairs = counts.pairs;
-            *live = number_at(state, 536);
+            *live = number_at(state, LIVE_AT);
             0
         }
     }

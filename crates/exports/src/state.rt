@@ -12,6 +12,15 @@ use crate::bytes::put_number;
 use engine::State;
 use words::byte_after;
 
+// Where the numbers of a state lie, after the 512 bytes for its body.
+pub(crate) const SIZE_AT: usize = 512;
+
+pub(crate) const OPENED_AT: usize = 520;
+
+pub(crate) const NEXT_AT: usize = 528;
+
+pub(crate) const LIVE_AT: usize = 536;
+
 // The engine's state that the bytes hold.
 pub(crate) fn load(state: &[u8; 544]) -> State
     requires { ⌜ number-at (now state) 528 ≤ 4294967295 ⌝ }
@@ -19,13 +28,13 @@ pub(crate) fn load(state: &[u8; 544]) -> State
 {
     let mut body = [0u8; 512];
     copy_front(state, &mut body);
-    let next = number_at(state, 528);
+    let next = number_at(state, NEXT_AT);
     State {
         body,
-        size: number_at(state, 512),
-        opened: number_at(state, 520),
+        size: number_at(state, SIZE_AT),
+        opened: number_at(state, OPENED_AT),
         next: next as u32,
-        live: number_at(state, 536),
+        live: number_at(state, LIVE_AT),
     }
 }
 
@@ -48,10 +57,10 @@ pub(crate) fn put_fresh(state: &mut [u8; 544], body: &[u8], opened: usize)
     ensures { λ _. ⌜ now (state .exit) ≡ fresh-bytes (now (body .entry)) opened ⌝ }
 {
     put_body(state, body);
-    put_number(state, 512, body.len());
-    put_number(state, 520, opened);
-    put_number(state, 528, 0);
-    put_number(state, 536, 0);
+    put_number(state, SIZE_AT, body.len());
+    put_number(state, OPENED_AT, opened);
+    put_number(state, NEXT_AT, 0);
+    put_number(state, LIVE_AT, 0);
 }
 
 // Stores the next tick and the live count after a step.
@@ -60,6 +69,6 @@ pub(crate) fn put_next(state: &mut [u8; 544], tick: usize, live: usize)
     requires { ⌜ tick ≤ 4294967295 ⌝ }
     ensures { λ _. ⌜ now (state .exit) ≡ next-bytes (now (state .entry)) live ⌝ }
 {
-    put_number(state, 528, tick + 1);
-    put_number(state, 536, live);
+    put_number(state, NEXT_AT, tick + 1);
+    put_number(state, LIVE_AT, live);
 }

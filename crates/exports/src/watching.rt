@@ -3,6 +3,7 @@ ghost use mathlib.Core.Path.{_≡_};
 ghost use Rattle.exports.specs.Answers.{answered, KeptIfRefused};
 ghost use Rattle.exports.specs.Calls.{opening, LentOpening, LentStep, taken-as, step-with, step-answer};
 use crate::bytes::number_at;
+use crate::state::NEXT_AT;
 use crate::state::load;
 use crate::state::put_fresh;
 use crate::state::put_next;
@@ -42,7 +43,7 @@ pub(crate) fn take_step(
 ) -> StepAnswer
     ensures { λ r. ⌜ LentStep (now (state .entry)) (step-with (step-answer r (now (state .exit))) flag (now (history .entry)) (now (cells .entry)) (now (report .entry)) (now (history .exit)) (now (cells .exit)) (now (report .exit))) (now (state .exit)) ⌝ }
 {
-    let tick = number_at(state, 528);
+    let tick = number_at(state, NEXT_AT);
     if 4294967295 < tick {
         return StepAnswer::Refused(Refusal::StateNotOpened);
     }
