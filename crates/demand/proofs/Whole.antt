@@ -16,8 +16,9 @@ use Rattle.rule.specs.declared.Outcome.the-variants.{Decided, Open}
 use Rattle.rule.specs.Meaning.{rule}
 use Rattle.rule.specs.Recording.{recorded}
 use Rattle.rule.specs.Steps.{false-at, passing, report}
+use Rattle.rule.specs.Started.{From}
 use Rattle.rule.proofs.Order.{by-order}
-use Rattle.rule.proofs.Horizon.{cut, cut-in, cut-out, horizon, From, from-start}
+use Rattle.rule.proofs.Horizon.{cut, cut-in, cut-out, horizon, from-start}
 use Rattle.demand.specs.Demand.{false-at-step}
 
 false-cut : (t : ℕ) (o : Outcome) → false-at t (cut t o) ≡ false-at t o

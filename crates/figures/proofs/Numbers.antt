@@ -9,8 +9,9 @@ use lib.IntN.{ℤ, pos, negsuc, natAbs, _+ℤ_, _-ℤ_}
 use mir.Syntax.{w64}
 use mir.Val.{SFits, toZ, ofZ}
 use mir.ValLaws.{toZ-ofZ}
-use Rattle.rule.proofs.Signed.{sunk, sum-parts, sub-parts-ℤ, apart}
+use Rattle.rule.proofs.Signed.{sum-parts, sub-parts-ℤ, apart}
 use Rattle.rule.specs.Meaning.{raised}
+use Rattle.rule.specs.Positions.{sunk}
 
 abbrev pub bits : ℤ → ℤ
 bits z = toZ w64 (ofZ w64 z)

@@ -7,7 +7,7 @@ use native.Mathlib.Omega.{arith}
 use lib.ListN.{length, getD, drop}
 use Rattle.rule.specs.declared.Outcome.{Outcome}
 use Rattle.rule.specs.Meaning.{both, outcome}
-use Rattle.rule.proofs.Reach.{Reach}
+use Rattle.rule.specs.Started.{Reach}
 use Rattle.instances.specs.declared.env.Env.{Env}
 use Rattle.instances.specs.Tree.{Tree, beside-node, formula-of}
 use Rattle.instances.specs.Cells.{held, window}

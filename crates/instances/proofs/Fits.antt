@@ -13,8 +13,8 @@ use Rattle.rule.specs.Formula.{Bound}
 use Rattle.rule.specs.Meaning.{range}
 use Rattle.rule.specs.Figures.{range-pair, width}
 use Rattle.rule.specs.declared.Outcome.{Outcome}
-use Rattle.rule.proofs.Pairs.{Fits, fits-more, Lies, range-lies, width-holds}
-use Rattle.rule.proofs.Delay.{Within}
+use Rattle.rule.specs.Positions.{Fits, Lies, Within}
+use Rattle.rule.proofs.Pairs.{fits-more, range-lies, width-holds}
 use Rattle.rule.proofs.Reach.{at-most}
 use Rattle.ranges.specs.Plans.{Plans}
 use Rattle.instances.specs.declared.env.Env.{Env}

@@ -18,12 +18,12 @@ use Rattle.rule.specs.declared.Outcome.{Outcome}
 use Rattle.rule.specs.declared.Outcome.the-variants.{Decided, Open}
 use Rattle.rule.specs.Formula.{Bound, origin, infinity, variable}
 use Rattle.rule.specs.Meaning.{both, finite, place, positions, Range, range, seen, outcome}
+use Rattle.rule.specs.Positions.{In}
+use Rattle.rule.specs.Started.{Reach}
 use Rattle.rule.proofs.Horizon.{from-less, from-start}
-use Rattle.rule.proofs.Pairs.{In}
 use Rattle.rule.proofs.Every.{seen-in, seen-out}
 use Rattle.rule.proofs.Window.{walk-same}
 use Rattle.rule.proofs.Progress.{clash, stays, within}
-use Rattle.rule.proofs.Reach.{Reach}
 use Rattle.ranges.specs.Spans as spans
 use Rattle.ranges.specs.Plans.{first-of, Plans}
 use Rattle.ranges.proofs.Held.{held-at-same, held-same}

@@ -10,8 +10,8 @@ use lib.Seq.{getD-take}
 use Rattle.rule.specs.declared.Outcome.{Outcome}
 use Rattle.rule.specs.declared.Outcome.the-variants.{Decided, Open}
 use Rattle.rule.specs.Meaning.{opposite, verdict, up, outcome}
+use Rattle.rule.specs.Started.{Reach}
 use Rattle.rule.proofs.Progress.{clash}
-use Rattle.rule.proofs.Reach.{Reach}
 use Rattle.nodes.specs.Table.{bound-at}
 use Rattle.instances.specs.declared.env.Env.{Env}
 use Rattle.instances.specs.Tree.{Tree, flag-node, not-node, then-node, beside-node, range-node, formula-of, tree-at}

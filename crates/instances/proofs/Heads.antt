@@ -13,10 +13,11 @@ use lib.Dec.{eqb, leb}
 use lib.ListN.{length, getD, take, drop, set, length-set, length-drop}
 use lib.Seq.{getD-take, getD-drop, getD-set-same, getD-set-other, drop-set-lt, length-take-le}
 use Rattle.rule.specs.Meaning.{both, walk}
-use Rattle.rule.proofs.Horizon.{From, from-both}
+use Rattle.rule.proofs.Horizon.{from-both}
 use Rattle.rule.specs.declared.Verdict.the-variants.{True, False}
 use Rattle.rule.specs.declared.Outcome.{Outcome}
 use Rattle.rule.specs.declared.Outcome.the-variants.{Decided, Open}
+use Rattle.rule.specs.Started.{From}
 use Rattle.instances.specs.Cells.{since, slot}
 use Rattle.instances.specs.Leading.{Leading, latest-of, leading-of, MovedOn, HeadStored, HeadFit}
 

@@ -11,7 +11,8 @@ use Rattle.rule.specs.declared.Verdict.{Verdict}
 use Rattle.rule.specs.declared.Outcome.{Outcome}
 use Rattle.rule.specs.declared.Outcome.the-variants.{Decided, Open}
 use Rattle.rule.specs.Meaning.{after}
-use Rattle.rule.proofs.Progress.{Before, clash, stays, fresh}
+use Rattle.rule.specs.Started.{Before}
+use Rattle.rule.proofs.Progress.{clash, stays, fresh}
 use Rattle.instances.specs.declared.env.Env.{Env}
 use Rattle.instances.specs.Tree.{Tree, formula-of}
 use Rattle.instances.specs.Cells.{held, CellHolds, mark, window}

@@ -11,8 +11,7 @@ use borrow.Author.Tests.{eq-eqb, ne-eqb}
 use lib.ListN.{length, getD, drop, set}
 use lib.Seq.{take-suc-set, getD-set-same, getD-set-other}
 use Rattle.rule.specs.declared.Outcome.{Outcome}
-use Rattle.rule.proofs.Progress.{Before}
-use Rattle.rule.proofs.Reach.{Reach}
+use Rattle.rule.specs.Started.{Before, Reach}
 use Rattle.instances.specs.declared.env.Env.{Env}
 use Rattle.instances.specs.Tree.{Tree, formula-of}
 use Rattle.instances.specs.Cells.{CellHolds, window}

@@ -13,8 +13,9 @@ use Rattle.rule.specs.Formula.{Formula}
 use Rattle.rule.specs.Meaning.{rule}
 use Rattle.rule.specs.Figures.{at-tick, cells}
 use Rattle.rule.specs.Steps.{false-at, is-open, passing, report, live}
-use Rattle.rule.proofs.Delay.{Within}
-use Rattle.rule.proofs.Reach.{Reach, rule-reach}
+use Rattle.rule.specs.Positions.{Within}
+use Rattle.rule.specs.Started.{Reach}
+use Rattle.rule.proofs.Reach.{rule-reach}
 use Rattle.rule.proofs.Recent.{report-recent, live-recent}
 use Rattle.reader.specs.Decoded.{formulas}
 use Rattle.demand.specs.Contract.{Kept}

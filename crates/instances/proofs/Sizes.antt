@@ -14,8 +14,8 @@ use Rattle.rule.specs.declared.Size.the-variants.{Finite, Unbounded}
 use Rattle.rule.specs.declared.Pair.{Pair}
 use Rattle.rule.specs.Formula.{Formula, flag, negate, then, beside, forall}
 use Rattle.rule.specs.Figures.{larger, plus, times, range-pair, width, cells}
-use Rattle.rule.proofs.Delay.{Within}
-use Rattle.rule.proofs.Window.{Scoped}
+use Rattle.rule.specs.Positions.{Within}
+use Rattle.rule.specs.Started.{Scoped}
 use Rattle.nodes.specs.Table.{Holds}
 use Rattle.nodes.proofs.Nodes.{ends}
 use Rattle.figures.specs.Capped.{cap}

@@ -11,8 +11,8 @@ use Rattle.rule.specs.declared.Verdict.the-variants.{True, False}
 use Rattle.rule.specs.declared.Outcome.{Outcome}
 use Rattle.rule.specs.declared.Outcome.the-variants.{Decided, Open}
 use Rattle.rule.specs.Meaning.{after, outcome}
-use Rattle.rule.proofs.Progress.{Before, clash, within}
-use Rattle.rule.proofs.Reach.{Reach}
+use Rattle.rule.specs.Started.{Before, Reach}
+use Rattle.rule.proofs.Progress.{clash, within}
 use Rattle.instances.specs.declared.env.Env.{Env}
 use Rattle.instances.specs.Tree.{Tree, then-node, formula-of}
 use Rattle.instances.specs.Cells.{CellHolds, window}

@@ -13,8 +13,7 @@ use borrow.Rule.Slice.PartMut.{putMid, drop-put, same-len-mid}
 use Rattle.rule.specs.declared.Outcome.{Outcome}
 use Rattle.rule.specs.Meaning.{rule}
 use Rattle.rule.specs.Steps.{false-at, is-open, passing}
-use Rattle.rule.proofs.Progress.{Before}
-use Rattle.rule.proofs.Reach.{Reach}
+use Rattle.rule.specs.Started.{Before, Reach}
 use Rattle.instances.specs.Tree.{Tree, formula-of, words}
 use Rattle.instances.specs.Cells.{slot}
 use Rattle.instances.specs.Instances.{InstanceHolds, FlagsAtHand, InstanceMoved, tick-if-false, open-count, Stand, TicksMoved, Spared}

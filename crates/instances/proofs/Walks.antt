@@ -10,8 +10,8 @@ use lib.Seq.{length-take-le}
 use borrow.Rule.Slice.PartMut.{putMid}
 use Rattle.rule.specs.declared.Outcome.{Outcome}
 use Rattle.rule.specs.Meaning.{both, walk}
-use Rattle.rule.proofs.Horizon.{From, from-both, from-less, from-start}
-use Rattle.rule.proofs.Reach.{Reach}
+use Rattle.rule.specs.Started.{From, Reach}
+use Rattle.rule.proofs.Horizon.{from-both, from-less, from-start}
 use Rattle.instances.specs.declared.env.Env.{Env}
 use Rattle.instances.specs.Tree.{Tree, formula-of}
 use Rattle.instances.specs.Cells.{slot}

@@ -11,10 +11,8 @@ use Rattle.rule.specs.declared.Outcome.{Outcome}
 use Rattle.rule.specs.declared.Outcome.the-variants.{Decided}
 use Rattle.rule.specs.declared.Pair.{Pair}
 use Rattle.rule.specs.Meaning.{up, verdict, walk}
-use Rattle.rule.proofs.Horizon.{From}
-use Rattle.rule.proofs.Pairs.{Fits}
-use Rattle.rule.proofs.Progress.{Before}
-use Rattle.rule.proofs.Reach.{Reach}
+use Rattle.rule.specs.Positions.{Fits}
+use Rattle.rule.specs.Started.{From, Before, Reach}
 use Rattle.instances.specs.declared.env.Env.{Env}
 use Rattle.instances.specs.Tree.{Tree, formula-of, words, Formed}
 use Rattle.instances.specs.Cells.{held, CellHolds, window, slot}

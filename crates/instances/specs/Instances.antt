@@ -8,8 +8,7 @@ use Rattle.rule.specs.declared.Outcome.{Outcome}
 use Rattle.rule.specs.Meaning.{rule}
 use Rattle.rule.specs.Figures.{at-tick}
 use Rattle.rule.specs.Steps.{false-at, is-open, passing}
-use Rattle.rule.proofs.Progress.{Before}
-use Rattle.rule.proofs.Reach.{Reach}
+use Rattle.rule.specs.Started.{Before, Reach}
 use Rattle.instances.specs.Tree.{Tree, formula-of, words, Formed}
 use Rattle.instances.specs.Cells.{slot}
 use Rattle.instances.specs.Run.{SlotHolds}

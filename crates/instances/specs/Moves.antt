@@ -8,7 +8,7 @@ use Rattle.rule.specs.declared.Figures.{Figures}
 use Rattle.rule.specs.Formula.{Formula}
 use Rattle.rule.specs.Figures.{figures, at-tick}
 use Rattle.rule.specs.Steps.{report, live}
-use Rattle.rule.proofs.Window.{Scoped}
+use Rattle.rule.specs.Started.{Scoped}
 use Rattle.reader.specs.Decoded.{Stands}
 use Rattle.figures.specs.Measured.{SizesAt}
 use Rattle.demand.specs.Contract.{Kept}

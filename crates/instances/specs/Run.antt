@@ -7,8 +7,8 @@ use Rattle.rule.specs.declared.Verdict.the-variants.{True}
 use Rattle.rule.specs.declared.Outcome.{Outcome}
 use Rattle.rule.specs.declared.Outcome.the-variants.{Decided, Open}
 use Rattle.rule.specs.Meaning.{range, outcome}
-use Rattle.rule.proofs.Pairs.{In}
-use Rattle.rule.proofs.Progress.{Before}
+use Rattle.rule.specs.Positions.{In}
+use Rattle.rule.specs.Started.{Before}
 use Rattle.ranges.specs.Plans.{first-of}
 use Rattle.instances.specs.Tree.{Tree, flag-node, not-node, then-node, beside-node, range-node, formula-of}
 use Rattle.instances.specs.Cells.{CellHolds, window, slot}

@@ -9,7 +9,7 @@ use lib.ListN.{getD, length}
 use Rattle.rule.specs.Formula.{Bound, Formula, flag, negate, then, beside, forall}
 use Rattle.rule.specs.Figures.{range-pair, width}
 use Rattle.rule.specs.declared.Pair.{Pair}
-use Rattle.rule.proofs.Delay.{Within}
+use Rattle.rule.specs.Positions.{Within}
 use Rattle.nodes.specs.Table.{bound-at}
 
 pub data Tree : Type 0 where

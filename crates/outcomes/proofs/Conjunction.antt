@@ -6,7 +6,7 @@ use Rattle.rule.specs.declared.Verdict.the-variants.{True, False}
 use Rattle.rule.specs.declared.Outcome.{Outcome}
 use Rattle.rule.specs.declared.Outcome.the-variants.{Decided, Open}
 use Rattle.rule.specs.Meaning.{both}
-use Rattle.rule.proofs.Horizon.{From}
+use Rattle.rule.specs.Started.{From}
 
 min-comm : (a b : ℕ) → min a b ≡ min b a
 min-comm a b = omega arith

@@ -12,8 +12,9 @@ use Rattle.rule.specs.declared.Outcome.the-variants.{Decided, Open}
 use Rattle.rule.specs.Formula.{Formula, flag}
 use Rattle.rule.specs.Meaning.{Range, range, walk, seen, both, outcome}
 use Rattle.rule.specs.Recording.{recorded}
+use Rattle.rule.specs.Started.{From}
 use Rattle.rule.proofs.Every.{seen-in, seen-out, walk-next}
-use Rattle.rule.proofs.Horizon.{From, from-less, from-seen, from-start}
+use Rattle.rule.proofs.Horizon.{from-less, from-seen, from-start}
 use Rattle.nodes.specs.Table.{bound-at, formula-in}
 use Rattle.ranges.specs.Spans.{held, held-at}
 use Rattle.ranges.specs.Plans.{Plans}

@@ -20,12 +20,8 @@ use Rattle.rule.specs.declared.Limit.the-variants.{Lowest, At, Highest}
 use Rattle.rule.specs.declared.Size.{Size}
 use Rattle.rule.specs.declared.Size.the-variants.{Finite, Unbounded}
 use Rattle.rule.specs.declared.Pair.{Pair}
-use Rattle.rule.proofs.Pairs.{Lies, Below, Fits, fits-more, fits-tick, In, range-lies}
-
--- The Finite is at most d.
-abbrev pub Within : Size → ℕ → Type 0
-Within (Finite a) d = a ≤ d
-Within Unbounded d = ⊥
+use Rattle.rule.specs.Positions.{Within, Lies, Below, Fits, In}
+use Rattle.rule.proofs.Pairs.{fits-more, fits-tick, range-lies}
 
 pub within-left : (a b : Size) (d : ℕ) → Within (larger a b) d → Within a d
 unfolding larger

@@ -11,10 +11,12 @@ use Rattle.rule.specs.declared.Verdict.the-variants.{True, False}
 use Rattle.rule.specs.declared.Outcome.{Outcome}
 use Rattle.rule.specs.declared.Outcome.the-variants.{Decided, Open}
 use Rattle.rule.specs.Meaning.{both, Range, none, span, onward, range, walk, every, seen, outcome}
+use Rattle.rule.specs.Positions.{In}
+use Rattle.rule.specs.Started.{From}
 use borrow.Author.Tests.{le-leb, lt-leb}
 use Rattle.rule.proofs.Order.{by-order}
-use Rattle.rule.proofs.Horizon.{From, from-less, from-seen, from-start}
-use Rattle.rule.proofs.Pairs.{In, Ordered, range-ordered}
+use Rattle.rule.proofs.Horizon.{from-less, from-seen, from-start}
+use Rattle.rule.proofs.Pairs.{Ordered, range-ordered}
 
 -- ---- a range that goes on after t: the walk stops at t, and is open or false
 

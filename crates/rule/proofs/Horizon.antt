@@ -15,6 +15,7 @@ use Rattle.rule.specs.declared.Outcome.{Outcome}
 use Rattle.rule.specs.declared.Outcome.the-variants.{Decided, Open}
 use Rattle.rule.proofs.Order.{by-order}
 use Rattle.rule.specs.Meaning.{opposite, both, after, verdict, up, Range, none, span, onward, range, walk, seen, every, outcome}
+use Rattle.rule.specs.Started.{From}
 
 -- What is decided by step t, and open else.
 unfoldable pub cut : ℕ → Outcome → Outcome
@@ -99,11 +100,6 @@ both-cut t (Decided False a) (Decided False b) = go (by-order a t) (by-order b t
     go (inr h) (inr k) = simp (lt-leb a t h, lt-leb b t k, lt-leb (min a b) t (omega arith))
 
 -- ---- a formula is decided at its start or later
-
--- The outcome is open or has a step from s on.
-abbrev pub From : ℕ → Outcome → Type 0
-From s (Decided v d) = s ≤ d
-From s Open = Unit {0}
 
 pub from-less : {r s : ℕ} (o : Outcome) → r ≤ s → From s o → From r o
 from-less (Decided v d) h k = omega arith

@@ -16,27 +16,8 @@ use Rattle.rule.specs.declared.Limit.the-variants.{Lowest, At, Highest}
 use Rattle.rule.specs.declared.Size.{Size}
 use Rattle.rule.specs.declared.Size.the-variants.{Finite, Unbounded}
 use Rattle.rule.specs.declared.Pair.{Pair}
-use Rattle.rule.proofs.Signed.{sunk, sum-parts, sub-parts-ℤ, leZ-parts, apart}
-
--- Position q is at p + l or after it; at p + u or before it.
-abbrev pub Above : ℕ → Limit → ℕ → Type 0
-Above p Lowest q = Unit {0}
-Above p (At z) q = p + raised z ≤ q + sunk z
-Above p Highest q = ⊥
-
-abbrev pub Below : ℕ → Limit → ℕ → Type 0
-Below p Lowest q = ⊥
-Below p (At z) q = q + sunk z ≤ p + raised z
-Below p Highest q = Unit {0}
-
-pub record Lies (p : ℕ) (r : Pair) (q : ℕ) : Type 0 where
-  pub above : Above p (r .lower) q
-  pub below : Below p (r .upper) q
-
--- The variables' positions lie in their pairs.
-pub data Fits (p : ℕ) : List Pair → List ℕ → Type 0 where
-  fits-none : Fits p [] []
-  fits-one : {r : Pair} {q : ℕ} {ps : List Pair} {env : List ℕ} → Lies p r q → Fits p ps env → Fits p (r ∷ ps) (q ∷ env)
+use Rattle.rule.specs.Positions.{Above, Below, Lies, Fits, fits-none, fits-one, In, sunk}
+use Rattle.rule.proofs.Signed.{sum-parts, sub-parts-ℤ, leZ-parts, apart}
 
 pub fits-more : {p : ℕ} {ps : List Pair} {env : List ℕ} {r : Pair} {q : ℕ} → Fits p ps env → Lies p r q → Fits p (ps ++ (r ∷ [])) (env ++ (q ∷ []))
 fits-more fits-none l = fits-one l fits-none
@@ -52,12 +33,6 @@ fits-at (fits-one l f) (suc v) = fits-at f v
 pub fits-tick : (p : ℕ) → Fits p (at-tick ∷ []) (p ∷ [])
 unfolding at-tick
 fits-tick p = fits-one {r = at-tick} {q = p} (record { above = omega arith; below = omega arith }) fits-none
-
--- q is one of a range's positions.
-abbrev pub In : Range → ℕ → Type 0
-In none q = ⊥
-In (span first last) q = (first ≤ q) × (q ≤ last)
-In (onward first) q = first ≤ q
 
 -- ---- a bound's pair is right
 

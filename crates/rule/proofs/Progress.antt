@@ -9,12 +9,9 @@ use Rattle.rule.specs.declared.Outcome.{Outcome}
 use Rattle.rule.specs.declared.Outcome.the-variants.{Decided, Open}
 use Rattle.rule.specs.Formula.{Formula}
 use Rattle.rule.specs.Meaning.{outcome}
+use Rattle.rule.specs.Started.{Before, From}
 use Rattle.rule.proofs.Order.{by-order}
-use Rattle.rule.proofs.Horizon.{cut, cut-in, cut-out, From, from-start, horizon}
-
--- P held one tick ago, unless t is the start.
-abbrev pub Before : ℕ → ℕ → (ℕ → Type 0) → Type 0
-Before s t P = (t ≡ s) ⊎ ((k : ℕ) × (t ≡ k + 1) × (s ≤ k) × P k)
+use Rattle.rule.proofs.Horizon.{cut, cut-in, cut-out, from-start, horizon}
 
 pub clash : {A : Type 0} (o : Outcome) {v : Verdict} {d : ℕ} → o ≡ Open → o ≡ Decided v d → A
 clash o p q = let z : _≡_ {A = ℕ} 0 1 = cc in absurd (omega arith)

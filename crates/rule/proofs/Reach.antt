@@ -14,20 +14,12 @@ use Rattle.rule.specs.declared.Pair.{Pair}
 use Rattle.rule.specs.Formula.{Bound, Formula, flag, negate, then, beside, forall}
 use Rattle.rule.specs.Meaning.{range, outcome}
 use Rattle.rule.specs.Figures.{larger, N-back, N, at-tick, range-pair, delay, history}
+use Rattle.rule.specs.Positions.{In, Fits, Lies, Above, Below, Within}
+use Rattle.rule.specs.Started.{Reach}
 use Rattle.rule.proofs.Horizon.{horizon}
-use Rattle.rule.proofs.Pairs.{In, Fits, fits-more, fits-tick, Lies, Above, Below, range-lies, back-holds, ahead-holds, AtMost}
-use Rattle.rule.proofs.Delay.{Within, within-left, within-right, By, decided-by}
+use Rattle.rule.proofs.Pairs.{fits-more, fits-tick, range-lies, back-holds, ahead-holds, AtMost}
+use Rattle.rule.proofs.Delay.{within-left, within-right, By, decided-by}
 use Rattle.rule.proofs.Progress.{cut-known}
-
--- Each position that a formula started at s goes through starts its body while its byte is at most H ticks back.
-unfoldable pub Reach : ℕ → (ℕ → ℕ) → List ℕ → ℕ → Formula → Type 0
-Reach H flags env s (flag v k) = Unit {0}
-Reach H flags env s (negate F) = Reach H flags env s F
-Reach H flags env s (then F G) =
-    Reach H flags env s F × ((t d : ℕ) → s ≤ t → outcome F flags t env s ≡ Decided True d → Reach H flags env d G)
-Reach H flags env s (beside F G) = Reach H flags env s F × Reach H flags env s G
-Reach H flags env s (forall B₁ B₂ F) =
-    (q : ℕ) → In (range B₁ B₂ env) q → (max s q ≤ q + H) × Reach H flags (env ++ (q ∷ [])) (max s q) F
 
 -- what is at most a size is at most what the size is within
 pub at-most : (a : Size) (n h : ℕ) → AtMost n a → Within a h → n ≤ h

@@ -12,7 +12,7 @@ use Rattle.rule.specs.Formula.{Bound, Formula, flag, negate, then, besid
 use Rattle.words.specs.Words.{byte, word}
 use Rattle.refusal.specs.Answer.{Answer, refused, accepted}
 use Rattle.rule.specs.Body.{Head, refuse, flag-head, negate-head, then-head, beside-head, forall-head, require, bound, require-bound, fixed, contents, head, Read, stop, read, one, two, parts, formula, formula-at, whole, body}
-use Rattle.rule.proofs.Window.{Scoped}
+use Rattle.rule.specs.Started.{Scoped}
 
 -- What holds of a refusal, and of the rest if the test passes.
 pub require-holds : (P : Head → Type 0) (b : Bool) (n : ℕ) (next : Head) → P (refuse n) → (b ≡ true → P next) → P (require b n next)

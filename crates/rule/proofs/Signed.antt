@@ -9,12 +9,8 @@ use lib.IntN.{ℤ, pos, negsuc, negℤ, _+ℤ_, _-ℤ_, subℕ}
 use lib.Signed.{leZ}
 use borrow.Author.Tests.{le-leb, lt-leb, le-ltb, lt-ltb, leb-true}
 use Rattle.rule.specs.Meaning.{raised}
+use Rattle.rule.specs.Positions.{sunk}
 use Rattle.rule.proofs.Order.{by-order}
-
--- z is raised z - sunk z.
-abbrev pub sunk : ℤ → ℕ
-sunk (pos n) = 0
-sunk (negsuc n) = suc n
 
 sub-parts : (a b : ℕ) → raised (subℕ a b) + b ≡ sunk (subℕ a b) + a
 sub-parts a b = go (by-order b a)

@@ -20,18 +20,12 @@ use Rattle.rule.specs.declared.Limit.the-variants.{Lowest, At, Highest}
 use Rattle.rule.specs.declared.Size.{Size}
 use Rattle.rule.specs.declared.Size.the-variants.{Finite, Unbounded}
 use Rattle.rule.specs.declared.Pair.{Pair}
+use Rattle.rule.specs.Positions.{sunk, Lies, Above, Fits, In, Within}
+use Rattle.rule.specs.Started.{Scoped}
 use Rattle.rule.proofs.Locality.{seen-same}
-use Rattle.rule.proofs.Signed.{sunk, sub-parts-ℤ}
-use Rattle.rule.proofs.Pairs.{Lies, Above, Fits, fits-more, fits-tick, In, range-lies}
-use Rattle.rule.proofs.Delay.{Within, within-left, within-right}
-
--- The formula names only the first n variables.
-abbrev pub Scoped : ℕ → Formula → Type 0
-Scoped n (flag v k) = v < n
-Scoped n (negate F) = Scoped n F
-Scoped n (then F G) = Scoped n F × Scoped n G
-Scoped n (beside F G) = Scoped n F × Scoped n G
-Scoped n (forall B₁ B₂ F) = Scoped (suc n) F
+use Rattle.rule.proofs.Signed.{sub-parts-ℤ}
+use Rattle.rule.proofs.Pairs.{fits-more, fits-tick, range-lies}
+use Rattle.rule.proofs.Delay.{within-left, within-right}
 
 -- The positions of the n variables lie in the window from p - h to t.
 abbrev pub InWindow : ℕ → ℕ → ℕ → ℕ → List ℕ → Type 0

@@ -13,7 +13,8 @@ use mir.Val.{Fits, SFits, toZ, ofZ}
 use mir.ValLaws.{toZ-pos, toZ-ofZ}
 use Rattle.rule.specs.Body.{signed}
 use Rattle.rule.specs.Meaning.{raised}
-use Rattle.rule.proofs.Signed.{sunk, sum-parts, raised-neg, apart}
+use Rattle.rule.specs.Positions.{sunk}
+use Rattle.rule.proofs.Signed.{sum-parts, raised-neg, apart}
 
 -- a test of a parameter is about what is read back from its bits, which is the parameter
 pub back : (z : ℤ) → SFits w64 z → toZ w64 (ofZ w64 z) ≡ z
