@@ -76,9 +76,6 @@ module _ (ns : List ℕ) (left m i w : ℕ) (ps : List Pair) (start : Size) (q :
 -- ---- the arms with parts
 
 module _ (old : List ℕ) (left m i w : ℕ) (ps : List Pair) (start : Size) (q : w ≡ getD old (i + 0) 0) (z : left ≡ 0 → ⊥) where
-  before : (n : List ℕ) (F : Formula) (f : Figure) (s : Size) (ps′ : List Pair) (m′ e : ℕ) → Measured F ps′ s m′ (i + 12) e old n f → (k : ℕ) → k < i + 12 → getD n k 0 ≡ getD old k 0
-  before n F f s ps′ m′ e x k h = x .outside k (inl h)
-
   pub negate-arm : (n₁ : List ℕ) (f : Figure) → w ≡ 2 → Promise (left - 1) m (i + 12) ps start old n₁ f → Promise left m i ps start old n₁ f
   unfolding Holds SizesAt
   negate-arm n₁ f c p (negate F) e h l n =

@@ -4,4 +4,3 @@ mod Distances
 mod Parts
 mod Arms
 mod Bodies
-pub mod Exact

@@ -14,7 +14,7 @@ use Rattle.figures.specs.declared.measure.Figure.{Figure}
 use Rattle.figures.specs.Capped.{cap, inside, Modest, FigureOf}
 
 -- Beside: word 10 is the words of the first part's run. For all: word 8 is W, word 9 the words of one position's slot. All are made of
--- cells that are counted up to 4,097.
+-- cells that are counted up to 4,097: within the limits these are 01's figures.
 unfoldable pub SizesAt : Formula → List ℕ → List Pair → ℕ → Type 0
 SizesAt (flag v k) ns ps i = Unit {0}
 SizesAt (negate F) ns ps i = SizesAt F ns ps (i + 12)
