@@ -1,6 +1,6 @@
 -- For all: the head cell, the walk over the positions that it leaves, and the head cell written anew.
 use Prim.Native.Nat.{ℕ, suc, _+_, _-_, _≤_, _<_, _%_, max}
-use mathlib.Core.Path.{_≡_, refl, sym, ap, ap₂, subst, _∙_}
+use mathlib.Core.Path.{_≡_, sym, ap, ap₂, subst, _∙_}
 use mathlib.Core.Logic.{inl, inr, ⊎-elim}
 use mathlib.Core.Bool.{cond}
 use mathlib.Core.List.{List, [], _∷_}
@@ -11,13 +11,13 @@ use borrow.Author.Tests.{eq-eqb, ne-eqb}
 use lib.Dec.{eqb}
 use lib.ListN.{length, getD, take, drop, length-take, List·getD-append, List·getD-eq-default}
 use lib.Seq.{getD-take}
-use lib.IntN.{pos, _+ℤ_}
+use lib.IntN.{pos}
 use borrow.Rule.Slice.PartMut.{putMid}
 use Rattle.rule.specs.declared.Verdict.the-variants.{True, False}
 use Rattle.rule.specs.declared.Outcome.{Outcome}
 use Rattle.rule.specs.declared.Outcome.the-variants.{Decided, Open}
-use Rattle.rule.specs.Formula.{Bound, origin, infinity, variable}
-use Rattle.rule.specs.Meaning.{both, finite, place, positions, Range, range, seen, outcome}
+use Rattle.rule.specs.Formula.{Bound}
+use Rattle.rule.specs.Meaning.{both, Range, range, seen, outcome}
 use Rattle.rule.specs.Positions.{In}
 use Rattle.rule.specs.Started.{Reach}
 use Rattle.rule.proofs.Horizon.{from-less, from-start}
@@ -27,6 +27,7 @@ use Rattle.rule.proofs.Progress.{clash, stays, within}
 use Rattle.ranges.specs.Spans as spans
 use Rattle.ranges.specs.Plans.{first-of, Plans}
 use Rattle.ranges.proofs.Held.{held-at-same, held-same}
+use Rattle.ranges.proofs.Bounds.{range-same}
 use Rattle.instances.specs.declared.env.Env.{Env}
 use Rattle.instances.specs.Tree.{Tree, range-node, formula-of}
 use Rattle.instances.specs.Cells.{held, CellHolds, since, slot}
@@ -207,16 +208,6 @@ module _ {B₁ B₂ : Bound} {w z : ℕ} {F : Tree} {hist : List ℕ} {b : ℕ} 
       (subst (λ (i : ℕ). HeadStored own i n mid leading latest run′) ez c) eout
 
 -- ---- the plan of the code is one for the variables that are bound
-
-place-same : (B : Bound) (a b : List ℕ) → ((v : ℕ) → getD a v 0 ≡ getD b v 0) → place B a ≡ place B b
-unfolding place
-place-same (origin k) a b h = refl
-place-same infinity a b h = refl
-place-same (variable v k) a b h = ap (λ (q : ℕ). finite (pos q +ℤ k)) (h v)
-
-range-same : (B₁ B₂ : Bound) (a b : List ℕ) → ((v : ℕ) → getD a v 0 ≡ getD b v 0) → range B₁ B₂ a ≡ range B₁ B₂ b
-unfolding range
-range-same B₁ B₂ a b h = ap₂ positions (place-same B₁ a b h) (place-same B₂ a b h)
 
 -- a variable that is not bound has position 0 in both
 bound-alone : (ps : List ℕ) (n : ℕ) → ((v : ℕ) → n ≤ v → getD ps v 0 ≡ 0) → (v : ℕ) → getD ps v 0 ≡ getD (take n ps) v 0

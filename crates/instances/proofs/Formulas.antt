@@ -1,9 +1,8 @@
 -- Flags and "not"; and what the words of a node say of its tree.
-use Prim.Native.Nat.{ℕ, suc, _+_, _-_, _<_}
+use Prim.Native.Nat.{ℕ, _+_, _-_, _<_}
 use mathlib.Core.Path.{_≡_, refl, sym, ap, _∙_}
 use mathlib.Core.Logic.{inl, inr, ⊎-elim}
 use mathlib.Core.List.{List}
-use native.Mathlib.Omega.{arith}
 use borrow.Author.Tests.{eq-eqb, ne-eqb}
 use lib.ListN.{getD}
 use lib.Seq.{getD-take}
@@ -13,6 +12,7 @@ use Rattle.rule.specs.Meaning.{opposite, verdict, up, outcome}
 use Rattle.rule.specs.Started.{Reach}
 use Rattle.rule.proofs.Progress.{clash}
 use Rattle.nodes.specs.Table.{bound-at}
+use Rattle.nodes.proofs.Nodes.{some-left}
 use Rattle.instances.specs.declared.env.Env.{Env}
 use Rattle.instances.specs.Tree.{Tree, flag-node, not-node, then-node, beside-node, range-node, formula-of, tree-at}
 use Rattle.instances.specs.Run.{RunHolds, RunReady}
@@ -41,36 +41,33 @@ module _ {hist : List ℕ} {b : ℕ} {e : Env} {s t : ℕ} {run : List ℕ} wher
   }
 
 module _ (ns : List ℕ) (i : ℕ) where
-  unfold-left : (left : ℕ) → (left ≡ 0 → ⊥) → left ≡ suc (left - 1)
-  unfold-left left h = omega (arith, h)
-
   pub is-none : (left : ℕ) → left ≡ 0 → tree-at left ns i ≡ flag-node 0 0
   unfolding tree-at
   is-none left h = rw h refl
 
   pub is-not : (left : ℕ) → (left ≡ 0 → ⊥) → getD ns (i + 0) 0 ≡ 2 → tree-at left ns i ≡ not-node (tree-at (left - 1) ns (i + 12))
   unfolding tree-at
-  is-not left h c = ap (λ (n : ℕ). tree-at n ns i) (unfold-left left h) ∙ simp (eq-eqb (getD ns (i + 0) 0) 2 c)
+  is-not left h c = ap (λ (n : ℕ). tree-at n ns i) (some-left h) ∙ simp (eq-eqb (getD ns (i + 0) 0) 2 c)
 
   pub is-then : (left : ℕ) → (left ≡ 0 → ⊥) → (getD ns (i + 0) 0 ≡ 2 → ⊥) → getD ns (i + 0) 0 ≡ 3
       → tree-at left ns i ≡ then-node (tree-at (left - 1) ns (i + 12)) (tree-at (left - 1) ns (getD ns (i + 7) 0))
   unfolding tree-at
-  is-then left h c1 c = ap (λ (n : ℕ). tree-at n ns i) (unfold-left left h) ∙ simp (ne-eqb (getD ns (i + 0) 0) 2 c1, eq-eqb (getD ns (i + 0) 0) 3 c)
+  is-then left h c1 c = ap (λ (n : ℕ). tree-at n ns i) (some-left h) ∙ simp (ne-eqb (getD ns (i + 0) 0) 2 c1, eq-eqb (getD ns (i + 0) 0) 3 c)
 
   pub is-beside : (left : ℕ) → (left ≡ 0 → ⊥) → (getD ns (i + 0) 0 ≡ 2 → ⊥) → (getD ns (i + 0) 0 ≡ 3 → ⊥) → getD ns (i + 0) 0 ≡ 4
       → tree-at left ns i ≡ beside-node (getD ns (i + 10) 0) (tree-at (left - 1) ns (i + 12)) (tree-at (left - 1) ns (getD ns (i + 7) 0))
   unfolding tree-at
-  is-beside left h c1 c2 c = ap (λ (n : ℕ). tree-at n ns i) (unfold-left left h)
+  is-beside left h c1 c2 c = ap (λ (n : ℕ). tree-at n ns i) (some-left h)
       ∙ simp (ne-eqb (getD ns (i + 0) 0) 2 c1, ne-eqb (getD ns (i + 0) 0) 3 c2, eq-eqb (getD ns (i + 0) 0) 4 c)
 
   pub is-range : (left : ℕ) → (left ≡ 0 → ⊥) → (getD ns (i + 0) 0 ≡ 2 → ⊥) → (getD ns (i + 0) 0 ≡ 3 → ⊥) → (getD ns (i + 0) 0 ≡ 4 → ⊥) → getD ns (i + 0) 0 ≡ 5
       → tree-at left ns i ≡ range-node (bound-at ns (i + 1)) (bound-at ns (i + 4)) (getD ns (i + 8) 0) (getD ns (i + 9) 0) (tree-at (left - 1) ns (i + 12))
   unfolding tree-at
-  is-range left h c1 c2 c3 c = ap (λ (n : ℕ). tree-at n ns i) (unfold-left left h)
+  is-range left h c1 c2 c3 c = ap (λ (n : ℕ). tree-at n ns i) (some-left h)
       ∙ simp (ne-eqb (getD ns (i + 0) 0) 2 c1, ne-eqb (getD ns (i + 0) 0) 3 c2, ne-eqb (getD ns (i + 0) 0) 4 c3, eq-eqb (getD ns (i + 0) 0) 5 c)
 
   pub is-flag : (left : ℕ) → (left ≡ 0 → ⊥) → (getD ns (i + 0) 0 ≡ 2 → ⊥) → (getD ns (i + 0) 0 ≡ 3 → ⊥) → (getD ns (i + 0) 0 ≡ 4 → ⊥) → (getD ns (i + 0) 0 ≡ 5 → ⊥)
       → tree-at left ns i ≡ flag-node (getD ns (i + 1) 0) (getD ns (i + 2) 0)
   unfolding tree-at
-  is-flag left h c1 c2 c3 c4 = ap (λ (n : ℕ). tree-at n ns i) (unfold-left left h)
+  is-flag left h c1 c2 c3 c4 = ap (λ (n : ℕ). tree-at n ns i) (some-left h)
       ∙ simp (ne-eqb (getD ns (i + 0) 0) 2 c1, ne-eqb (getD ns (i + 0) 0) 3 c2, ne-eqb (getD ns (i + 0) 0) 4 c3, ne-eqb (getD ns (i + 0) 0) 5 c4)

@@ -5,7 +5,7 @@ use mathlib.Core.Path.{_≡_, refl, sym, ap, ap₂, subst, _∙_}
 use mathlib.Core.Logic.{_⊎_, inl, inr, ⊎-elim}
 use mathlib.Core.List.{List, [], _∷_, _++_}
 use native.Mathlib.Omega.{arith}
-use native.Mathlib.Numerals.{add-one}
+use native.Mathlib.Numerals.{add-one, one-add}
 use native.Mathlib.Nat.{mul-comm, mul-assoc, zero-mul, le-mul-of-pos-right}
 use native.Mathlib.Decide.{decLt}
 use lib.ListN.{length, getD, length-append}
@@ -80,9 +80,6 @@ times-parts (Finite zero) c n e = (0, refl, inl (refl, cc))
 times-parts (Finite (suc x)) (Finite y) n e = (suc x, refl, inr (y, refl, cc))
 times-parts (Finite (suc x)) Unbounded n e = absurd (endless e)
 times-parts Unbounded (Finite y) n e = absurd (endless (rw (one-add y) at e))
-  where
-    one-add : (k : ℕ) → 1 + k ≡ suc k
-    one-add k = omega arith
 times-parts Unbounded Unbounded n e = absurd (endless e)
 
 -- ---- within the limit of cells

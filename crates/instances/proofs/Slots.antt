@@ -1,4 +1,4 @@
--- A run as slots of z words range-node: a slot that is put back, and the others. Lists only.
+-- A run as slots of z words each: a slot that is put back, and the others. Lists only.
 use Prim.Native.Nat.{ℕ, _+_, _*_, _-_, _≤_, _<_}
 use mathlib.Core.Path.{_≡_, sym, ap, subst, _∙_}
 use mathlib.Core.List.{List, [], _++_}
@@ -12,6 +12,10 @@ use Rattle.instances.specs.Cells.{slot}
 -- slot j ends where slot j + 1 begins, and no later than a slot after it begins
 pub slot-before : (z j k : ℕ) → j < k → j * z + z ≤ k * z
 slot-before z j k h = rw (← suc-mul j z) (mul-le-mul-right z h)
+
+-- what lies after the first k words, by way of what lies after n of them
+pub drop-far : (n k : ℕ) (l : List ℕ) → n ≤ k → drop k l ≡ drop (k - n) (drop n l)
+drop-far n k l h = sym (drop-drop (k - n) n l ∙ ap (λ (m : ℕ). drop m l) (add-sub-of-le h))
 
 module _ (z : ℕ) (run ys : List ℕ) where
   pub slot-same : (j : ℕ) → j * z ≤ length run → length ys ≡ z → slot z j (putMid (j * z) z run ys) ≡ ys
@@ -34,15 +38,12 @@ module _ (z : ℕ) (run ys : List ℕ) where
       ∙ sym (front (j * z) k (drop (j * z) run) g (slot-before z k j h))
       ∙ ap (λ (l : List ℕ). take z (drop (k * z) l)) (take-append-drop (j * z) run)
 
-  after : (n k : ℕ) (l : List ℕ) → n ≤ k → drop k l ≡ drop (k - n) (drop n l)
-  after n k l h = sym (drop-drop (k - n) n l ∙ ap (λ (m : ℕ). drop m l) (add-sub-of-le h))
-
   pub slot-above : (j k : ℕ) → j < k → j * z + z ≤ length run → length ys ≡ z → slot z k (putMid (j * z) z run ys) ≡ slot z k run
   slot-above j k h g e =
       ap (take z)
-      (after (j * z + z) (k * z) (putMid (j * z) z run ys) (slot-before z j k h)
+      (drop-far (j * z + z) (k * z) (putMid (j * z) z run ys) (slot-before z j k h)
       ∙ ap (drop (k * z - (j * z + z))) back
-      ∙ sym (after (j * z + z) (k * z) run (slot-before z j k h)))
+      ∙ sym (drop-far (j * z + z) (k * z) run (slot-before z j k h)))
     where
       back : drop (j * z + z) (putMid (j * z) z run ys) ≡ drop (j * z + z) run
       back = subst (λ (n : ℕ). drop (j * z + z) (putMid (j * z) n run ys) ≡ drop (j * z + z) run) (add-sub-cancel-left (j * z) z)

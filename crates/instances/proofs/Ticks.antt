@@ -1,33 +1,25 @@
 -- The sweep over the ticks that can be open, as facts on lists and outcomes.
-use Prim.Native.Nat.{ℕ, suc, _+_, _*_, _-_, _/_, _%_, _≤_, _<_}
+use Prim.Native.Nat.{ℕ, suc, _+_, _*_, _-_, _%_, _≤_, _<_}
 use mathlib.Core.Path.{_≡_, refl, sym, ap, ap₂, subst, _∙_}
 use mathlib.Core.Logic.{inl, inr, _≢_}
 use mathlib.Core.Bool.{cond}
 use mathlib.Core.List.{List, [], _∷_, _++_}
 use native.Mathlib.Omega.{arith}
-use native.Mathlib.Nat.{div-add-mod', mod-lt, mul-le-mul-right, suc-mul, add-sub-cancel-left, add-sub-of-le}
+use native.Mathlib.Nat.{mod-lt, add-sub-cancel-left}
 use native.Mathlib.Decide.{decLt}
 use lib.ListN.{length, take, drop, length-append, length-drop}
-use lib.Seq.{drop-drop, length-take-le}
+use lib.Seq.{length-take-le}
 use borrow.Rule.Slice.PartMut.{putMid, drop-put, same-len-mid}
 use Rattle.rule.specs.declared.Outcome.{Outcome}
 use Rattle.rule.specs.Meaning.{rule}
 use Rattle.rule.specs.Steps.{false-at, is-open, passing}
 use Rattle.rule.specs.Started.{Before, Reach}
+use Rattle.demand.proofs.Ring.{slots-differ}
 use Rattle.instances.specs.Tree.{Tree, formula-of, words}
 use Rattle.instances.specs.Cells.{slot}
 use Rattle.instances.specs.Instances.{InstanceHolds, FlagsAtHand, InstanceMoved, tick-if-false, open-count, Stand, TicksMoved, Spared}
-use Rattle.instances.proofs.Slots.{slot-same, slot-below, slot-above, slot-before}
+use Rattle.instances.proofs.Slots.{slot-same, slot-below, slot-above, slot-before, drop-far}
 use Rattle.instances.proofs.Reports.{passing-last, count-one, report-more, keeps-more}
-
-pub mod-apart : (n p q : ℕ) → 0 < n → p < q → q < p + n → p % n ≢ q % n
-mod-apart n p q h g l e =
-    let a : p / n * n + p % n ≡ p = div-add-mod' p n in
-    let b : q / n * n + q % n ≡ q = div-add-mod' q n in
-    elim (decLt (p / n) (q / n)) [
-      | yes k ↦ let m : suc (p / n) * n ≤ q / n * n = mul-le-mul-right n k in let s : suc (p / n) * n ≡ p / n * n + n = suc-mul (p / n) n in omega arith
-      | no k ↦ let m : q / n * n ≤ p / n * n = mul-le-mul-right n (omega arith) in omega arith
-    ]
 
 slot-other : (z : ℕ) (run ys : List ℕ) (j k : ℕ) → k ≢ j → j * z + z ≤ length run → length ys ≡ z → slot z k (putMid (j * z) z run ys) ≡ slot z k run
 slot-other z run ys j k ne g e = elim (decLt k j) [ yes l ↦ slot-below z run ys j k l (omega arith) | no l ↦ slot-above z run ys j k (omega (arith, ne)) g e ]
@@ -113,14 +105,14 @@ module _ (F : Tree) (n c : ℕ) (hist : List ℕ) (b t low : ℕ) (table₀ repo
                 el ∙ eo,
                 (
                   (λ k l. elim (decLt k m) [
-                    | yes q ↦ subst (InstanceHolds flags F t (low + k)) (sym (slot-other c table ys ((low + m) % n) ((low + k) % n) (mod-apart n (low + k) (low + m) some (omega arith) (omega arith)) (omega arith) len)) (x .1 .1 .1 .0 k q)
+                    | yes q ↦ subst (InstanceHolds flags F t (low + k)) (sym (slot-other c table ys ((low + m) % n) ((low + k) % n) (slots-differ n (low + k) (low + m) (omega arith) (omega arith)) (omega arith) len)) (x .1 .1 .1 .0 k q)
                     | no q ↦
                         let e : k ≡ m = omega arith in
                         subst (λ (i : ℕ). InstanceHolds flags F t (low + i) (slot c ((low + i) % n) (putMid ((low + m) % n * c) c table ys))) (sym e)
                         (subst (InstanceHolds flags F t (low + m)) (sym (slot-same c table ys ((low + m) % n) (omega arith) len)) (y .1))
                   ]),
                   λ k l q.
-                      slot-other c table ys ((low + m) % n) ((low + k) % n) (λ e. mod-apart n (low + m) (low + k) some (omega arith) (omega arith) (sym e)) (omega arith) len
+                      slot-other c table ys ((low + m) % n) ((low + k) % n) (λ e. slots-differ n (low + m) (low + k) (omega arith) (omega arith) (sym e)) (omega arith) len
                       ∙ x .1 .1 .1 .1 k (omega arith) q,
                 ),
               ),
@@ -170,9 +162,6 @@ slot-length-at n c p table some room =
     rw (add-sub-cancel-left (p % n * c) c) (length-take-le c (drop (p % n * c) table) (omega arith))
 
 -- the words after the slots stay
-drop-far : (n k : ℕ) (l : List ℕ) → n ≤ k → drop k l ≡ drop (k - n) (drop n l)
-drop-far n k l h = sym (drop-drop (k - n) n l ∙ ap (λ (m : ℕ). drop m l) (add-sub-of-le h))
-
 pub rest-more : (n c p : ℕ) (table ys : List ℕ) → 0 < n → n * c ≤ length table
     → length ys ≡ length (take (p % n * c + c - p % n * c) (drop (p % n * c) table))
     → drop (n * c) (putMid (p % n * c) (p % n * c + c - p % n * c) table ys) ≡ drop (n * c) table

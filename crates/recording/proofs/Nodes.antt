@@ -7,15 +7,13 @@ use lib.ListN.{getD}
 use borrow.Author.Tests.{ne-eqb}
 use Rattle.rule.specs.Formula.{flag, negate, then, beside}
 use Rattle.nodes.specs.Table.{formula-in}
+use Rattle.nodes.proofs.Nodes.{some-left}
 use Rattle.recording.specs.Evaluating.{forall-in}
 
 pub none-in : (left : ℕ) (ns : List ℕ) (m i : ℕ) → left ≡ 0 → formula-in left ns m i ≡ flag 0 0
 unfolding formula-in
 none-in zero ns m i e = refl
 none-in (suc left) ns m i e = absurd (omega arith)
-
-some-left : {left : ℕ} → (left ≡ 0 → ⊥) → left ≡ suc (left - 1)
-some-left h = omega arith
 
 module _ (left : ℕ) (ns : List ℕ) (m i : ℕ) (some : left ≡ 0 → ⊥) where
   step : formula-in left ns m i ≡ formula-in (suc (left - 1)) ns m i
