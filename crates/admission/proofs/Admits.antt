@@ -1,9 +1,8 @@
 -- What admitting answers, by what the figures and the tests say.
 use Prim.Native.Nat.{ℕ, _≤_, _<_}
-use mathlib.Core.Path.{_≡_, refl, sym, ap, subst, _∙_}
+use mathlib.Core.Path.{_≡_, sym, ap, _∙_}
 use mathlib.Core.List.{List}
 use native.Mathlib.Omega.{arith}
-use lib.Dec.{leb}
 use borrow.Author.Tests.{le-leb, lt-leb}
 use Rattle.refusal.specs.declared.Refusal.{Refusal}
 use Rattle.refusal.specs.declared.Refusal.the-variants.{StateNotOpened}
@@ -16,8 +15,8 @@ use Rattle.rule.specs.Figures.{figures, body-figures}
 use Rattle.rule.proofs.Limits.{within-limits}
 use Rattle.figures.specs.declared.answer.FigureAnswer.{FigureAnswer}
 use Rattle.figures.specs.declared.answer.FigureAnswer.the-variants.{Sized, Refused}
-use Rattle.figures.specs.Prepared.{told, Laid, Prepared}
-use Rattle.demand.specs.Contract.{must, room, fit-lengths, as-21, admit-lengths}
+use Rattle.figures.specs.Prepared.{told, Prepared}
+use Rattle.demand.specs.Contract.{must, room, as-21, admit-lengths}
 use Rattle.admission.specs.Admitted.{Small, fit-for, Ready, Admitted}
 
 -- Accepted figures are within the limits.

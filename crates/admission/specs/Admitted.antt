@@ -4,7 +4,6 @@ use mathlib.Core.Path.{_≡_}
 use mathlib.Core.List.{List}
 use lib.Dec.{leb}
 use Rattle.refusal.specs.Answer.{Answer, refused, accepted}
-use Rattle.rule.specs.Formula.{Formula}
 use Rattle.rule.specs.Body.{body}
 use Rattle.rule.specs.declared.Figures.{Figures}
 use Rattle.figures.specs.declared.answer.FigureAnswer.{FigureAnswer}

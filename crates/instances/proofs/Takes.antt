@@ -1,11 +1,11 @@
 -- A tick that is admitted fits, and moving its instances takes it; one that is refused changes nothing.
-use Prim.Native.Nat.{ℕ, suc, _+_, _*_, _≤_, _<_}
-use mathlib.Core.Path.{_≡_, refl, sym, ap, subst, _∙_}
+use Prim.Native.Nat.{ℕ, suc, _+_, _*_, _<_}
+use mathlib.Core.Path.{_≡_, sym, ap, subst, _∙_}
 use mathlib.Core.List.{List, [], _∷_}
 use native.Mathlib.Omega.{arith}
-use lib.ListN.{length, take, drop}
+use lib.ListN.{length, take}
 use Rattle.refusal.specs.declared.Refusal.{Refusal}
-use Rattle.refusal.specs.Answer.{Answer, refused, accepted}
+use Rattle.refusal.specs.Answer.{refused, accepted}
 use Rattle.refusal.specs.Numbers.{number-of}
 use Rattle.rule.specs.declared.Figures.{Figures}
 use Rattle.rule.specs.Formula.{Formula}

@@ -3,7 +3,7 @@ use Prim.Native.Nat.{ℕ, suc, _+_, _*_, _≤_}
 use mathlib.Core.Path.{_≡_}
 use mathlib.Core.List.{List}
 use lib.ListN.{take, drop, length}
-use Rattle.refusal.specs.Answer.{Answer, refused, accepted}
+use Rattle.refusal.specs.Answer.{refused, accepted}
 use Rattle.refusal.specs.Numbers.{number-of}
 use Rattle.rule.specs.declared.Figures.{Figures}
 use Rattle.rule.specs.Formula.{Formula}

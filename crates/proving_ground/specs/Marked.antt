@@ -2,7 +2,7 @@
 use Prim.Native.Nat.{ℕ}
 use mathlib.Core.Path.{_≡_}
 use mathlib.Core.List.{List, [], _∷_}
-use lib.IntN.{ℤ, pos, negsuc}
+use lib.IntN.{pos, negsuc}
 use Rattle.refusal.specs.Answer.{Answer, refused, accepted, and-then}
 use Rattle.sheet.specs.Sheet.{rule-body}
 use Rattle.rule.specs.declared.Figures.{Figures}

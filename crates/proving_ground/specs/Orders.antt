@@ -6,7 +6,7 @@ use mathlib.Core.List.{List, [], _∷_, _++_}
 use lib.ListN.{replicate}
 use Rattle.refusal.specs.Answer.{refused, accepted}
 use Rattle.sheet.specs.Sheet.{rule-body}
-use Rattle.rule.specs.Formula.{Formula, flag, negate}
+use Rattle.rule.specs.Formula.{flag}
 use Rattle.rule.specs.Body.{body}
 use Rattle.rule.specs.Figures.{body-figures}
 use Rattle.proving_ground.specs.Marked.{sized, example}

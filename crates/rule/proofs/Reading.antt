@@ -1,6 +1,6 @@
 -- Laws of reading a body: it goes on, it names only bound variables, and the number that ends its recursion does not matter.
 use Prim.Native.Nat.{ℕ, zero, suc, _+_, _-_, _≤_, _<_}
-use mathlib.Core.Path.{_≡_, refl, sym, ap, _∙_, subst}
+use mathlib.Core.Path.{_≡_, refl, ap, _∙_, subst}
 use mathlib.Core.Bool.{Bool, true, false, not, cond, _&&_, _||_, false≢true}
 use mathlib.Core.List.{List}
 use native.Mathlib.Numerals.{add-one}
@@ -8,10 +8,10 @@ use native.Mathlib.Omega.{arith}
 use lib.Dec.{leb, ltb, eqb}
 use lib.ListN.{length}
 use borrow.Author.Tests.{leb-true, eqb-false, eq-eqb}
-use Rattle.rule.specs.Formula.{Bound, Formula, flag, negate, then, beside, forall}
-use Rattle.words.specs.Words.{byte, word}
-use Rattle.refusal.specs.Answer.{Answer, refused, accepted}
-use Rattle.rule.specs.Body.{Head, refuse, flag-head, negate-head, then-head, beside-head, forall-head, require, bound, require-bound, fixed, contents, head, Read, stop, read, one, two, parts, formula, formula-at, whole, body}
+use Rattle.rule.specs.Formula.{Formula, negate, then, beside, forall}
+use Rattle.words.specs.Words.{byte}
+use Rattle.refusal.specs.Answer.{refused, accepted}
+use Rattle.rule.specs.Body.{Head, refuse, flag-head, negate-head, then-head, beside-head, forall-head, require, require-bound, fixed, contents, head, Read, stop, read, one, two, parts, formula, formula-at, whole, body}
 use Rattle.rule.specs.Started.{Scoped}
 
 -- What holds of a refusal, and of the rest if the test passes.

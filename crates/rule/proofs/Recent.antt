@@ -1,24 +1,18 @@
 -- A step has to look only at the last delay + 1 ticks: what is older is decided, and was decided before.
-use Prim.Native.Nat.{ℕ, zero, suc, _+_, _-_, _≤_, _<_}
-use mathlib.Core.Path.{_≡_, refl, sym, ap, _∙_}
-use mathlib.Core.Bool.{Bool, true, false, cond}
-use mathlib.Core.List.{List, [], _∷_}
+use Prim.Native.Nat.{ℕ, zero, suc, _+_, _-_, _<_}
+use mathlib.Core.Path.{_≡_, refl, ap, _∙_}
+use mathlib.Core.Bool.{Bool, false}
+use mathlib.Core.List.{[], _∷_}
 use native.Mathlib.Nat.{suc-add, zero-add, add-zero}
 use native.Mathlib.Omega.{arith}
-use lib.Dec.{eqb}
 use borrow.Author.Tests.{ne-eqb}
 use Rattle.rule.specs.Formula.{Formula}
-use Rattle.rule.specs.declared.Verdict.{Verdict}
 use Rattle.rule.specs.declared.Verdict.the-variants.{True, False}
 use Rattle.rule.specs.declared.Outcome.{Outcome}
 use Rattle.rule.specs.declared.Outcome.the-variants.{Decided, Open}
 use Rattle.rule.specs.Meaning.{rule}
 use Rattle.rule.specs.Figures.{at-tick, delay}
-use Rattle.rule.specs.declared.Limit.{Limit}
-use Rattle.rule.specs.declared.Limit.the-variants.{Lowest, At, Highest}
-use Rattle.rule.specs.declared.Size.{Size}
-use Rattle.rule.specs.declared.Size.the-variants.{Finite, Unbounded}
-use Rattle.rule.specs.declared.Pair.{Pair}
+use Rattle.rule.specs.declared.Size.the-variants.{Finite}
 use Rattle.rule.specs.Steps.{false-at, is-open, passing, report, live}
 use Rattle.rule.proofs.Delay.{By, rule-decided}
 

@@ -1,7 +1,5 @@
 -- `watch_run::print_report` is safe and ends. Assumes nothing.
 use Prim.Native.Nat.{_≤_, _-_}
-use mathlib.Core.Path.{_≡_}
-use lib.ListN.{length}
 use borrow.Author.Needs.{needs}
 use Rattle.watch_run.proofs.watching.print_report.Statement.{statement}
 use Rattle.watch_run.proofs.watching.print_report.Tie as tie
