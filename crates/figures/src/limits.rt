@@ -37,12 +37,14 @@ fn capped(n: u64) -> u64
     if n < 4097 { n } else { 4097 }
 }
 
+// The larger of two numbers.
 pub(crate) fn larger_number(a: u64, b: u64) -> u64
     ensures { λ r. ⌜ r ≡ max a b ⌝ }
 {
     if a < b { b } else { a }
 }
 
+// The larger of two sizes: infinite where one is.
 pub(crate) fn larger_size(a: Size, b: Size) -> Size
     ensures { λ r. ⌜ r ≡ larger a b ⌝ }
 {
@@ -55,6 +57,7 @@ pub(crate) fn larger_size(a: Size, b: Size) -> Size
     }
 }
 
+// A limit moved by an offset; an infinite one stays.
 pub(crate) fn shifted(l: Limit, n: i64) -> Limit
     requires { ⌜ Near 1000000 l × (natAbs n ≤ 1000000) ⌝ }
     ensures { λ r. ⌜ r ≡ shift n l ⌝ }
@@ -108,6 +111,7 @@ pub(crate) fn range_width(l: Limit, u: Limit) -> u64
     }
 }
 
+// The sum of two numbers of cells, counted up to 4,097.
 pub(crate) fn plus(a: u64, b: u64) -> u64
     requires { ⌜ (a ≤ 4097) × (b ≤ 4097) ⌝ }
     ensures { λ r. ⌜ r ≡ add a b ⌝ }
@@ -115,6 +119,7 @@ pub(crate) fn plus(a: u64, b: u64) -> u64
     capped(a + b)
 }
 
+// Their product, counted up to 4,097.
 pub(crate) fn times(a: u64, b: u64) -> u64
     requires { ⌜ (a ≤ 4097) × (b ≤ 4097) ⌝ }
     ensures { λ r. ⌜ r ≡ mul a b ⌝ }

@@ -5,6 +5,7 @@ ghost use lib.ListN.{length, getD};
 ghost use Rattle.instances.specs.Leading.{latest-of, leading-of, MovedOn, HeadStored, HeadFit};
 use crate::cells::elapsed;
 
+// What a head cell says.
 pub(crate) struct Head {
     pub leading: u64,
     pub latest: u64,

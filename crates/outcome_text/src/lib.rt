@@ -4,6 +4,7 @@ use recording::Evaluated;
 use rule::Outcome;
 use rule::Verdict;
 
+// Writes bytes as they are.
 pub fn text(t: &[u8]) {
     io::write_all(STDOUT_FILENO, t);
 }
