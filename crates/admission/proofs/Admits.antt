@@ -2,14 +2,13 @@
 use Prim.Native.Nat.{ℕ, _≤_, _<_}
 use mathlib.Core.Path.{_≡_, sym, ap, _∙_}
 use mathlib.Core.List.{List}
-use native.Mathlib.Omega.{arith}
 use borrow.Author.Tests.{le-leb, lt-leb}
 use Rattle.refusal.specs.declared.Refusal.{Refusal}
 use Rattle.refusal.specs.declared.Refusal.the-variants.{StateNotOpened}
 use Rattle.refusal.specs.Answer.{Answer, refused, accepted, and-then}
 use Rattle.refusal.specs.Numbers.{number-of}
+use Rattle.refusal.proofs.Answers.{both-accepted}
 use Rattle.rule.specs.declared.Figures.{Figures}
-use Rattle.rule.specs.Formula.{Formula}
 use Rattle.rule.specs.Body.{body}
 use Rattle.rule.specs.Figures.{figures, body-figures}
 use Rattle.rule.proofs.Limits.{within-limits}
@@ -21,12 +20,11 @@ use Rattle.admission.specs.Admitted.{Small, fit-for, Ready, Admitted}
 
 -- Accepted figures are within the limits.
 small : (b : List ℕ) (f : Figures) → body-figures b ≡ accepted f → Small f
-unfolding body-figures and-then
-small b f e = go (body b) e
-  where
-    go : (a : Answer Formula) → and-then a figures ≡ accepted f → Small f
-    go (refused n) i = let z : _≡_ {A = ℕ} 0 1 = cc in absurd (omega arith)
-    go (accepted F) i = let w = within-limits F f i in record { short = w .short; old = w .old; few = w .few }
+unfolding body-figures
+small b f e =
+    let a = both-accepted (body b) figures f e in
+    let w = within-limits (a .0) f (a .2) in
+    record { short = w .short; old = w .old; few = w .few }
 
 module _ (b : List ℕ) (a : FigureAnswer) (told-is : told a ≡ body-figures b) where
   pub sized-small : {f : Figures} → a ≡ Sized f → Small f

@@ -16,6 +16,7 @@ use Rattle.reader.specs.declared.Reading.the-variants as reading
 use Rattle.reader.specs.Decoded as read
 use Rattle.refusal.specs.Numbers.{number-of}
 use Rattle.refusal.specs.declared.Refusal.{Refusal}
+use Rattle.refusal.proofs.Answers.{not-accepted, same-refusal}
 use Rattle.figures.specs.declared.answer.FigureAnswer.the-variants.{Refused}
 use Rattle.reader.specs.Decoded.{formulas, Tabled, Decoded}
 use Rattle.figures.specs.declared.measure.Figure.{Figure}
@@ -45,11 +46,8 @@ unfolding body-figures and-then
 refused-prepared s ns q x d e = go (body s) refl (sym (ap read.told e) ∙ d .answer)
   where
     go : (b : Answer Formula) → b ≡ body s → refused (number-of x) ≡ and-then b (λ F. accepted (formulas F)) → Prepared s (Refused x) ns
-    go (refused k) q w = record { answer = w′ w ∙ ap (λ (b : Answer Formula). and-then b figures) q; laid = subst (Laid ns) q tt }
-      where
-        w′ : refused (number-of x) ≡ and-then (refused k) (λ (F : Formula). accepted (formulas F)) → refused (number-of x) ≡ and-then (refused k) figures
-        w′ w = let z : number-of x ≡ k = cc in ap refused z
-    go (accepted F) q w = let z : _≡_ {A = ℕ} 0 1 = cc in absurd (omega arith)
+    go (refused k) q w = record { answer = ap refused (same-refusal w) ∙ ap (λ (b : Answer Formula). and-then b figures) q; laid = subst (Laid ns) q tt }
+    go (accepted F) q w = absurd (not-accepted w)
 
 -- the reader read it, and its formula was measured
 pub measured-prepared : (s old new : List ℕ) (q : Reading) (n : ℕ) (r : Figure) (a : FigureAnswer) → Decoded s q old → q ≡ reading.Formulas n → 768 ≤ length old
@@ -58,7 +56,7 @@ unfolding body-figures and-then
 measured-prepared s old new q n r a d eq room p ea = go (body s) refl (sym (ap read.told eq) ∙ d .answer) (d .tabled)
   where
     go : (b : Answer Formula) → b ≡ body s → accepted n ≡ and-then b (λ F. accepted (formulas F)) → Tabled old b → Prepared s a new
-    go (refused k) q w t = let z : _≡_ {A = ℕ} 0 1 = cc in absurd (omega arith)
+    go (refused k) q w t = absurd (not-accepted (sym w))
     go (accepted F) q w t =
         let x : Measured F (at-tick ∷ []) (Finite 0) 0 0 (12 * formulas F) old new r = p F (12 * formulas F) (t .holds) (omega (arith, t .room)) (omega (arith, t .room)) in
         record {

@@ -1,10 +1,9 @@
--- The report of a step: one tick is written or not, and one tick more passes a test or not.
-use Prim.Native.Nat.{ℕ, zero, suc, _+_, _≤_, _<_}
+-- The report of a step: one tick is written or not.
+use Prim.Native.Nat.{ℕ, _+_, _≤_, _<_}
 use mathlib.Core.Path.{_≡_, refl, sym, ap, _∙_}
 use mathlib.Core.Bool.{Bool, true, false, cond}
 use mathlib.Core.List.{List, [], _∷_, _++_, append-assoc}
 use native.Mathlib.Omega.{arith}
-use native.Mathlib.Nat.{add-zero, add-suc, suc-add}
 use native.Mathlib.Numerals.{add-one}
 use borrow.Author.Tests.{eq-eqb, ne-eqb}
 use lib.ListN.{length, take, drop, set, take-append-drop}
@@ -13,7 +12,7 @@ use Rattle.rule.specs.declared.Verdict.{Verdict}
 use Rattle.rule.specs.declared.Verdict.the-variants.{True, False}
 use Rattle.rule.specs.declared.Outcome.{Outcome}
 use Rattle.rule.specs.declared.Outcome.the-variants.{Decided, Open}
-use Rattle.rule.specs.Steps.{false-at, passing}
+use Rattle.rule.specs.Steps.{false-at}
 use Rattle.instances.specs.Instances.{tick-if-false}
 
 pub tick-open : (o : Outcome) (t p : ℕ) → o ≡ Open → tick-if-false o t p ≡ []
@@ -39,19 +38,6 @@ report-none report at h e = rw e ((omega arith, omega arith), sym (take-append-d
 pub report-one : (report : List ℕ) (at p : ℕ) (h : List ℕ) → h ≡ p ∷ [] → at < length report
     → ((at + 1 ≡ at + length h) × (at + 1 ≤ at + 1)) × (set report at p ≡ take at report ++ (h ++ drop (at + 1) report))
 report-one report at p h e g = rw (e, add-one at) ((omega arith, omega arith), set-split report at p g)
-
--- one tick more
-pub passing-last : (test : Outcome → Bool) (f : ℕ → Outcome) (n p : ℕ) → passing test f (suc n) p ≡ passing test f n p ++ cond (test (f (p + n))) ((p + n) ∷ []) []
-unfolding passing
-passing-last test f zero p = ap (λ (i : ℕ). cond (test (f i)) (i ∷ []) []) (sym (add-zero p))
-passing-last test f (suc n) p =
-    ap (λ (l : List ℕ). cond (test (f p)) (p ∷ l) l) (passing-last test f n (suc p)
-    ∙ ap (λ (i : ℕ). passing test f n (suc p) ++ cond (test (f i)) (i ∷ []) []) (suc-add p n ∙ sym (add-suc p n)))
-    ∙ apart (test (f p)) (passing test f n (suc p)) (cond (test (f (p + suc n))) ((p + suc n) ∷ []) [])
-  where
-    apart : (b : Bool) (l m : List ℕ) → cond b (p ∷ (l ++ m)) (l ++ m) ≡ cond b (p ∷ l) l ++ m
-    apart true l m = refl
-    apart false l m = refl
 
 pub count-one : (b : Bool) (i : ℕ) → length (cond b (i ∷ []) []) ≡ cond b 1 0
 count-one true i = refl

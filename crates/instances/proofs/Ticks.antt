@@ -14,12 +14,13 @@ use Rattle.rule.specs.declared.Outcome.{Outcome}
 use Rattle.rule.specs.Meaning.{rule}
 use Rattle.rule.specs.Steps.{false-at, is-open, passing}
 use Rattle.rule.specs.Started.{Before, Reach}
+use Rattle.rule.proofs.Passing.{passing-last}
 use Rattle.demand.proofs.Ring.{slots-differ}
 use Rattle.instances.specs.Tree.{Tree, formula-of, words}
 use Rattle.instances.specs.Cells.{slot}
 use Rattle.instances.specs.Instances.{InstanceHolds, FlagsAtHand, InstanceMoved, tick-if-false, open-count, Stand, TicksMoved, Spared}
 use Rattle.instances.proofs.Slots.{slot-same, slot-below, slot-above, slot-before, drop-far}
-use Rattle.instances.proofs.Reports.{passing-last, count-one, report-more, keeps-more}
+use Rattle.instances.proofs.Reports.{count-one, report-more, keeps-more}
 
 slot-other : (z : ℕ) (run ys : List ℕ) (j k : ℕ) → k ≢ j → j * z + z ≤ length run → length ys ≡ z → slot z k (putMid (j * z) z run ys) ≡ slot z k run
 slot-other z run ys j k ne g e = elim (decLt k j) [ yes l ↦ slot-below z run ys j k l (omega arith) | no l ↦ slot-above z run ys j k (omega (arith, ne)) g e ]

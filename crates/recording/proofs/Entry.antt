@@ -10,6 +10,7 @@ use borrow.Author.Tests.{le-leb, lt-leb, lt-ltb, le-ltb}
 use Rattle.refusal.specs.Answer.{Answer, refused, accepted, and-then}
 use Rattle.refusal.specs.Numbers.{number-of}
 use Rattle.refusal.specs.declared.Refusal.{Refusal}
+use Rattle.refusal.proofs.Answers.{not-accepted, same-refusal}
 use Rattle.rule.specs.declared.Outcome.{Outcome}
 use Rattle.rule.specs.Formula.{Formula}
 use Rattle.rule.specs.Body.{body}
@@ -83,7 +84,7 @@ module _ (s rec : List ℕ) (p : ℕ) {r : Reading} {ns : List ℕ} (d : reader.
   read-well {n} {a} x y = go (body s) (ap reader.told (sym x) ∙ d .answer) (d .tabled)
     where
       go : (b : Answer Formula) → accepted n ≡ and-then b (λ F. accepted (reader.formulas F)) → reader.Tabled ns b → a ≡ and-then b (λ F. over-recording F rec p)
-      go (refused k) z w = let z : _≡_ {A = ℕ} 0 1 = cc in absurd (omega arith)
+      go (refused k) z w = absurd (not-accepted (sym z))
       go (accepted F) z w = y ∙ ap (λ (G : Formula). over-recording G rec p) (w .is)
 
   pub read-ill : {x : Refusal} → r ≡ Refused x → refused (number-of x) ≡ recording-outcome s rec p
@@ -91,8 +92,5 @@ module _ (s rec : List ℕ) (p : ℕ) {r : Reading} {ns : List ℕ} (d : reader.
   read-ill {x} y = go (body s) (ap reader.told (sym y) ∙ d .answer)
     where
       go : (b : Answer Formula) → refused (number-of x) ≡ and-then b (λ F. accepted (reader.formulas F)) → refused (number-of x) ≡ and-then b (λ F. over-recording F rec p)
-      go (refused k) z = ap refused (same z)
-        where
-          same : _≡_ {A = Answer ℕ} (refused (number-of x)) (refused k) → number-of x ≡ k
-          same z = cc
-      go (accepted F) z = let z : _≡_ {A = ℕ} 0 1 = cc in absurd (omega arith)
+      go (refused k) z = ap refused (same-refusal z)
+      go (accepted F) z = absurd (not-accepted z)

@@ -1,9 +1,9 @@
 -- A step has to look only at the last delay + 1 ticks: what is older is decided, and was decided before.
-use Prim.Native.Nat.{ℕ, zero, suc, _+_, _-_, _<_}
+use Prim.Native.Nat.{ℕ, suc, _+_, _-_, _<_}
 use mathlib.Core.Path.{_≡_, refl, ap, _∙_}
 use mathlib.Core.Bool.{Bool, false}
 use mathlib.Core.List.{[], _∷_}
-use native.Mathlib.Nat.{suc-add, zero-add, add-zero}
+use native.Mathlib.Nat.{zero-add}
 use native.Mathlib.Omega.{arith}
 use borrow.Author.Tests.{ne-eqb}
 use Rattle.rule.specs.Formula.{Formula}
@@ -15,6 +15,7 @@ use Rattle.rule.specs.Figures.{at-tick, delay}
 use Rattle.rule.specs.declared.Size.the-variants.{Finite}
 use Rattle.rule.specs.Steps.{false-at, is-open, passing, report, live}
 use Rattle.rule.proofs.Delay.{By, rule-decided}
+use Rattle.rule.proofs.Passing.{passing-skip}
 
 old-not-false : (t b : ℕ) (o : Outcome) → By b o → b < t → false-at t o ≡ false
 unfolding false-at
@@ -27,16 +28,10 @@ unfolding is-open
 old-not-open b (Decided v d) h = refl
 old-not-open b Open h = absurd h
 
-skip : (test : Outcome → Bool) (f : ℕ → Outcome) (a n p : ℕ) → ((i : ℕ) → i < p + a → test (f i) ≡ false) → passing test f (a + n) p ≡ passing test f n (p + a)
-unfolding passing
-skip test f zero n p h = simp (zero-add, add-zero)
-skip test f (suc a) n p h =
-    simp (suc-add, h p (omega arith)) (skip test f a n (suc p) (λ i k. h i (omega arith)) ∙ ap (passing test f n) (omega arith))
-
 -- over the ticks 0..t
 recent : (test : Outcome → Bool) (f : ℕ → Outcome) (t d : ℕ) → ((i : ℕ) → i + d < t → test (f i) ≡ false) → passing test f (suc t) 0 ≡ passing test f (suc t - (t - d)) (t - d)
 recent test f t d h =
-    ap (λ n. passing test f n 0) (whole t d) ∙ skip test f (t - d) (suc t - (t - d)) 0 (λ i k. h i (omega arith)) ∙ ap (passing test f (suc t - (t - d))) (zero-add (t - d))
+    ap (λ n. passing test f n 0) (whole t d) ∙ passing-skip test f (t - d) (suc t - (t - d)) 0 (λ i k. h i (omega arith)) ∙ ap (passing test f (suc t - (t - d))) (zero-add (t - d))
   where
     whole : (t d : ℕ) → suc t ≡ (t - d) + (suc t - (t - d))
     whole t d = omega arith
