@@ -33,14 +33,14 @@ fn advance_part(
     k: usize,
     a: usize,
     z: usize,
-    hist: &[u8],
-    b: u8,
+    history: &[u8],
+    flag: u8,
     env: Env,
     s: u64,
     t: u64,
 ) -> Outcome
     requires { ⌜ PartFit (tree-at left (now nodes) i) env t k a z (length (now run)) ⌝ }
-    ensures { λ r. ⌜ PartAdvanced (tree-at left (now (nodes .entry)) i) (now (hist .entry)) b env s t k a z (now (run .entry)) r (now (run .exit)) ⌝ }
+    ensures { λ r. ⌜ PartAdvanced (tree-at left (now (nodes .entry)) i) (now (history .entry)) flag env s t k a z (now (run .entry)) r (now (run .exit)) ⌝ }
 {
     let p = own_tick(env);
     if t != s {
@@ -49,7 +49,7 @@ fn advance_part(
             return h;
         }
     }
-    let o = advance(nodes, left, i, &mut run[a..z], hist, b, env, s, t);
+    let o = advance(nodes, left, i, &mut run[a..z], history, flag, env, s, t);
     store_outcome(run, k, p, o);
     o
 }
@@ -60,24 +60,24 @@ pub(crate) fn advance_position(
     left: usize,
     i: usize,
     slot: &mut [u32],
-    hist: &[u8],
-    b: u8,
+    history: &[u8],
+    flag: u8,
     env: Env,
     s: u64,
     t: u64,
     q: u64,
 ) -> Outcome
     requires { ⌜ SlotFit (tree-at left (now nodes) i) env t q (length (now slot)) ⌝ }
-    ensures { λ r. ⌜ PositionAdvanced (tree-at left (now (nodes .entry)) i) (now (hist .entry)) b env s t q (now (slot .entry)) r (now (slot .exit)) ⌝ }
+    ensures { λ r. ⌜ PositionAdvanced (tree-at left (now (nodes .entry)) i) (now (history .entry)) flag env s t q (now (slot .entry)) r (now (slot .exit)) ⌝ }
 {
     let start = outcomes::later(s, q);
     if t == start {
-        slot[1] = wide(byte_of(hist, b, t, q));
+        slot[1] = wide(byte_of(history, flag, t, q));
     }
     let c = (slot[1] % 256) as u8;
     let e = enter(env, q, c);
     let z = slot.len();
-    advance_part(nodes, left, i, slot, 0, 4, z, hist, b, e, start, t)
+    advance_part(nodes, left, i, slot, 0, 4, z, history, flag, e, start, t)
 }
 
 // Of n positions from `first` on, each in its slot of z words, those after the leading ones, all side by side, and `end` beside them.
@@ -86,8 +86,8 @@ fn walk_positions(
     left: usize,
     i: usize,
     run: &mut [u32],
-    hist: &[u8],
-    b: u8,
+    history: &[u8],
+    flag: u8,
     env: Env,
     s: u64,
     t: u64,
@@ -98,7 +98,7 @@ fn walk_positions(
     z: usize,
 ) -> Outcome
     requires { ⌜ WalkFit (tree-at left (now nodes) i) env t first leading n z (length (now run)) ⌝ }
-    ensures { λ r. ⌜ PositionsWalked (tree-at left (now (nodes .entry)) i) (now (hist .entry)) b env s t first leading n end z (now (run .entry)) r (now (run .exit)) ⌝ }
+    ensures { λ r. ⌜ PositionsWalked (tree-at left (now (nodes .entry)) i) (now (history .entry)) flag env s t first leading n end z (now (run .entry)) r (now (run .exit)) ⌝ }
 {
     let mut acc = end;
     let mut j = n;
@@ -111,8 +111,8 @@ fn walk_positions(
             left,
             i,
             &mut run[at..top],
-            hist,
-            b,
+            history,
+            flag,
             env,
             s,
             t,
@@ -129,14 +129,14 @@ fn advance_range(
     left: usize,
     i: usize,
     run: &mut [u32],
-    hist: &[u8],
-    b: u8,
+    history: &[u8],
+    flag: u8,
     env: Env,
     s: u64,
     t: u64,
 ) -> Outcome
     requires { ⌜ (i < length (now nodes)) × Fit (range-node (bound-at (now nodes) (i + 1)) (bound-at (now nodes) (i + 4)) (getD (now nodes) (i + 8) 0) (getD (now nodes) (i + 9) 0) (tree-at left (now nodes) (i + 12))) env t (length (now run)) ⌝ }
-    ensures { λ r. ⌜ Advanced (range-node (bound-at (now (nodes .entry)) (i + 1)) (bound-at (now (nodes .entry)) (i + 4)) (getD (now (nodes .entry)) (i + 8) 0) (getD (now (nodes .entry)) (i + 9) 0) (tree-at left (now (nodes .entry)) (i + 12))) (now (hist .entry)) b env s t (now (run .entry)) r (now (run .exit)) ⌝ }
+    ensures { λ r. ⌜ Advanced (range-node (bound-at (now (nodes .entry)) (i + 1)) (bound-at (now (nodes .entry)) (i + 4)) (getD (now (nodes .entry)) (i + 8) 0) (getD (now (nodes .entry)) (i + 9) 0) (tree-at left (now (nodes .entry)) (i + 12))) (now (history .entry)) flag env s t (now (run .entry)) r (now (run .exit)) ⌝ }
 {
     let z = node_word(nodes, i, 9) as usize;
     let pos = env.pos;
@@ -152,8 +152,8 @@ fn advance_range(
         left,
         i + 12,
         &mut run[4..],
-        hist,
-        b,
+        history,
+        flag,
         env,
         s,
         t,
@@ -174,22 +174,22 @@ fn advance_then(
     f: usize,
     g: usize,
     run: &mut [u32],
-    hist: &[u8],
-    b: u8,
+    history: &[u8],
+    flag: u8,
     env: Env,
     s: u64,
     t: u64,
 ) -> Outcome
     requires { ⌜ Fit (then-node (tree-at left (now nodes) f) (tree-at left (now nodes) g)) env t (length (now run)) ⌝ }
-    ensures { λ r. ⌜ Advanced (then-node (tree-at left (now (nodes .entry)) f) (tree-at left (now (nodes .entry)) g)) (now (hist .entry)) b env s t (now (run .entry)) r (now (run .exit)) ⌝ }
+    ensures { λ r. ⌜ Advanced (then-node (tree-at left (now (nodes .entry)) f) (tree-at left (now (nodes .entry)) g)) (now (history .entry)) flag env s t (now (run .entry)) r (now (run .exit)) ⌝ }
 {
     let z = run.len();
-    let o = advance_part(nodes, left, f, run, 0, 4, z, hist, b, env, s, t);
+    let o = advance_part(nodes, left, f, run, 0, 4, z, history, flag, env, s, t);
     match o {
         Outcome::Open => o,
         Outcome::Decided(v, d) => match v {
             Verdict::False => o,
-            Verdict::True => advance(nodes, left, g, &mut run[4..], hist, b, env, d, t),
+            Verdict::True => advance(nodes, left, g, &mut run[4..], history, flag, env, d, t),
         },
     }
 }
@@ -202,19 +202,19 @@ fn advance_beside(
     g: usize,
     w: usize,
     run: &mut [u32],
-    hist: &[u8],
-    b: u8,
+    history: &[u8],
+    flag: u8,
     env: Env,
     s: u64,
     t: u64,
 ) -> Outcome
     requires { ⌜ Fit (beside-node w (tree-at left (now nodes) f) (tree-at left (now nodes) g)) env t (length (now run)) ⌝ }
-    ensures { λ r. ⌜ Advanced (beside-node w (tree-at left (now (nodes .entry)) f) (tree-at left (now (nodes .entry)) g)) (now (hist .entry)) b env s t (now (run .entry)) r (now (run .exit)) ⌝ }
+    ensures { λ r. ⌜ Advanced (beside-node w (tree-at left (now (nodes .entry)) f) (tree-at left (now (nodes .entry)) g)) (now (history .entry)) flag env s t (now (run .entry)) r (now (run .exit)) ⌝ }
 {
     let z = run.len();
     let m = 4 + w;
-    let x = advance_part(nodes, left, f, run, 0, 4, m, hist, b, env, s, t);
-    let y = advance_part(nodes, left, g, run, 1, m, z, hist, b, env, s, t);
+    let x = advance_part(nodes, left, f, run, 0, 4, m, history, flag, env, s, t);
+    let y = advance_part(nodes, left, g, run, 1, m, z, history, flag, env, s, t);
     outcomes::both(x, y)
 }
 
@@ -224,33 +224,33 @@ fn advance(
     left: usize,
     i: usize,
     run: &mut [u32],
-    hist: &[u8],
-    b: u8,
+    history: &[u8],
+    flag: u8,
     env: Env,
     s: u64,
     t: u64,
 ) -> Outcome
     requires { ⌜ Fit (tree-at left (now nodes) i) env t (length (now run)) ⌝ }
-    ensures { λ r. ⌜ Advanced (tree-at left (now (nodes .entry)) i) (now (hist .entry)) b env s t (now (run .entry)) r (now (run .exit)) ⌝ }
+    ensures { λ r. ⌜ Advanced (tree-at left (now (nodes .entry)) i) (now (history .entry)) flag env s t (now (run .entry)) r (now (run .exit)) ⌝ }
 {
     if left == 0 {
         return flag_at(env, 0, 0, s);
     }
     let code = node_word(nodes, i, 0);
     if code == 2 {
-        return outcomes::opposite(advance(nodes, left - 1, i + 12, run, hist, b, env, s, t));
+        return outcomes::opposite(advance(nodes, left - 1, i + 12, run, history, flag, env, s, t));
     }
     if code == 3 {
         let g = node_word(nodes, i, 7) as usize;
-        return advance_then(nodes, left - 1, i + 12, g, run, hist, b, env, s, t);
+        return advance_then(nodes, left - 1, i + 12, g, run, history, flag, env, s, t);
     }
     if code == 4 {
         let g = node_word(nodes, i, 7) as usize;
         let w = node_word(nodes, i, 10) as usize;
-        return advance_beside(nodes, left - 1, i + 12, g, w, run, hist, b, env, s, t);
+        return advance_beside(nodes, left - 1, i + 12, g, w, run, history, flag, env, s, t);
     }
     if code == 5 {
-        return advance_range(nodes, left - 1, i, run, hist, b, env, s, t);
+        return advance_range(nodes, left - 1, i, run, history, flag, env, s, t);
     }
     let v = node_word(nodes, i, 1) as usize;
     let k = node_word(nodes, i, 2);

@@ -23,20 +23,20 @@ fn move_instance(
     nodes: &[u32],
     left: usize,
     run: &mut [u32],
-    hist: &[u8],
-    b: u8,
+    history: &[u8],
+    flag: u8,
     p: u64,
     t: u64,
 ) -> Outcome
     requires { ⌜ InstanceFit (tree-at left (now nodes) 0) t p (length (now run)) ⌝ }
-    ensures { λ r. ⌜ InstanceMoved (tree-at left (now (nodes .entry)) 0) (now (hist .entry)) b t p (now (run .entry)) r (now (run .exit)) ⌝ }
+    ensures { λ r. ⌜ InstanceMoved (tree-at left (now (nodes .entry)) 0) (now (history .entry)) flag t p (now (run .entry)) r (now (run .exit)) ⌝ }
 {
     let env = Env {
         n: 0,
         pos: [0u64; 5],
         byte: [0u8; 5],
     };
-    advance_position(nodes, left, 0, run, hist, b, env, p, t, p)
+    advance_position(nodes, left, 0, run, history, flag, env, p, t, p)
 }
 
 // One for an open outcome.
@@ -87,8 +87,8 @@ fn move_ticks(
     nodes: &[u32],
     left: usize,
     table: &mut [u32],
-    hist: &[u8],
-    b: u8,
+    history: &[u8],
+    flag: u8,
     report: &mut [u32],
     t: u64,
     low: u64,
@@ -97,7 +97,7 @@ fn move_ticks(
 ) -> Moved
     requires { ⌜ TicksFit (tree-at left (now nodes) 0) t n c (length (now table)) (length (now report)) ⌝ }
     requires { ⌜ low ≡ t + 1 - n ⌝ }
-    ensures { λ r. ⌜ TicksMoved (tree-at left (now (nodes .entry)) 0) n c (now (hist .entry)) b t low (now (table .entry)) (now (report .entry)) (r .reported) (r .live) (now (table .exit)) (now (report .exit)) ⌝ }
+    ensures { λ r. ⌜ TicksMoved (tree-at left (now (nodes .entry)) 0) n c (now (history .entry)) flag t low (now (table .entry)) (now (report .entry)) (r .reported) (r .live) (now (table .exit)) (now (report .exit)) ⌝ }
     ensures { λ r. ⌜ Spared n (n * c) (now (table .entry)) (now (report .entry)) (r .reported) (r .live) (now (table .exit)) (now (report .exit)) ⌝ }
 {
     let mut p = low;
@@ -107,7 +107,7 @@ fn move_ticks(
         let j = (p % n) as usize;
         let at = j * c;
         let end = at + c;
-        let o = move_instance(nodes, left, &mut table[at..end], hist, b, p, t);
+        let o = move_instance(nodes, left, &mut table[at..end], history, flag, p, t);
         reported = report_if_false(report, reported, o, t, p as u32);
         live = live + one_if_open(o);
         p = p + 1;
@@ -115,19 +115,19 @@ fn move_ticks(
     Moved { reported, live }
 }
 
-// Moves all instances of the rule whose node table is `nodes` to tick t, whose flag byte is b. The history still holds the ticks before t: the
-// caller stores b afterwards.
+// Moves all instances of the rule whose node table is `nodes` to tick t, whose flag byte is given. The history still holds the ticks before
+// t: the caller stores the flag byte afterwards.
 pub(crate) fn move_instances(
     nodes: &[u32; 768],
     figures: Figures,
     table: &mut [u32],
-    hist: &[u8],
-    b: u8,
+    history: &[u8],
+    flag: u8,
     report: &mut [u32],
     t: u64,
 ) -> Moved
     requires { ⌜ InstancesFit (now nodes) figures t (length (now table)) (length (now report)) ⌝ }
-    ensures { λ r. ⌜ InstancesMoved (now (nodes .entry)) figures (now (hist .entry)) b t (now (table .entry)) (r .reported) (r .live) (now (table .exit)) (now (report .exit)) ⌝ }
+    ensures { λ r. ⌜ InstancesMoved (now (nodes .entry)) figures (now (history .entry)) flag t (now (table .entry)) (r .reported) (r .live) (now (table .exit)) (now (report .exit)) ⌝ }
     ensures { λ r. ⌜ Spared (figures .delay + 1) (4 * figures .cells) (now (table .entry)) (now (report .entry)) (r .reported) (r .live) (now (table .exit)) (now (report .exit)) ⌝ }
 {
     let n = figures.delay + 1;
@@ -136,8 +136,8 @@ pub(crate) fn move_instances(
         nodes,
         64,
         table,
-        hist,
-        b,
+        history,
+        flag,
         report,
         t,
         oldest_tick(t, n),

@@ -18,7 +18,7 @@ returns : tie.Need-returns
 returns c =
     let s₀ = c .before .before .before .before .before .before .before in
     let moved = c .before .before .advance-position in
-    moved-of (tree-at (s₀ .args .left) (s₀ .args .nodes .now) 0) (s₀ .args .hist .now) (s₀ .args .b) (s₀ .args .t) (s₀ .args .p) _ _ (s₀ .args .run .now) (moved .last .1 .1 .1 .0) (moved .result) (moved .ensures)
+    moved-of (tree-at (s₀ .args .left) (s₀ .args .nodes .now) 0) (s₀ .args .history .now) (s₀ .args .flag) (s₀ .args .t) (s₀ .args .p) _ _ (s₀ .args .run .now) (moved .last .1 .1 .1 .0) (moved .result) (moved .ensures)
 
 pub move-instance-spec : {M : Type 1} → statement M
 move-instance-spec = tie.close (tie.spec advance-position-requires same-length returns)

@@ -44,7 +44,7 @@ returns c =
     let report = s₀ .args .report .now in
     let moved = c .before .before .before .before .move-ticks in
     let oldest = c .before .before .before .before .before .oldest-tick in (
-      rule-moved nodes f _ (s₀ .args .hist .now) (s₀ .args .b) (s₀ .args .t) (oldest .result) table report (moved .result .reported) (moved .result .live) (moved .last .1 .1 .0) (moved .last .1 .1 .1 .1 .1 .0)
+      rule-moved nodes f _ (s₀ .args .history .now) (s₀ .args .flag) (s₀ .args .t) (oldest .result) table report (moved .result .reported) (moved .result .live) (moved .last .1 .1 .0) (moved .last .1 .1 .1 .1 .1 .0)
           refl (oldest .ensures) (s₀ .pre .table) (moved .kept .1 .1 .0) (moved .ensures .0),
       rule-spares nodes f (s₀ .args .t) (length table) (length report) table report (moved .result .reported) (moved .result .live) (moved .last .1 .1 .0) (moved .last .1 .1 .1 .1 .1 .0) (s₀ .pre) (moved .ensures .1),
     )

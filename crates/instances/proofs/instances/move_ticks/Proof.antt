@@ -19,7 +19,7 @@ abbrev μ-loop : tie.MeasureT-loop
 loop-holds : tie.Need-loop-holds Inv-loop μ-loop
 loop-holds c =
     let s₀ = c .before .before .before .before in
-    until-none (tree-at (s₀ .args .left) (s₀ .args .nodes .now) 0) (s₀ .args .n) (s₀ .args .c) (s₀ .args .hist .now) (s₀ .args .b) (s₀ .args .t) (s₀ .args .low) (s₀ .args .table .now) (s₀ .args .report .now) (s₀ .pre .1)
+    until-none (tree-at (s₀ .args .left) (s₀ .args .nodes .now) 0) (s₀ .args .n) (s₀ .args .c) (s₀ .args .history .now) (s₀ .args .flag) (s₀ .args .t) (s₀ .args .low) (s₀ .args .table .now) (s₀ .args .report .now) (s₀ .pre .1)
 
 rem-j : tie.Need-rem-j Inv-loop μ-loop
 rem-j c = search needs
@@ -101,7 +101,7 @@ loop-again c =
     let now = c .before .before .before .before .before .before .before .before .before .before .loop in
     let moved = c .before .before .before .before .before .before .before .move-instance in
     let wrote = c .before .before .before .report-if-false in
-    until-more (tree-at (s₀ .args .left) (s₀ .args .nodes .now) 0) (s₀ .args .n) (s₀ .args .c) (s₀ .args .hist .now) (s₀ .args .b) (s₀ .args .t) (s₀ .args .low) (s₀ .args .table .now) (s₀ .args .report .now)
+    until-more (tree-at (s₀ .args .left) (s₀ .args .nodes .now) 0) (s₀ .args .n) (s₀ .args .c) (s₀ .args .history .now) (s₀ .args .flag) (s₀ .args .t) (s₀ .args .low) (s₀ .args .table .now) (s₀ .args .report .now)
     (s₀ .pre .1) (s₀ .pre .0 .some) (s₀ .pre .0 .table) (s₀ .pre .0 .report)
     (now .p) (now .reported) (now .live) (now .table) (now .report) (moved .result) (moved .last .1 .1 .0) (wrote .result) (c .one-if-open .result) (wrote .last .0)
     (c .before .before .before .before .before .before .before .before .before .loop-test .taken) (moved .kept .1 .1 .0) (wrote .kept .0) (moved .ensures) (wrote .ensures .0) (wrote .ensures .1) (c .one-if-open .ensures) (now .inv)
@@ -116,7 +116,7 @@ returns : tie.Need-returns Inv-loop μ-loop
 returns c =
     let s₀ = c .before .before .before .before .before .before in
     let now = c .before .loop in
-    until-all (tree-at (s₀ .args .left) (s₀ .args .nodes .now) 0) (s₀ .args .n) (s₀ .args .c) (s₀ .args .hist .now) (s₀ .args .b) (s₀ .args .t) (s₀ .args .low) (s₀ .args .table .now) (s₀ .args .report .now)
+    until-all (tree-at (s₀ .args .left) (s₀ .args .nodes .now) 0) (s₀ .args .n) (s₀ .args .c) (s₀ .args .history .now) (s₀ .args .flag) (s₀ .args .t) (s₀ .args .low) (s₀ .args .table .now) (s₀ .args .report .now)
     (s₀ .pre .1) (s₀ .pre .0 .some) (s₀ .pre .0 .table) (s₀ .pre .0 .report)
     (now .p) (now .reported) (now .live) (now .table) (now .report) (omega (arith, c .loop-test .left)) (now .inv)
 

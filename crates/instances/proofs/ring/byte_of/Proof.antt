@@ -12,7 +12,7 @@ returns : tie.Need-returns
 returns c = simp (eq-eqb _ _ (c .if1 .taken))
 
 returns-2 : tie.Need-returns-2
-returns-2 c = simp (ne-eqb _ _ (c .before .if1 .left)) (sym (List·getD-eq-default (c .before .before .args .hist .now) 0 (omega (arith, c .if2 .taken))))
+returns-2 c = simp (ne-eqb _ _ (c .before .if1 .left)) (sym (List·getD-eq-default (c .before .before .args .history .now) 0 (omega (arith, c .if2 .taken))))
 
 rem-at : tie.Need-rem-at
 rem-at c = search needs

@@ -14,13 +14,13 @@ set-none [] i x h = refl
 set-none (y ∷ l) i x h = absurd (omega arith)
 
 returns : tie.Need-returns
-returns c = set-none (c .before .args .hist .now) _ (c .before .args .b) (c .if1 .taken)
+returns c = set-none (c .before .args .history .now) _ (c .before .args .flag) (c .if1 .taken)
 
 rem-at : tie.Need-rem-at
 rem-at c = search needs
 
-slice-write-hist : tie.Need-slice-write-hist
-slice-write-hist c = mod-lt (c .before .args .t) (omega (arith, c .if1 .left))
+slice-write-history : tie.Need-slice-write-history
+slice-write-history c = mod-lt (c .before .args .t) (omega (arith, c .if1 .left))
 
 same-length : tie.Need-same-length
 same-length c = search needs
@@ -29,4 +29,4 @@ returns-2 : tie.Need-returns-2
 returns-2 c = refl
 
 pub remember-spec : {M : Type 1} → statement M
-remember-spec = tie.close (tie.spec returns rem-at slice-write-hist same-length returns-2)
+remember-spec = tie.close (tie.spec returns rem-at slice-write-history same-length returns-2)
