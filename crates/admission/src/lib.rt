@@ -1,10 +1,9 @@
 // Which openings and steps are refused, and with which number: 17 to 21, in 01's order.
 ghost use mathlib.Core.Path.{_≡_};
-ghost use Prim.Native.Nat.{_≤_};
 ghost use Rattle.refusal.specs.Answer.{and-then};
 ghost use Rattle.rule.specs.Figures.{body-figures};
 ghost use Rattle.figures.specs.Prepared.{told};
-ghost use Rattle.demand.specs.Contract.{room, fit-lengths, must};
+ghost use Rattle.demand.specs.Contract.{room, fit-lengths};
 ghost use Rattle.admission.specs.Admitted.{Small, fit-for, Admitted};
 use figures::FigureAnswer;
 use refusal::Refusal;

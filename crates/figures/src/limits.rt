@@ -1,6 +1,6 @@
 // Numbers with a sign and infinite ones: 01's N(u), N(k - l) and W; and cells, whose sums and products stop at 4,097.
 ghost use mathlib.Core.Path.{_≡_};
-ghost use Prim.Native.Nat.{_+_, _*_, _≤_, min, max};
+ghost use Prim.Native.Nat.{_≤_, min, max};
 ghost use lib.IntN.{natAbs, pos, _+ℤ_, _-ℤ_};
 ghost use Rattle.rule.specs.Figures.{shift, N, N-back, positions-from, larger};
 ghost use Rattle.figures.specs.Capped.{cap, Near, Modest, add, mul};

@@ -5,7 +5,7 @@ ghost use Prim.Native.Nat.{_+_, _*_, _≤_};
 ghost use lib.ListN.{set};
 ghost use Rattle.rule.specs.Figures.{N, larger, width, at-tick};
 ghost use Rattle.rule.specs.declared.Size.the-variants.{Finite};
-ghost use Rattle.figures.specs.Capped.{cap, inside, Near, Modest, flag-figure, then-figure, beside-figure, range-figure, Ready};
+ghost use Rattle.figures.specs.Capped.{cap, Near, Modest, flag-figure, then-figure, beside-figure, range-figure, Ready};
 ghost use Rattle.figures.specs.Measured.{Measures, Promise};
 use crate::limits::larger_number;
 use crate::limits::larger_size;

@@ -2,7 +2,6 @@
 ghost use mathlib.Core.Path.{_≡_};
 ghost use Prim.Native.Nat.{_<_};
 ghost use lib.ListN.{getD};
-ghost use Rattle.rule.specs.declared.Outcome.{Outcome};
 ghost use Rattle.instances.specs.Calls.{entered, flagged};
 use rule::Outcome;
 

@@ -1,5 +1,4 @@
 // One tick of a rule: refused, or all its instances moved.
-ghost use mathlib.Core.Path.{_≡_};
 ghost use Rattle.instances.specs.Taking.{TickPromise};
 use crate::instances::move_instances;
 use figures::FigureAnswer;

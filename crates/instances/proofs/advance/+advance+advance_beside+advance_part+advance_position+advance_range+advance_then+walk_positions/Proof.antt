@@ -1,6 +1,6 @@
 -- The cycle of calls that moves one formula by one tick. Each answer is one lemma about plain lists, outcomes and numbers.
 use Prim.Native.Nat.{ℕ, _<_, _≤_, _+_, _*_, _-_, _%_}
-use mathlib.Core.Logic.{_⊎_, inl, inr, ⊎-elim}
+use mathlib.Core.Logic.{inl, inr, ⊎-elim}
 use mathlib.Core.Path.{_≡_, refl, sym, ap, subst, _∙_}
 use lib.ListN.{length, length-set, getD, take, drop}
 use native.Mathlib.Omega.{arith}
