@@ -2,7 +2,7 @@
 use Prim.Native.Nat.{ℕ, suc, _+_, _*_, _%_, _≤_, _<_}
 use mathlib.Core.Path.{_≡_, refl, sym, ap, subst, _∙_}
 use mathlib.Core.Logic.{_⊎_, inl, inr, _≢_}
-use mathlib.Core.Bool.{Bool, true, false, not, cond}
+use mathlib.Core.Bool.{Bool, true, false}
 use mathlib.Core.List.{List, [], _∷_, _++_, append-assoc}
 use native.Mathlib.Nat.{add-zero, zero-add}
 use native.Mathlib.Omega.{arith}
@@ -11,21 +11,20 @@ use lib.ListN.{length, take, drop, set, length-append, length-set, length-take, 
 use lib.Seq.{take-take, take-append-le, getD-append-seam}
 use borrow.Author.Tests.{leb-true, leb-false, eqb-true, eqb-false, le-leb}
 use Rattle.refusal.specs.Answer.{Answer, refused, accepted, and-then}
-use Rattle.sheet.specs.Sheet.{rule-body}
 use Rattle.rule.specs.Formula.{Formula}
 use Rattle.rule.specs.declared.Outcome.{Outcome}
 use Rattle.rule.specs.declared.Outcome.the-variants.{Decided, Open}
 use Rattle.rule.specs.declared.Figures.{Figures}
 use Rattle.rule.specs.Meaning.{rule}
 use Rattle.rule.specs.Recording.{recorded}
-use Rattle.rule.specs.Figures.{figures, body-figures}
+use Rattle.rule.specs.Figures.{body-figures}
 use Rattle.rule.specs.Steps.{is-open}
 use Rattle.rule.proofs.Delay.{By, rule-decided}
 use Rattle.rule.proofs.Limits.{sizes}
 use Rattle.demand.proofs.Admission.{clash, opening-admitted}
 use Rattle.demand.proofs.Ring.{kept-next}
 use Rattle.demand.specs.Contract.{State, Opening, Taken, Step, must, room, admit-opening, fit-lengths, fit, as-21, admit-lengths, admit-step, Kept, Standing, Opened, Means, Takes, Unchanged, Stepped}
-use Rattle.demand.specs.Demand.{Call, step, write, state-after, ticks-after, added, stream, Run, done, stepped, strayed, wrote, Refused, Unfit, Refusal, Report, Due, Demand-3, Acceptable, Demanded-of, Demanded}
+use Rattle.demand.specs.Demand.{Call, step, write, state-after, ticks-after, added, stream, Run, done, stepped, strayed, wrote, Refused, Unfit, Refusal, Report, Due, Demand-3, Acceptable, Demanded}
 use Rattle.demand.proofs.Whole.{whole}
 
 -- ---- tests and answers

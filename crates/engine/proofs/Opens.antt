@@ -1,13 +1,13 @@
 -- Opening keeps its promise, by what its parts answered.
-use Prim.Native.Nat.{ℕ, _*_, _≤_}
+use Prim.Native.Nat.{ℕ, _≤_}
 use mathlib.Core.Path.{_≡_, refl, sym, ap, subst, _∙_}
-use mathlib.Core.List.{List, []}
+use mathlib.Core.List.{List}
 use native.Mathlib.Omega.{arith}
-use lib.ListN.{length, replicate}
+use lib.ListN.{length}
 use Rattle.refusal.specs.declared.Refusal.{Refusal}
-use Rattle.refusal.specs.Answer.{Answer, refused, accepted, and-then}
+use Rattle.refusal.specs.Answer.{refused, accepted, and-then}
 use Rattle.refusal.specs.Numbers.{number-of}
-use Rattle.sheet.specs.Sheet.{Place, rule-place, rule-body, body-part, found}
+use Rattle.sheet.specs.Sheet.{rule-place, rule-body, body-part, found}
 use Rattle.sheet.specs.declared.reader.Found.{Found}
 use Rattle.sheet.specs.declared.reader.Found.the-variants as place
 use Rattle.sheet.proofs.Bodies.{body-size}
@@ -16,7 +16,7 @@ use Rattle.rule.specs.Figures.{body-figures}
 use Rattle.figures.specs.declared.answer.FigureAnswer.{FigureAnswer}
 use Rattle.figures.specs.declared.answer.FigureAnswer.the-variants as sized
 use Rattle.figures.specs.Prepared.{told}
-use Rattle.demand.specs.Contract.{Opening, room, admit-opening, Opens, Opened}
+use Rattle.demand.specs.Contract.{room, Opened}
 use Rattle.instances.specs.Taking.{StandsFor}
 use Rattle.instances.proofs.Rules.{stand-at-start}
 use Rattle.engine.specs.declared.opening.OpenAnswer.{OpenAnswer}
@@ -24,7 +24,7 @@ use Rattle.engine.specs.declared.opening.OpenAnswer.the-variants as answ
 use Rattle.engine.specs.declared.opening.OpenResult.{OpenResult}
 use Rattle.engine.specs.declared.state.State as code
 use Rattle.engine.specs.States.{state-of, fresh-state, fresh-code, blank-code}
-use Rattle.engine.specs.Promises.{Stands, open-answer, opening-call, Blank, OpenPromise, BodyOpenedBy, BodyOpened}
+use Rattle.engine.specs.Promises.{Stands, OpenPromise, BodyOpenedBy, BodyOpened}
 use Rattle.engine.proofs.States.{fresh-is, blank-is}
 
 -- ---- opening the rule with a body

@@ -1,29 +1,27 @@
 -- A step keeps its promise, by what its parts answered.
-use Prim.Native.Nat.{ℕ, suc, _+_, _*_, _%_, _≤_, _<_}
+use Prim.Native.Nat.{ℕ, _*_, _%_, _≤_, _<_}
 use mathlib.Core.Path.{_≡_, refl, sym, ap, subst, _∙_}
-use mathlib.Core.Bool.{Bool, true, false, cond}
+use mathlib.Core.Bool.{Bool, true, false}
 use mathlib.Core.List.{List, []}
 use native.Mathlib.Omega.{arith}
 use lib.Dec.{leb}
-use lib.ListN.{length, take, drop, set}
+use lib.ListN.{length, take, set}
 use borrow.Author.Tests.{le-leb, lt-leb}
 use Rattle.refusal.specs.declared.Refusal.{Refusal}
 use Rattle.refusal.specs.declared.Refusal.the-variants.{StateNotOpened}
-use Rattle.refusal.specs.Answer.{Answer, refused, accepted, and-then}
-use Rattle.refusal.specs.Numbers.{number-of}
+use Rattle.refusal.specs.Answer.{refused, and-then}
 use Rattle.rule.specs.declared.Figures.{Figures}
-use Rattle.rule.specs.Formula.{Formula}
 use Rattle.rule.specs.Body.{require, head, parts, formula, formula-at, whole, body}
 use Rattle.rule.specs.Figures.{body-figures}
-use Rattle.demand.specs.Contract.{State, Taken, Step, must, as-21, admit-lengths, Kept, Means, Takes, Stepped}
+use Rattle.demand.specs.Contract.{State, Taken, must, as-21, admit-lengths}
 use Rattle.demand.proofs.Admission.{StepAdmitted, step-admitted}
 use Rattle.instances.specs.declared.taking.Taking.{Taking}
 use Rattle.instances.specs.declared.taking.Taking.the-variants as taking
-use Rattle.instances.specs.Taking.{TickMeans, TickTaken, TickPromise}
+use Rattle.instances.specs.Taking.{TickPromise}
 use Rattle.engine.specs.declared.state.State as code
 use Rattle.engine.specs.declared.stepping.StepAnswer.the-variants as answer
 use Rattle.engine.specs.States.{state-of, next-state, next-code}
-use Rattle.engine.specs.Promises.{Stands, step-call, StepPromise}
+use Rattle.engine.specs.Promises.{Stands, StepPromise}
 use Rattle.engine.proofs.States.{next-is}
 
 -- No body is no rule: 21, whatever else is brought.

@@ -1,11 +1,8 @@
 -- Opening and step on state bytes keep their promises, by what the engine answered.
 -- Assumes nothing.
-use Prim.Native.Nat.{ℕ, zero, suc, _+_, _*_, _≤_, _<_}
+use Prim.Native.Nat.{ℕ, suc, _*_, _≤_, _<_}
 use mathlib.Core.Path.{_≡_, refl, sym, ap, subst, _∙_}
-use mathlib.Core.Bool.{Bool, true, false}
 use mathlib.Core.List.{List}
-use native.Mathlib.Omega.{arith}
-use lib.Dec.{leb}
 use lib.ListN.{length, take}
 use borrow.Author.Tests.{le-leb, lt-leb}
 use Rattle.refusal.specs.declared.Refusal.{Refusal}
@@ -15,7 +12,7 @@ use Rattle.refusal.specs.Numbers.{number-of}
 use Rattle.sheet.specs.Sheet.{rule-body, body-part}
 use Rattle.sheet.proofs.Bodies.{body-size}
 use Rattle.rule.specs.declared.Figures.{Figures}
-use Rattle.demand.specs.Contract.{State, Opening, Taken, Step, must, admit-lengths, Opens, Opened, Takes, Stepped}
+use Rattle.demand.specs.Contract.{State, Taken, must, admit-lengths, Opened, Stepped}
 use Rattle.engine.specs.declared.state.State as code
 use Rattle.engine.specs.declared.opening.OpenAnswer.{OpenAnswer}
 use Rattle.engine.specs.declared.opening.OpenAnswer.the-variants as opens
@@ -24,12 +21,12 @@ use Rattle.engine.specs.declared.stepping.StepAnswer.{StepAnswer}
 use Rattle.engine.specs.declared.stepping.StepAnswer.the-variants as steps
 use Rattle.engine.specs.declared.stepping.StepResult.{StepResult}
 use Rattle.engine.specs.States.{state-of, fresh-state, next-state}
-use Rattle.engine.specs.Promises.{Stands, open-answer, opening-call, OpenPromise, step-call, StepPromise}
+use Rattle.engine.specs.Promises.{Stands, open-answer, OpenPromise, StepPromise}
 use Rattle.engine.specs.Promises as engine
 use Rattle.exports.specs.Answers.{answered, KeptIfRefused}
 use Rattle.exports.specs.Numbers.{number-at}
 use Rattle.exports.specs.States.{loaded, state-in, fresh-bytes, next-bytes}
-use Rattle.exports.specs.Calls.{opening, LentOpening, admit-bytes, LentStepped, LentStep, taken-as, step-with, step-answer}
+use Rattle.exports.specs.Calls.{opening, LentOpening, admit-bytes, LentStep, taken-as, step-with, step-answer}
 use Rattle.exports.proofs.States.{fresh-read, next-read}
 
 -- No refusal has the number 0, which is the answer of a call that is not refused.

@@ -1,17 +1,14 @@
 -- Demand 3 of the C functions: one theorem about every list of calls of sw_step and sw_steps after a call of sw_open (specs/Lists.antt states it;
 -- docs/DEMAND-3.md walks through it). Assumes nothing.
 use Prim.Native.Nat.{ℕ, zero, suc, _≤_}
-use mathlib.Core.Path.{_≡_, refl, sym, ap, subst, _∙_}
+use mathlib.Core.Path.{refl, sym, ap, _∙_}
 use mathlib.Core.List.{List}
 use native.Mathlib.Omega.{arith}
 use lib.ListN.{length}
-use Rattle.refusal.specs.Answer.{Answer, refused, accepted}
-use Rattle.demand.specs.Contract.{State, Opening, Opened}
+use Rattle.demand.specs.Contract.{State, Opening}
 use Rattle.demand.specs.Demand as demand
 use Rattle.demand.proofs.Admission.{clash}
 use Rattle.engine.proofs.Demand3.{theorem}
-use Rattle.engine.specs.Promises.{Stands}
-use Rattle.exports.specs.Answers.{answered}
 use Rattle.exports.specs.Numbers.{number-at}
 use Rattle.exports.specs.States.{state-in}
 use Rattle.exports.specs.Calls.{opening, LentOpening}

@@ -3,20 +3,20 @@
 use Prim.Native.Nat.{ℕ, suc, _+_, _≤_}
 use mathlib.Core.Path.{_≡_, refl, sym, ap, subst, _∙_}
 use mathlib.Core.Bool.{Bool, true, false}
-use mathlib.Core.List.{List, [], _∷_, _++_, append-nil}
+use mathlib.Core.List.{List, [], _++_, append-nil}
 use native.Mathlib.Omega.{arith}
 use lib.Dec.{leb}
 use lib.ListN.{length, take, drop, length-take, take-append-drop, drop-of-length-le}
 use lib.Seq.{take-all, take-at, drop-at, length-take-le}
 use borrow.Author.Tests.{leb-true, leb-false}
-use Rattle.demand.specs.Contract.{State, Step}
-use Rattle.demand.specs.Demand.{Call, state-after, ticks-after, Run, done, stepped, strayed, wrote}
+use Rattle.demand.specs.Contract.{State}
+use Rattle.demand.specs.Demand.{Call, ticks-after, Run, done, stepped, strayed, wrote}
 use Rattle.engine.specs.Promises.{Stands}
 use Rattle.exports.specs.Numbers.{number-at}
 use Rattle.exports.specs.States.{state-in}
 use Rattle.exports.specs.Batch.{Chain, none, more}
 use Rattle.exports.specs.Lists.{with-steps, LentRun, nothing, one-step, stray-step, batch, batch-refused, written}
-use Rattle.exports.proofs.Steps.{step-is-one, still-low, Same, chain-same}
+use Rattle.exports.proofs.Steps.{step-is-one, still-low, chain-same}
 
 -- Cells that took the place of a table's first n words.
 module _ (n : ℕ) (table cells : List ℕ) (same : length cells ≡ length (take n table)) where

@@ -6,7 +6,7 @@ use mathlib.Core.List.{List, [], _∷_, _++_, append-nil}
 use native.Mathlib.Nat.{add-zero, add-suc}
 use native.Mathlib.Omega.{arith}
 use lib.ListN.{length, getD, take, drop, set, length-drop, take-append-drop}
-use lib.Seq.{take-nil, drop-nil, drop-drop, take-suc-set, drop-set-lt, append-snoc, take-all, drop-at, drop-append-le, take-append-le}
+use lib.Seq.{take-nil, drop-drop, take-suc-set, drop-set-lt, append-snoc, take-all, drop-at, drop-append-le, take-append-le}
 use Rattle.sheet.specs.Writing.{splice}
 use Rattle.exports.specs.Numbers.{value, digits, number-at}
 

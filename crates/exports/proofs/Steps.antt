@@ -1,7 +1,7 @@
 -- Each call of sw_open and sw_step is one of those that the theorem about whole lists (crates/engine/proofs/Demand3.antt) speaks of; what no step of a
 -- batch changes; and a batch after its first step ends early only where the report or the ticks are used up.
 -- Assumes nothing.
-use Prim.Native.Nat.{ℕ, suc, _+_, _*_, _≤_}
+use Prim.Native.Nat.{ℕ, _+_, _*_, _≤_}
 use mathlib.Core.Path.{_≡_, refl, sym, ap, subst, _∙_}
 use mathlib.Core.Bool.{Bool, true, false, not}
 use mathlib.Core.List.{List}
@@ -11,8 +11,7 @@ use lib.ListN.{length, length-set}
 use borrow.Author.Tests.{le-leb, eq-eqb, eqb-true}
 use Rattle.refusal.specs.Answer.{Answer, refused, accepted, and-then}
 use Rattle.rule.specs.declared.Figures.{Figures}
-use Rattle.rule.specs.Body.{body}
-use Rattle.rule.specs.Figures.{figures, body-figures}
+use Rattle.rule.specs.Figures.{body-figures}
 use Rattle.demand.specs.Contract.{State, Opening, Taken, Step, must, as-21, fit-lengths, admit-lengths, Opened, Stepped}
 use Rattle.demand.specs.Demand.{state-after}
 use Rattle.demand.proofs.Admission.{StepAdmitted}

@@ -17,6 +17,11 @@ use crate::limits::times;
 use crate::scope::Scope;
 use crate::scope::range_pair;
 use crate::scope::with_pair;
+use nodes::CODE;
+use nodes::FIRST_WORDS;
+use nodes::SECOND_PART;
+use nodes::SLOT_WORDS;
+use nodes::WIDTH;
 use nodes::node_word;
 use rule::Limit;
 use rule::Pair;
@@ -114,8 +119,8 @@ fn store_range(nodes: &mut [u32], i: usize, r: Pair, c: u64)
 {
     let l = r.lower;
     let u = r.upper;
-    store(nodes, i, 8, range_width(l, u));
-    store(nodes, i, 9, 4 * (1 + c));
+    store(nodes, i, WIDTH, range_width(l, u));
+    store(nodes, i, SLOT_WORDS, 4 * (1 + c));
 }
 
 // The figures of the formula at word i, inside m quantifiers and started at `start` at the latest, with the sizes of its nodes stored.
@@ -133,22 +138,22 @@ fn measure_at(
     if left == 0 {
         return flag_figure();
     }
-    let code = node_word(nodes, i, 0);
+    let code = node_word(nodes, i, CODE);
     if code == 2 {
         return measure_at(nodes, left - 1, m, i + 12, scope, start);
     }
     if code == 3 {
-        let j = node_word(nodes, i, 7) as usize;
+        let j = node_word(nodes, i, SECOND_PART) as usize;
         let f = measure_at(nodes, left - 1, m, i + 12, scope, start);
         let d = f.delay;
         let g = measure_at(nodes, left - 1, m, j, scope, larger_size(start, d));
         return then_figure(f, g);
     }
     if code == 4 {
-        let j = node_word(nodes, i, 7) as usize;
+        let j = node_word(nodes, i, SECOND_PART) as usize;
         let f = measure_at(nodes, left - 1, m, i + 12, scope, start);
         let g = measure_at(nodes, left - 1, m, j, scope, start);
-        store(nodes, i, 10, 4 * f.cells);
+        store(nodes, i, FIRST_WORDS, 4 * f.cells);
         return beside_figure(f, g);
     }
     if code == 5 {

@@ -14,6 +14,12 @@ use crate::env::own_tick;
 use crate::head::load_head;
 use crate::head::store_head;
 use crate::ring::byte_of;
+use nodes::CODE;
+use nodes::FIRST_WORDS;
+use nodes::FLAG;
+use nodes::SECOND_PART;
+use nodes::SLOT_WORDS;
+use nodes::VARIABLE;
 use nodes::node_word;
 use rule::Outcome;
 use rule::Verdict;
@@ -138,7 +144,7 @@ fn advance_range(
     requires { ⌜ (i < length (now nodes)) × Fit (range-node (bound-at (now nodes) (i + 1)) (bound-at (now nodes) (i + 4)) (getD (now nodes) (i + 8) 0) (getD (now nodes) (i + 9) 0) (tree-at left (now nodes) (i + 12))) env t (length (now run)) ⌝ }
     ensures { λ r. ⌜ Advanced (range-node (bound-at (now (nodes .entry)) (i + 1)) (bound-at (now (nodes .entry)) (i + 4)) (getD (now (nodes .entry)) (i + 8) 0) (getD (now (nodes .entry)) (i + 9) 0) (tree-at left (now (nodes .entry)) (i + 12))) (now (history .entry)) flag env s t (now (run .entry)) r (now (run .exit)) ⌝ }
 {
-    let z = node_word(nodes, i, 9) as usize;
+    let z = node_word(nodes, i, SLOT_WORDS) as usize;
     let pos = env.pos;
     let span = ranges::range_at(nodes, i, pos);
     let plan = ranges::plan_up_to(span, t, s);
@@ -236,23 +242,23 @@ fn advance(
     if left == 0 {
         return flag_at(env, 0, 0, s);
     }
-    let code = node_word(nodes, i, 0);
+    let code = node_word(nodes, i, CODE);
     if code == 2 {
         return outcomes::opposite(advance(nodes, left - 1, i + 12, run, history, flag, env, s, t));
     }
     if code == 3 {
-        let g = node_word(nodes, i, 7) as usize;
+        let g = node_word(nodes, i, SECOND_PART) as usize;
         return advance_then(nodes, left - 1, i + 12, g, run, history, flag, env, s, t);
     }
     if code == 4 {
-        let g = node_word(nodes, i, 7) as usize;
-        let w = node_word(nodes, i, 10) as usize;
+        let g = node_word(nodes, i, SECOND_PART) as usize;
+        let w = node_word(nodes, i, FIRST_WORDS) as usize;
         return advance_beside(nodes, left - 1, i + 12, g, w, run, history, flag, env, s, t);
     }
     if code == 5 {
         return advance_range(nodes, left - 1, i, run, history, flag, env, s, t);
     }
-    let v = node_word(nodes, i, 1) as usize;
-    let k = node_word(nodes, i, 2);
+    let v = node_word(nodes, i, VARIABLE) as usize;
+    let k = node_word(nodes, i, FLAG);
     flag_at(env, v, k, s)
 }

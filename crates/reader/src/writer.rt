@@ -48,5 +48,5 @@ pub(crate) fn write_second(nodes: &mut [u32], i: usize, rest: usize)
     requires { ⌜ (rest ≤ 64) × (i + 12 ≤ length (now nodes)) ⌝ }
     ensures { λ _. ⌜ now (nodes .exit) ≡ set (now (nodes .entry)) (i + 7) (place rest) ⌝ }
 {
-    nodes[i + 7] = 12 * (64 - rest as u32);
+    nodes[i + nodes::SECOND_PART] = 12 * (64 - rest as u32);
 }

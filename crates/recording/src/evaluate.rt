@@ -10,6 +10,11 @@ ghost use Rattle.recording.specs.Evaluating.{places, settled, forall-in,
 use crate::env::Env;
 use crate::env::enter;
 use crate::env::position;
+use nodes::CODE;
+use nodes::FLAG;
+use nodes::SECOND_PART;
+use nodes::VARIABLE;
+use nodes::node_word;
 use rule::Outcome;
 use rule::Verdict;
 
@@ -59,13 +64,13 @@ pub(crate) fn evaluate(
     if left == 0 {
         return flag_at(recording, env, 0, 0, s);
     }
-    let code = nodes::node_word(nodes, i, 0);
+    let code = node_word(nodes, i, CODE);
     if code == 2 {
         return outcomes::opposite(evaluate(nodes, left - 1, i + 12, recording, t, env, s));
     }
     if code == 3 {
         let first = evaluate(nodes, left - 1, i + 12, recording, t, env, s);
-        let second = nodes::node_word(nodes, i, 7) as usize;
+        let second = node_word(nodes, i, SECOND_PART) as usize;
         return match first {
             Outcome::Decided(v, d) => match v {
                 Verdict::True => evaluate(nodes, left - 1, second, recording, t, env, d),
@@ -76,15 +81,15 @@ pub(crate) fn evaluate(
     }
     if code == 4 {
         let first = evaluate(nodes, left - 1, i + 12, recording, t, env, s);
-        let second = nodes::node_word(nodes, i, 7) as usize;
+        let second = node_word(nodes, i, SECOND_PART) as usize;
         let other = evaluate(nodes, left - 1, second, recording, t, env, s);
         return outcomes::both(first, other);
     }
     if code == 5 {
         return walk_range(nodes, left - 1, i, recording, t, env, s);
     }
-    let v = nodes::node_word(nodes, i, 1);
-    let k = nodes::node_word(nodes, i, 2);
+    let v = node_word(nodes, i, VARIABLE);
+    let k = node_word(nodes, i, FLAG);
     flag_at(recording, env, v, k, s)
 }
 

@@ -1,12 +1,12 @@
 -- The digits that `io::decimal` answers are the numeral of specs/Lines.antt. Assumes nothing.
 use Prim.Native.Nat.{ℕ, zero, suc, _+_, _-_, _*_, _/_, _%_, _^_, _≤_, _<_}
 use mathlib.Core.Path.{_≡_, refl, ap}
-use mathlib.Core.Bool.{Bool, true, false, cond}
+use mathlib.Core.Bool.{Bool, true, false}
 use lib.Dec.{leb}
 use mathlib.Core.List.{List, [], _∷_, _++_}
 use native.Mathlib.Omega.{arith}
 use native.Mathlib.Numerals.{unary-clauses}
-use native.Mathlib.Nat.{pow-suc, mod-lt, mod-eq-of-lt, le-div-iff-mul-le, div-lt-iff-lt-mul, one-le-pow, pow-le-pow-right}
+use native.Mathlib.Nat.{mod-lt, mod-eq-of-lt, le-div-iff-mul-le, div-lt-iff-lt-mul, one-le-pow, pow-le-pow-right}
 use borrow.Author.Tests.{lt-ltb, le-ltb, leb-true, leb-false}
 use Rattle.io.specs.Digits.{digits, Fewest}
 use Rattle.watch_lines.specs.Lines.{numeral, numeral-within}
