@@ -15,8 +15,8 @@ use Rattle.rule.proofs.Limits.{within-limits}
 use Rattle.figures.specs.declared.answer.FigureAnswer.{FigureAnswer}
 use Rattle.figures.specs.declared.answer.FigureAnswer.the-variants.{Sized, Refused}
 use Rattle.figures.specs.Prepared.{told, Prepared}
-use Rattle.demand.specs.Contract.{must, room, as-21, admit-lengths}
-use Rattle.admission.specs.Admitted.{Small, fit-for, Ready, Admitted}
+use Rattle.demand.specs.Contract.{must, room, as-21, fit-opened, admit-lengths}
+use Rattle.admission.specs.Admitted.{Small, Ready, Admitted}
 
 -- Accepted figures are within the limits.
 small : (b : List ℕ) (f : Figures) → body-figures b ≡ accepted f → Small f
@@ -52,6 +52,6 @@ module _ (b : List ℕ) (L t h c n : ℕ) (ns : List ℕ) where
     ready-as (refused m) = tt
     ready-as (accepted f) = p .laid
 
-    pub step-fits : {f : Figures} (r : FigureAnswer) → a ≡ Sized f → told r ≡ fit-for f L t h c n → Admitted b L t h c n r ns
-    unfolding admit-lengths must and-then as-21 fit-for
+    pub step-fits : {f : Figures} (r : FigureAnswer) → a ≡ Sized f → told r ≡ fit-opened f L t h c n → Admitted b L t h c n r ns
+    unfolding admit-lengths must and-then as-21 fit-opened
     step-fits r e i = record { answer = i ∙ simp (le-leb L 4096 low, ← p .answer, e); ready = ready-as (told r) }

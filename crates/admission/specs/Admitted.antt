@@ -8,16 +8,13 @@ use Rattle.rule.specs.Body.{body}
 use Rattle.rule.specs.declared.Figures.{Figures}
 use Rattle.figures.specs.declared.answer.FigureAnswer.{FigureAnswer}
 use Rattle.figures.specs.Prepared.{told, Laid}
-use Rattle.demand.specs.Contract.{must, fit-lengths, admit-lengths}
+use Rattle.demand.specs.Contract.{admit-lengths}
 
 -- Figures within the limits.
 pub record Small (f : Figures) : Type 0 where
   pub short : f .delay ≤ 255
   pub old : f .history ≤ 4096
   pub few : f .cells ≤ 4096
-
-unfoldable pub fit-for : Figures → ℕ → ℕ → ℕ → ℕ → ℕ → Answer Figures
-fit-for f L t history cells report = must (leb (f .history) L) 21 (fit-lengths f L t history cells report)
 
 -- An admitted rule stands in the table with its sizes.
 abbrev pub Ready : List ℕ → List ℕ → Answer Figures → Type 0

@@ -3,8 +3,8 @@ ghost use mathlib.Core.Path.{_≡_};
 ghost use Rattle.refusal.specs.Answer.{and-then};
 ghost use Rattle.rule.specs.Figures.{body-figures};
 ghost use Rattle.figures.specs.Prepared.{told};
-ghost use Rattle.demand.specs.Contract.{room, fit-lengths};
-ghost use Rattle.admission.specs.Admitted.{Small, fit-for, Admitted};
+ghost use Rattle.demand.specs.Contract.{room, fit-lengths, fit-opened};
+ghost use Rattle.admission.specs.Admitted.{Small, Admitted};
 use figures::FigureAnswer;
 use refusal::Refusal;
 use rule::Figures;
@@ -78,7 +78,7 @@ fn fit_state(
     report: usize,
 ) -> FigureAnswer
     requires { ⌜ Small f ⌝ }
-    ensures { λ r. ⌜ told r ≡ fit-for f opened tick history cells report ⌝ }
+    ensures { λ r. ⌜ told r ≡ fit-opened f opened tick history cells report ⌝ }
 {
     let least = f.history as usize;
     if opened < least {

@@ -7,7 +7,7 @@ use native.Mathlib.Omega.{arith}
 use lib.ListN.{length}
 use Rattle.demand.specs.Contract.{State, Opening}
 use Rattle.demand.specs.Demand as demand
-use Rattle.demand.proofs.Admission.{clash}
+use Rattle.refusal.proofs.Answers.{not-accepted}
 use Rattle.engine.proofs.Demand3.{theorem}
 use Rattle.exports.specs.Numbers.{number-at}
 use Rattle.exports.specs.States.{state-in}
@@ -37,7 +37,7 @@ module _ (sheet : List ℕ) (rule : ℕ) (history table : List ℕ) (st st′ hi
   demand-3 (suc m) p =
       let d = theorem (called (suc m)) (p .keeps) in
       record {
-        accepts = λ F f c. absurd (clash (d .accepts F f c .1));
+        accepts = λ F f c. absurd (not-accepted (d .accepts F f c .1));
         rule-is = λ e. absurd (omega arith);
         demand-3 = λ e F f c calls r. absurd (omega arith);
         refusals = λ e F f c before k after r. absurd (omega arith);

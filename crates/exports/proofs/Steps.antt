@@ -12,7 +12,7 @@ use borrow.Author.Tests.{le-leb, eq-eqb, eqb-true}
 use Rattle.refusal.specs.Answer.{Answer, refused, accepted, and-then}
 use Rattle.rule.specs.declared.Figures.{Figures}
 use Rattle.rule.specs.Figures.{body-figures}
-use Rattle.demand.specs.Contract.{State, Opening, Taken, Step, must, as-21, fit-lengths, admit-lengths, Opened, Stepped}
+use Rattle.demand.specs.Contract.{State, Opening, Taken, Step, must, as-21, fit-lengths, fit-opened, admit-lengths, Opened, Stepped}
 use Rattle.demand.specs.Demand.{state-after}
 use Rattle.demand.proofs.Admission.{StepAdmitted}
 use Rattle.engine.specs.Promises.{Stands}
@@ -85,7 +85,7 @@ module _ (d : ℕ) (flags report st history cells : List ℕ) (low : number-at s
 -- A step of a rule that was admitted is refused by 20 alone, and only at the last tick.
 module _ (b : List ℕ) (L t₀ t history cells : ℕ) (f : Figures) (w : StepAdmitted b L t₀ history cells 256 f) where
   admits-next : admit-lengths b L t history cells (f .delay + 1) ≡ must (not (eqb t 4294967295)) 20 (accepted f)
-  unfolding admit-lengths fit-lengths body-figures and-then as-21 must
+  unfolding admit-lengths fit-opened fit-lengths body-figures and-then as-21 must
   admits-next =
       rw (
         le-leb L 4096 (w .opened-high),

@@ -2,20 +2,19 @@
 -- Assumes nothing.
 use borrow.Author.Needs.{needs}
 use borrow.Author.Tests.{le-leb, lt-leb}
-use Rattle.demand.specs.Contract.{must}
-use Rattle.admission.specs.Admitted.{fit-for}
+use Rattle.demand.specs.Contract.{must, fit-opened}
 use Rattle.admission.proofs.fit_state.Statement.{statement}
 use Rattle.admission.proofs.fit_state.Tie as tie
 
 returns : tie.Need-returns
-unfolding fit-for must
+unfolding fit-opened must
 returns c = simp (lt-leb _ _ (c .if1 .taken))
 
 fit-step-requires : tie.Need-fit-step-requires
 fit-step-requires c κs = search needs
 
 returns-2 : tie.Need-returns-2
-unfolding fit-for must
+unfolding fit-opened must
 returns-2 c = simp (le-leb _ _ (c .before .if1 .left)) (c .fit-step .ensures)
 
 pub fit-state-spec : {M : Type 1} → statement M
