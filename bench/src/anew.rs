@@ -2,6 +2,7 @@
 //! over all flag bytes so far, and nothing is remembered but the bytes.
 
 use crate::outcome::{both, positions, Outcome};
+use crate::ways::Stepping;
 use rust_tests::paper::Formula;
 
 pub struct Anew {
@@ -14,15 +15,14 @@ impl Anew {
     pub fn open(rule: &Formula, delay: usize) -> Anew {
         Anew { rule: rule.clone(), delay: delay as u64, bytes: Vec::new() }
     }
+}
 
-    /// The tick that the next step takes.
-    pub fn next(&self) -> u64 {
+impl Stepping for Anew {
+    fn next(&self) -> u64 {
         self.bytes.len() as u64
     }
 
-    /// Fills the report with the ticks that are false at this step, and answers how
-    /// many are open.
-    pub fn step(&mut self, flag: u8, report: &mut Vec<u64>) -> usize {
+    fn step(&mut self, flag: u8, report: &mut Vec<u64>) -> usize {
         let t = self.next();
         self.bytes.push(flag);
         report.clear();

@@ -3,6 +3,7 @@
 //! rule is a tree of boxes that is built once, at opening.
 
 use crate::outcome::{both, positions, Outcome};
+use crate::ways::Stepping;
 use rust_tests::paper::{Bound, Formula};
 use station_watch::Figures;
 
@@ -62,15 +63,14 @@ impl Engine {
             next: 0,
         }
     }
+}
 
-    /// The tick that the next step takes.
-    pub fn next(&self) -> u64 {
+impl Stepping for Engine {
+    fn next(&self) -> u64 {
         self.next
     }
 
-    /// Fills the report with the ticks that are false at this step, and answers how
-    /// many are open.
-    pub fn step(&mut self, flag: u8, report: &mut Vec<u64>) -> usize {
+    fn step(&mut self, flag: u8, report: &mut Vec<u64>) -> usize {
         let t = self.next;
         let step = Step { history: &self.history, flag, t };
         report.clear();

@@ -38,8 +38,8 @@ pub fn open(way: &str, rule: &Formula) -> Box<dyn Way> {
     match way {
         "step" => Box::new(Single(Library::open(rule))),
         "batch" => Box::new(Batch(Library::open(rule))),
-        "plain" => Box::new(Plain::open(rule)),
-        "anew" => Box::new(Evaluated::open(rule)),
+        "plain" => Box::new(InRust::new(Engine::open(rule, rule_figures(rule)))),
+        "anew" => Box::new(InRust::new(Anew::open(rule, rule_figures(rule).delay))),
         _ => panic!("no way {way:?}; there are {WAYS:?}"),
     }
 }
@@ -129,57 +129,30 @@ impl Way for Batch {
     }
 }
 
-/// The same engine, plainly in Rust.
-struct Plain {
-    engine: Engine,
+/// A way that is written in Rust: it takes one flag byte at a time.
+pub trait Stepping {
+    /// The tick that the next step takes.
+    fn next(&self) -> u64;
+    /// Fills the report with the ticks that are false at this step, and answers how
+    /// many are open.
+    fn step(&mut self, flag: u8, report: &mut Vec<u64>) -> usize;
+}
+
+/// Such a way, with what it reported.
+struct InRust<S: Stepping> {
+    watch: S,
     report: Vec<u64>,
     live: usize,
     tally: Tally,
 }
 
-impl Plain {
-    fn open(rule: &Formula) -> Plain {
-        let engine = Engine::open(rule, rule_figures(rule));
-        Plain { engine, report: Vec::new(), live: 0, tally: Tally::default() }
+impl<S: Stepping> InRust<S> {
+    fn new(watch: S) -> InRust<S> {
+        InRust { watch, report: Vec::new(), live: 0, tally: Tally::default() }
     }
 }
 
-impl Way for Plain {
-    fn take(&mut self, flags: &[u8]) {
-        for &flag in flags {
-            let step = self.engine.next();
-            self.live = self.engine.step(flag, &mut self.report);
-            for &tick in &self.report {
-                self.tally.add(tick, step);
-            }
-        }
-    }
-
-    fn tally(&self) -> Tally {
-        self.tally
-    }
-
-    fn live(&self) -> usize {
-        self.live
-    }
-}
-
-/// Every tick that can still be open, evaluated anew at each step.
-struct Evaluated {
-    watch: Anew,
-    report: Vec<u64>,
-    live: usize,
-    tally: Tally,
-}
-
-impl Evaluated {
-    fn open(rule: &Formula) -> Evaluated {
-        let watch = Anew::open(rule, rule_figures(rule).delay);
-        Evaluated { watch, report: Vec::new(), live: 0, tally: Tally::default() }
-    }
-}
-
-impl Way for Evaluated {
+impl<S: Stepping> Way for InRust<S> {
     fn take(&mut self, flags: &[u8]) {
         for &flag in flags {
             let step = self.watch.next();

@@ -4,3 +4,4 @@ mod Distances
 mod Parts
 mod Arms
 mod Bodies
+pub mod Exact
