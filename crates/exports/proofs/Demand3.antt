@@ -6,7 +6,6 @@ use mathlib.Core.List.{List}
 use native.Mathlib.Omega.{arith}
 use lib.ListN.{length}
 use Rattle.demand.specs.Contract.{State, Opening}
-use Rattle.demand.specs.Demand as demand
 use Rattle.refusal.proofs.Answers.{not-accepted}
 use Rattle.engine.proofs.Demand3.{theorem}
 use Rattle.exports.specs.Numbers.{number-at}

@@ -1,4 +1,4 @@
--- Each call of sw_open and sw_step is one of those that the theorem about whole lists (crates/engine/proofs/Demand3.antt) speaks of; what no step of a
+-- Each call of sw_step is one of those that the theorem about whole lists (crates/engine/proofs/Demand3.antt) speaks of; what no step of a
 -- batch changes; and a batch after its first step ends early only where the report or the ticks are used up.
 -- Assumes nothing.
 use Prim.Native.Nat.{ℕ, _+_, _*_, _≤_}
@@ -12,14 +12,14 @@ use borrow.Author.Tests.{le-leb, eq-eqb, eqb-true}
 use Rattle.refusal.specs.Answer.{Answer, refused, accepted, and-then}
 use Rattle.rule.specs.declared.Figures.{Figures}
 use Rattle.rule.specs.Figures.{body-figures}
-use Rattle.demand.specs.Contract.{State, Opening, Taken, Step, must, as-21, fit-lengths, fit-opened, admit-lengths, Opened, Stepped}
+use Rattle.demand.specs.Contract.{State, Taken, Step, must, as-21, fit-lengths, fit-opened, admit-lengths, Stepped}
 use Rattle.demand.specs.Demand.{state-after}
 use Rattle.demand.proofs.Admission.{StepAdmitted}
 use Rattle.engine.specs.Promises.{Stands}
 use Rattle.engine.specs.States.{state-of}
 use Rattle.exports.specs.Numbers.{number-at}
 use Rattle.exports.specs.States.{loaded, state-in}
-use Rattle.exports.specs.Calls.{LentOpening, admit-bytes, LentStepped, LentStep}
+use Rattle.exports.specs.Calls.{admit-bytes, LentStepped, LentStep}
 use Rattle.exports.specs.Batch.{Chain, none, more}
 use Rattle.exports.proofs.Batches.{admitted}
 
@@ -28,9 +28,6 @@ unfolding state-in loaded state-of
 next-is st = refl
 
 -- ---- each call is one of the theorem's
-
-pub open-is-one : (o : Opening) (n : ℕ) (st st′ : List ℕ) → LentOpening o n st st′ → Opened Stands o (o .answer)
-open-is-one o n st st′ p = p .keeps
 
 module _ (st : List ℕ) (k : Step) (st′ : List ℕ) (low : number-at st 528 ≤ 4294967295) (p : LentStep st k st′) where
   pub step-is-one : Stepped Stands (state-in st) k (k .answer)
