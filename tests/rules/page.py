@@ -1,0 +1,386 @@
+#!/usr/bin/env python3
+"""The examples of docs/RULES.md: taken out of the page, worked out anew, and run.
+
+  page.py paper PAGE FOLDER         makes each block anew from its inputs (notation, flag bytes, bytes of a body) by document 01 alone, as tests/oracle has
+                                    it, and compares the whole text, comments and columns included
+  page.py programs PAGE FOLDER      runs `station-watch` and `watch` of the folder on each block, and compares lines and exit statuses with the page
+  page.py rule TEXT FLAGS           a block `rule` for a text of the notation and flag bytes in hexadecimal, to be pasted into the page
+  page.py outcomes FLAGS TEXT..     a block `outcomes`
+  page.py figures TEXT..            a block `figures`
+
+Each fenced block of the page is an example of one of the kinds below; any other block is a failure. What is typed in blocks `console` is typed in both
+checks, with the commands of the folder.
+"""
+import difflib
+import os
+import re
+import subprocess
+import sys
+import tempfile
+
+from notation import NAMES, bound_bytes, body_listing, encode, flags_named, lines, listing, named, parse, parse_bound, shown
+from stand_in import SENTENCES, bodies, figures_line, outcome_at, sheet_of, watch
+from paper import OPEN, read
+
+KEY = 10
+# What the page must have at least, so that a block which loses its fence or its kind is seen.
+LEAST = {"rule": 15, "outcomes": 5, "figures": 2, "refused": 1, "bounds": 1, "sheet": 1, "console": 3}
+
+
+class Wrong(Exception):
+    """An example differs from what is due."""
+
+
+# ---- the page
+
+
+def examples(path):
+    """Kind, line and text of each fenced block."""
+    with open(path, encoding="ascii") as page:
+        text = page.read().split("\n")
+    found, kind, start, block = [], None, 0, []
+    for number, line in enumerate(text, 1):
+        fence = re.match(r"\s*(```|~~~)\s*(.*)$", line)
+        if kind is None and fence:
+            kind, start, block = fence.group(2), number, []
+        elif kind is not None and line == "```":
+            found.append((kind, start, block))
+            kind = None
+        elif kind is not None:
+            block.append(line)
+        elif line.startswith("    ") or line.startswith("\t"):
+            raise Wrong("line %d: an indented block, which nobody runs" % number)
+    if kind is not None:
+        raise Wrong("line %d: this block does not end" % start)
+    return found
+
+
+def data(text):
+    """Bytes in hexadecimal; 80*70 is 70 times 80."""
+    found = b""
+    for piece in text.split():
+        byte, _, times = piece.partition("*")
+        found += bytes.fromhex(byte) * int(times or 1)
+    return found
+
+
+def due(block, made):
+    if block != made:
+        raise Wrong("\n".join(difflib.unified_diff(block, made, "the page", "due", lineterm="", n=1)))
+
+
+# ---- blocks, made from their inputs
+
+
+def mark(body, flags, tick):
+    """An outcome as it stands under its tick: T3 is true at 3, F3 false at 3, ? open."""
+    o = outcome_at(body, flags, tick)
+    return "?" if o is OPEN else "%s%d" % ("T" if o[0] else "F", o[1])
+
+
+def rows(flags, named_flags, marked, key):
+    """The stream tick by tick, and rows of marks below it."""
+    picture = [("tick", [str(tick) for tick in range(len(flags))])]
+    picture += [("flag %d" % k, ["#" if flag >> k & 1 else "." for flag in flags]) for k in named_flags]
+    picture += [("flags", ["%02X" % flag for flag in flags])]
+    picture += marked
+    width = 1 + max(len(cell) for _, cells in picture for cell in cells)
+    return [name.ljust(key - 1) + "".join(cell.rjust(width) for cell in cells) for name, cells in picture]
+
+
+def keyed(key, said):
+    return [(key if i == 0 else "").ljust(KEY) + line for i, line in enumerate(said)]
+
+
+def rule_block(text, given):
+    """A rule, its bytes and what it does on a stream. A stream with * in it is long: it is not drawn."""
+    body, flags = encode(text), data(given)
+    said = figures_line(body)
+    made = keyed("notation", [text]) + keyed("body", body_listing(text))
+    if said.startswith("refused"):
+        made += keyed("figures", [said])
+    if "*" in given:
+        made += keyed("flags", [given])
+    else:
+        marks = [mark(body, flags, tick) for tick in range(len(flags))]
+        made += rows(flags, flags_named(parse(text)[1]), [("outcome", marks)], KEY)
+    return made + keyed("watch", watch(sheet_of([body]), flags))
+
+
+def outcomes_block(given, texts):
+    """Several rules on one stream."""
+    flags, key = data(given), 2 + max(len(text) for text in texts)
+    marked = [(text, [mark(encode(text), flags, tick) for tick in range(len(flags))]) for text in texts]
+    flags_of_all = sorted({flag for text in texts for flag in flags_named(parse(text)[1])})
+    return rows(flags, flags_of_all, marked, key)
+
+
+def figures_block(texts):
+    key = 2 + max(len(text) for text in texts)
+    return [text.ljust(key) + figures_line(encode(text)) for text in texts]
+
+
+def refused_block(given):
+    key = 3 + max(len(digits) for digits in given)
+    return [digits.ljust(key) + figures_line(data(digits)) for digits in given]
+
+
+def bounds_block(texts):
+    """Bounds inside two ranges: x, y and z are variables 0, 1 and 2."""
+    return ["%s   %s" % (shown(bound_bytes(parse_bound(text, NAMES[:3]))), text) for text in texts]
+
+
+def sheet_block(sheet):
+    entries = [(sheet[1 + 4 * i:5 + 4 * i], body) for i, body in enumerate(bodies(sheet))]
+    made = [(sheet[:1], 0, "%d rules" % sheet[0])]
+    for i, (entry, body) in enumerate(entries):
+        made.append((entry, 0, "rule %d begins at byte %d and has %d bytes" % (i, entry[0] + 256 * entry[1], len(body))))
+    for _, body in entries:
+        made += lines(named(read(body)), list(NAMES))
+    return listing(made)
+
+
+# ---- what a block says, for running it
+
+
+def field(block, key):
+    """The lines of a key: its own and those below it that have none."""
+    said, inside = [], False
+    for line in block:
+        inside = line[:KEY].strip() == key if line[:KEY].strip() else inside
+        if inside:
+            said.append(line[KEY:])
+    return said
+
+
+def columns(block):
+    """Lines of two columns with two blanks or more between."""
+    return [tuple(re.split(r" {2,}", line, maxsplit=1)) for line in block]
+
+
+def tick_lines(marks):
+    """What `station-watch outcome` says of each tick, by the marks."""
+    for tick, m in enumerate(marks):
+        yield "tick %d %s" % (tick, "open" if m == "?" else "%s at %s" % ({"T": "true", "F": "false"}[m[0]], m[1:]))
+
+
+class Tools:
+    """The commands, in a folder of their own."""
+
+    def __init__(self, folder, work):
+        self.folder, self.work, self.runs = folder, work, 0
+
+    def call(self, status, said, name, *arguments, flags=b""):
+        """Runs a command, which must print these lines and end with this status; on standard error it may speak only where it refuses."""
+        done = subprocess.run([os.path.join(self.folder, name), *arguments], input=flags, cwd=self.work, capture_output=True)
+        self.runs += 1
+        due(said, done.stdout.decode("ascii", "replace").split("\n")[:-1])
+        if done.returncode != status or (status == 0 and done.stderr):
+            raise Wrong("%s: exit status %d, and not %d; %r" % (" ".join((name,) + arguments), done.returncode, status, done.stderr))
+
+    def file(self, name, content):
+        with open(os.path.join(self.work, name), "wb") as out:
+            out.write(content)
+
+    def sheet(self, parts):
+        """Writes watch.sheet by the command, which must write what document 01 says."""
+        sheet = sheet_of(parts)
+        self.call(0, ["watch.sheet rules %d bytes %d" % (len(parts), len(sheet))], "station-watch", "sheet", "watch.sheet", *map(shown, parts))
+        with open(os.path.join(self.work, "watch.sheet"), "rb") as written:
+            if written.read() != sheet:
+                raise Wrong("station-watch sheet wrote other bytes")
+
+    def outcomes(self, flags, marks):
+        self.file("flags", flags)
+        for tick, said in enumerate(tick_lines(marks)):
+            self.call(0, [said], "station-watch", "outcome", "watch.sheet", "0", "flags", str(tick))
+
+
+# ---- each kind: made anew from its inputs ("due"), and run
+
+
+def rule_inputs(block):
+    return field(block, "notation")[0], field(block, "flags")[0].strip()
+
+
+def rule_due(block):
+    return rule_block(*rule_inputs(block))
+
+
+def rule_run(block, tools):
+    flags = data(rule_inputs(block)[1])
+    said, refusal = field(block, "watch"), field(block, "figures")
+    status = 1 if refusal else 0
+    tools.sheet([data(" ".join(own for own, _ in columns(field(block, "body"))))])
+    tools.call(status, ["rule 0 " + refusal[0]] if refusal else said[:1], "station-watch", "figures", "watch.sheet")
+    for row in field(block, "outcome"):
+        tools.outcomes(flags, row.split())
+    tools.call(status, said, "watch", flags=flags)
+
+
+def outcomes_inputs(block):
+    """The flag bytes, and each rule with its marks."""
+    given = [line[len("flags"):].strip() for line in block if line.startswith("flags")][0]
+    return given, [pair for pair in columns(block) if pair[0].startswith("monitor ")]
+
+
+def outcomes_due(block):
+    given, ruled = outcomes_inputs(block)
+    return outcomes_block(given, [text for text, _ in ruled])
+
+
+def outcomes_run(block, tools):
+    given, ruled = outcomes_inputs(block)
+    for text, marks in ruled:
+        tools.sheet([encode(text)])
+        tools.outcomes(data(given), marks.split())
+
+
+def figures_due(block):
+    return figures_block([text for text, _ in columns(block)])
+
+
+def figures_run(block, tools):
+    tools.sheet([encode(text) for text, _ in columns(block)])
+    said = ["rule %d %s" % (rule, line) for rule, (_, line) in enumerate(columns(block))]
+    tools.call(1 if any(" refused " in line for line in said) else 0, said, "station-watch", "figures", "watch.sheet")
+
+
+def refused_due(block):
+    return refused_block([digits for digits, _ in columns(block)])
+
+
+def refused_run(block, tools):
+    """These bodies break the layout, so they are refused on a recording too."""
+    tools.file("flags", b"\0")
+    for digits, said in columns(block):
+        tools.sheet([data(digits)])
+        tools.call(1, ["rule 0 " + said], "station-watch", "figures", "watch.sheet")
+        tools.call(1, [said], "station-watch", "outcome", "watch.sheet", "0", "flags", "0")
+        tools.call(1, [said.split(":")[0]], "watch")
+
+
+def bounds_due(block):
+    return bounds_block([text for _, text in columns(block)])
+
+
+def bounds_run(block, tools):
+    """Each bound as the first of an innermost range, on a recording."""
+    flags = data("01 01 00 01 00 01")
+    around = bytes.fromhex("05 02000000 02000100 05 02010000 02010100 05")
+    for digits, _ in columns(block):
+        body = around + data(digits) + bytes.fromhex("01000000 01 03 00")
+        tools.sheet([body])
+        tools.outcomes(flags, [mark(body, flags, tick) for tick in range(len(flags))])
+
+
+def sheet_given(block):
+    return data(" ".join(digits for digits, _ in columns(block)))
+
+
+def sheet_due(block):
+    return sheet_block(sheet_given(block))
+
+
+def sheet_run(block, tools):
+    parts = bodies(sheet_given(block))
+    tools.sheet(parts)
+    said = ["rule %d %s" % (rule, figures_line(body)) for rule, body in enumerate(parts)]
+    tools.call(0, said, "station-watch", "figures", "watch.sheet")
+
+
+KINDS = {
+    "rule": (rule_due, rule_run),
+    "outcomes": (outcomes_due, outcomes_run),
+    "figures": (figures_due, figures_run),
+    "refused": (refused_due, refused_run),
+    "bounds": (bounds_due, bounds_run),
+    "sheet": (sheet_due, sheet_run),
+}
+
+
+def sessions_run(blocks, folder, work):
+    """What is typed, in one shell from the first session to the last, in a folder that has bin/ as the repository has. A line after `$ ` is typed,
+    the lines below are what is printed."""
+    os.symlink(folder, os.path.join(work, "bin"))
+    ended = "end of what this command printed"
+    typed = [line[2:] for block in blocks for line in block if line.startswith("$ ")]
+    script = "\n".join("{ %s\n} 2>&1; status=$?; echo '%s'; (exit $status)" % (line, ended) for line in typed)
+    done = subprocess.run(["bash", "-c", script], cwd=work, stdin=subprocess.DEVNULL, stdout=subprocess.PIPE)
+    printed = done.stdout.decode("ascii", "replace").split("\n")
+    for block in blocks:
+        made = []
+        for line in block:
+            if line.startswith("$ "):
+                end = printed.index(ended)
+                made += [line] + printed[:end]
+                printed = printed[end + 1:]
+        due(block, made)
+
+
+def refusals_told(path):
+    """The page's table has each refusal of a body with the commands' own sentence."""
+    with open(path, encoding="ascii") as page:
+        text = page.read()
+    for number in range(4, 16):
+        if text.count("\n| %d | %s | " % (number, SENTENCES[number])) != 1:
+            raise Wrong("no row, or two, for refusal %d" % number)
+
+
+# ---- the whole page
+
+
+def known(path):
+    """The page's examples, all of known kinds and not fewer than there were."""
+    found = examples(path)
+    for kind, start, _ in found:
+        if kind not in LEAST:
+            raise Wrong("line %d: a block of an unknown kind, %r" % (start, kind))
+    for kind, least in LEAST.items():
+        count = sum(1 for k, _, _ in found if k == kind)
+        if count < least:
+            raise Wrong("%d blocks of kind %s, and there were %d" % (count, kind, least))
+    return found
+
+
+def check(path, folder, with_programs):
+    """Against document 01 the blocks are made anew; against programs they are run. Sessions are typed either way."""
+    found, failed, runs = known(path), 0, 0
+    with tempfile.TemporaryDirectory() as work, tempfile.TemporaryDirectory() as sessions:
+        tools = Tools(folder, work)
+        for kind, start, block in found:
+            if kind in KINDS:
+                worked_out, run = KINDS[kind]
+                tried = (lambda: run(block, tools)) if with_programs else (lambda: due(block, worked_out(block)))
+                failed += attempt("%s:%d" % (path, start), tried)
+        failed += attempt(path, lambda: refusals_told(path))
+        typed = [block for kind, _, block in found if kind == "console"]
+        failed += attempt("%s, what is typed" % path, lambda: sessions_run(typed, folder, sessions))
+        runs = tools.runs
+    print("%d examples, %d failed%s" % (len(found), failed, ", %d runs" % runs if with_programs else ""))
+    return 1 if failed else 0
+
+
+def attempt(place, tried):
+    try:
+        tried()
+        return 0
+    except Exception as why:  # whatever is wrong with an example, the others are tried too
+        print("%s: %s: %s" % (place, type(why).__name__, why))
+        return 1
+
+
+def main(command, *rest):
+    if command in ("paper", "programs"):
+        try:
+            return check(rest[0], os.path.abspath(rest[1]), command == "programs")
+        except Wrong as why:
+            print("%s: %s" % (rest[0], why))
+            return 1
+    made = {"rule": rule_block, "outcomes": lambda flags, *texts: outcomes_block(flags, texts), "figures": lambda *texts: figures_block(texts)}
+    print("\n".join(made[command](*rest)))
+    return 0
+
+
+if __name__ == "__main__":
+    sys.exit(main(*sys.argv[1:]))

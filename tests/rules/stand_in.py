@@ -1,0 +1,106 @@
+#!/usr/bin/env python3
+"""The commands `station-watch` and `watch`, worked out from document 01 alone by tests/oracle: what the examples of docs/RULES.md are compared with first.
+
+Called by either name (a link in a folder that tests/rules/run makes). The lines and sentences are those of the commands' usage.
+"""
+import os
+import sys
+
+sys.path.insert(0, os.path.join(os.path.dirname(os.path.realpath(__file__)), "..", "oracle"))
+sys.dont_write_bytecode = True
+
+from figures import answer  # noqa: E402
+from outcomes import outcome_at  # noqa: E402
+from paper import OPEN, Refused  # noqa: E402
+from watch import rule_0, sheet_of, watch  # noqa: E402
+
+SENTENCES = {
+    1: "sheet empty, not 1 to 32 rules, or its table of contents is cut short",
+    2: "an entry of the sheet breaks the layout",
+    3: "no such rule",
+    4: "the body ends too early",
+    5: "unknown code or kind",
+    6: "a variable that is not bound here",
+    7: "a flag above 7",
+    8: "an offset outside -4,095 to 4,095, or a byte that should be 0",
+    9: "a 65th formula or a 5th nested quantifier",
+    10: "bytes left over after the formula",
+    11: "the delay is infinite",
+    12: "the delay is above 255",
+    13: "the history is infinite",
+    14: "the history is above 4,096",
+    15: "more than 4,096 cells",
+    16: "the recording is too long, or the tick is not in it",
+}
+
+
+def refused(why):
+    number = int(str(why).split()[-1])
+    return "refused %d: %s" % (number, SENTENCES[number])
+
+
+def figures_line(body):
+    """A body's figures, or its refusal in words."""
+    said = answer(body)
+    return refused(said) if said.startswith("refused") else said
+
+
+def bodies(sheet):
+    """All bodies of a sheet, after refusals 1 and 2."""
+    rule_0(sheet)
+    word = [sheet[1 + 2 * k] + 256 * sheet[2 + 2 * k] for k in range(2 * sheet[0])]
+    return [sheet[at:at + size] for at, size in zip(word[0::2], word[1::2])]
+
+
+def content(path):
+    with open(path, "rb") as file:
+        return file.read()
+
+
+def figures_command(path):
+    said = [figures_line(body) for body in bodies(content(path))]
+    for rule, line in enumerate(said):
+        print("rule %d %s" % (rule, line))
+    return 1 if any(line.startswith("refused") for line in said) else 0
+
+
+def outcome_command(path, rule, flags, tick):
+    found = bodies(content(path))
+    if int(rule) >= len(found):
+        raise Refused(3)
+    o = outcome_at(found[int(rule)], sys.stdin.buffer.read() if flags == "-" else content(flags), int(tick))
+    print("tick %s %s" % (tick, "open" if o is OPEN else "%s at %d" % ("true" if o[0] else "false", o[1])))
+    return 0
+
+
+def sheet_command(path, *digits):
+    parts = [bytes.fromhex(text) for text in digits]
+    if not 1 <= len(parts) <= 32:
+        raise Refused(1)
+    if not all(1 <= len(part) <= 512 for part in parts):
+        raise Refused(2)
+    sheet = sheet_of(parts)
+    with open(path, "wb") as out:
+        out.write(sheet)
+    print("%s rules %d bytes %d" % (path, len(parts), len(sheet)))
+    return 0
+
+
+def watch_command():
+    said = watch(content("watch.sheet") if os.path.exists("watch.sheet") else b"", sys.stdin.buffer.read())
+    print("\n".join(said))
+    return 1 if said[0].startswith("refused") else 0
+
+
+def main(name, arguments):
+    if name == "watch":
+        return watch_command()
+    try:
+        return {"figures": figures_command, "outcome": outcome_command, "sheet": sheet_command}[arguments[0]](*arguments[1:])
+    except Refused as why:
+        print(refused(why))
+        return 1
+
+
+if __name__ == "__main__":
+    sys.exit(main(os.path.basename(sys.argv[0]), sys.argv[1:]))
