@@ -64,9 +64,10 @@ def data(text):
     return found
 
 
-def due(block, made):
-    if block != made:
-        raise Wrong("\n".join(difflib.unified_diff(block, made, "the page", "due", lineterm="", n=1)))
+def same(page, other, where):
+    """The page's lines against those of a calculation or a command."""
+    if page != other:
+        raise Wrong("\n".join(difflib.unified_diff(page, other, "the page", where, lineterm="", n=1)))
 
 
 # ---- blocks, made from their inputs
@@ -174,9 +175,10 @@ class Tools:
         """Runs a command, which must print these lines and end with this status; on standard error it may speak only where it refuses."""
         done = subprocess.run([os.path.join(self.folder, name), *arguments], input=flags, cwd=self.work, capture_output=True)
         self.runs += 1
-        due(said, done.stdout.decode("ascii", "replace").split("\n")[:-1])
+        command = " ".join((name,) + arguments)
+        same(said, done.stdout.decode("ascii", "replace").split("\n")[:-1], command)
         if done.returncode != status or (status == 0 and done.stderr):
-            raise Wrong("%s: exit status %d, and not %d; %r" % (" ".join((name,) + arguments), done.returncode, status, done.stderr))
+            raise Wrong("%s: exit status %d, and not %d; %r" % (command, done.returncode, status, done.stderr))
 
     def file(self, name, content):
         with open(os.path.join(self.work, name), "wb") as out:
@@ -185,7 +187,7 @@ class Tools:
     def sheet(self, parts):
         """Writes watch.sheet by the command, which must write what document 01 says."""
         sheet = sheet_of(parts)
-        self.call(0, ["watch.sheet rules %d bytes %d" % (len(parts), len(sheet))], "station-watch", "sheet", "watch.sheet", *map(shown, parts))
+        self.call(0, ["sheet watch.sheet rules %d bytes %d" % (len(parts), len(sheet))], "station-watch", "sheet", "watch.sheet", *map(shown, parts))
         with open(os.path.join(self.work, "watch.sheet"), "rb") as written:
             if written.read() != sheet:
                 raise Wrong("station-watch sheet wrote other bytes")
@@ -315,7 +317,7 @@ def sessions_run(blocks, folder, work):
                 end = printed.index(ended)
                 made += [line] + printed[:end]
                 printed = printed[end + 1:]
-        due(block, made)
+        same(block, made, "what was printed")
 
 
 def refusals_told(path):
@@ -351,7 +353,7 @@ def check(path, folder, with_programs):
         for kind, start, block in found:
             if kind in KINDS:
                 worked_out, run = KINDS[kind]
-                tried = (lambda: run(block, tools)) if with_programs else (lambda: due(block, worked_out(block)))
+                tried = (lambda: run(block, tools)) if with_programs else (lambda: same(block, worked_out(block), "document 01"))
                 failed += attempt("%s:%d" % (path, start), tried)
         failed += attempt(path, lambda: refusals_told(path))
         typed = [block for kind, _, block in found if kind == "console"]

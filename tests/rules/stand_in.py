@@ -82,7 +82,7 @@ def sheet_command(path, *digits):
     sheet = sheet_of(parts)
     with open(path, "wb") as out:
         out.write(sheet)
-    print("%s rules %d bytes %d" % (path, len(parts), len(sheet)))
+    print("sheet %s rules %d bytes %d" % (path, len(parts), len(sheet)))
     return 0
 
 
