@@ -142,6 +142,15 @@ def flags_named(formula):
     return sorted({flag for part in formula[1:] if isinstance(part, tuple) and isinstance(part[0], str) for flag in flags_named(part)})
 
 
+def unnamed(formula):
+    """The formula as tests/oracle/paper.py has it."""
+    if formula[0] == "flag":
+        return formula
+    if formula[0] == "all":
+        return ("all", formula[2], formula[3], unnamed(formula[4]))
+    return (formula[0],) + tuple(unnamed(part) for part in formula[1:])
+
+
 def named(formula, depth=0):
     """What tests/oracle/paper.py reads, with the usual names put in."""
     if formula[0] == "flag":

@@ -4,9 +4,6 @@
   page.py paper PAGE FOLDER         makes each block anew from its inputs (notation, flag bytes, bytes of a body) by document 01 alone, as tests/oracle has
                                     it, and compares the whole text, comments and columns included
   page.py programs PAGE FOLDER      runs `station-watch` and `watch` of the folder on each block, and compares lines and exit statuses with the page
-  page.py rule TEXT FLAGS           a block `rule` for a text of the notation and flag bytes in hexadecimal, to be pasted into the page
-  page.py outcomes FLAGS TEXT..     a block `outcomes`
-  page.py figures TEXT..            a block `figures`
 
 Each fenced block of the page is an example of one of the kinds below; any other block is a failure. What is typed in blocks `console` is typed in both
 checks, with the commands of the folder.
@@ -18,11 +15,10 @@ import subprocess
 import sys
 import tempfile
 
-from notation import NAMES, bound_bytes, body_listing, encode, flags_named, lines, listing, named, parse, parse_bound, shown
-from stand_in import SENTENCES, bodies, figures_line, outcome_at, sheet_of, watch
-from paper import OPEN, read
+from blocks import KEY, bounds_block, data, figures_block, mark, outcomes_block, refused_block, rule_block, sheet_block
+from notation import encode, shown
+from stand_in import SENTENCES, bodies, figures_line, sheet_of
 
-KEY = 10
 # What the page must have at least, so that a block which loses its fence or its kind is seen.
 LEAST = {"rule": 15, "outcomes": 5, "figures": 2, "refused": 1, "bounds": 1, "sheet": 1, "console": 3}
 
@@ -55,90 +51,10 @@ def examples(path):
     return found
 
 
-def data(text):
-    """Bytes in hexadecimal; 80*70 is 70 times 80."""
-    found = b""
-    for piece in text.split():
-        byte, _, times = piece.partition("*")
-        found += bytes.fromhex(byte) * int(times or 1)
-    return found
-
-
 def same(page, other, where):
     """The page's lines against those of a calculation or a command."""
     if page != other:
         raise Wrong("\n".join(difflib.unified_diff(page, other, "the page", where, lineterm="", n=1)))
-
-
-# ---- blocks, made from their inputs
-
-
-def mark(body, flags, tick):
-    """An outcome as it stands under its tick: T3 is true at 3, F3 false at 3, ? open."""
-    o = outcome_at(body, flags, tick)
-    return "?" if o is OPEN else "%s%d" % ("T" if o[0] else "F", o[1])
-
-
-def rows(flags, named_flags, marked, key):
-    """The stream tick by tick, and rows of marks below it."""
-    picture = [("tick", [str(tick) for tick in range(len(flags))])]
-    picture += [("flag %d" % k, ["#" if flag >> k & 1 else "." for flag in flags]) for k in named_flags]
-    picture += [("flags", ["%02X" % flag for flag in flags])]
-    picture += marked
-    width = 1 + max(len(cell) for _, cells in picture for cell in cells)
-    return [name.ljust(key - 1) + "".join(cell.rjust(width) for cell in cells) for name, cells in picture]
-
-
-def keyed(key, said):
-    return [(key if i == 0 else "").ljust(KEY) + line for i, line in enumerate(said)]
-
-
-def rule_block(text, given):
-    """A rule, its bytes and what it does on a stream. A stream with * in it is long: it is not drawn."""
-    body, flags = encode(text), data(given)
-    said = figures_line(body)
-    made = keyed("notation", [text]) + keyed("body", body_listing(text))
-    if said.startswith("refused"):
-        made += keyed("figures", [said])
-    if "*" in given:
-        made += keyed("flags", [given])
-    else:
-        marks = [mark(body, flags, tick) for tick in range(len(flags))]
-        made += rows(flags, flags_named(parse(text)[1]), [("outcome", marks)], KEY)
-    return made + keyed("watch", watch(sheet_of([body]), flags))
-
-
-def outcomes_block(given, texts):
-    """Several rules on one stream."""
-    flags, key = data(given), 2 + max(len(text) for text in texts)
-    marked = [(text, [mark(encode(text), flags, tick) for tick in range(len(flags))]) for text in texts]
-    flags_of_all = sorted({flag for text in texts for flag in flags_named(parse(text)[1])})
-    return rows(flags, flags_of_all, marked, key)
-
-
-def figures_block(texts):
-    key = 2 + max(len(text) for text in texts)
-    return [text.ljust(key) + figures_line(encode(text)) for text in texts]
-
-
-def refused_block(given):
-    key = 3 + max(len(digits) for digits in given)
-    return [digits.ljust(key) + figures_line(data(digits)) for digits in given]
-
-
-def bounds_block(texts):
-    """Bounds inside two ranges: x, y and z are variables 0, 1 and 2."""
-    return ["%s   %s" % (shown(bound_bytes(parse_bound(text, NAMES[:3]))), text) for text in texts]
-
-
-def sheet_block(sheet):
-    entries = [(sheet[1 + 4 * i:5 + 4 * i], body) for i, body in enumerate(bodies(sheet))]
-    made = [(sheet[:1], 0, "%d rules" % sheet[0])]
-    for i, (entry, body) in enumerate(entries):
-        made.append((entry, 0, "rule %d begins at byte %d and has %d bytes" % (i, entry[0] + 256 * entry[1], len(body))))
-    for _, body in entries:
-        made += lines(named(read(body)), list(NAMES))
-    return listing(made)
 
 
 # ---- what a block says, for running it
@@ -372,16 +288,12 @@ def attempt(place, tried):
         return 1
 
 
-def main(command, *rest):
-    if command in ("paper", "programs"):
-        try:
-            return check(rest[0], os.path.abspath(rest[1]), command == "programs")
-        except Wrong as why:
-            print("%s: %s" % (rest[0], why))
-            return 1
-    made = {"rule": rule_block, "outcomes": lambda flags, *texts: outcomes_block(flags, texts), "figures": lambda *texts: figures_block(texts)}
-    print("\n".join(made[command](*rest)))
-    return 0
+def main(command, path, folder):
+    try:
+        return check(path, os.path.abspath(folder), {"paper": False, "programs": True}[command])
+    except Wrong as why:
+        print("%s: %s" % (path, why))
+        return 1
 
 
 if __name__ == "__main__":

@@ -9,7 +9,7 @@ import sys
 sys.path.insert(0, os.path.join(os.path.dirname(os.path.realpath(__file__)), "..", "oracle"))
 sys.dont_write_bytecode = True
 
-from figures import answer  # noqa: E402
+from figures import figures  # noqa: E402
 from outcomes import outcome_at  # noqa: E402
 from paper import OPEN, Refused  # noqa: E402
 from watch import rule_0, sheet_of, watch  # noqa: E402
@@ -34,15 +34,16 @@ SENTENCES = {
 }
 
 
-def refused(why):
-    number = int(str(why).split()[-1])
+def refused(number):
     return "refused %d: %s" % (number, SENTENCES[number])
 
 
 def figures_line(body):
     """A body's figures, or its refusal in words."""
-    said = answer(body)
-    return refused(said) if said.startswith("refused") else said
+    try:
+        return "history %d delay %d cells %d" % figures(body)
+    except Refused as why:
+        return refused(why.args[0])
 
 
 def bodies(sheet):
@@ -98,7 +99,7 @@ def main(name, arguments):
     try:
         return {"figures": figures_command, "outcome": outcome_command, "sheet": sheet_command}[arguments[0]](*arguments[1:])
     except Refused as why:
-        print(refused(why))
+        print(refused(why.args[0]))
         return 1
 
 
