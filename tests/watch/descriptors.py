@@ -24,6 +24,12 @@ def limited(size):
     return lambda: resource.setrlimit(resource.RLIMIT_FSIZE, (size, size))
 
 
+def processor_seconds():
+    """What the processes that have ended used so far."""
+    used = resource.getrusage(resource.RUSAGE_CHILDREN)
+    return used.ru_utime + used.ru_stime
+
+
 class Output(Station):
     def test_all_is_well(self):
         self.ends(0, lines(FLAG_UP, b"\1\0\1\0\0"), "", flags=b"\1\0\1\0\0")
@@ -93,8 +99,10 @@ class Input(Station):
         self.ends(2, b"", "", stdin=None, stdout=None, stderr=None, preexec_fn=closed(0, 1, 2))
 
     def test_pipe_that_does_not_block_and_is_empty(self):
+        """Nothing comes for 0.9 seconds in all; waiting for it takes less than a third of the processor."""
         reader, writer = os.pipe()
         os.set_blocking(reader, False)
+        before = processor_seconds()
 
         def bring():
             with open(writer, "wb", buffering=0) as flags:
@@ -109,6 +117,7 @@ class Input(Station):
         out, err = run.communicate(timeout=60)
         bringing.join()
         self.assertEqual((run.returncode, out, err), (0, lines(FLAG_UP, b"\0\1\0\1\1\0"), b""))
+        self.assertLess(processor_seconds() - before, 0.3)
 
 
 class Sheet(Station):
@@ -131,11 +140,11 @@ class Sheet(Station):
         self.ends(2, b"refused 1\n", "watch: watch.sheet: Is a directory\nwatch: refused 1\n")
 
     def test_not_allowed(self):
-        """Root may read every file, so that it runs the command as nobody."""
+        """Root may read every file: it gives up that power first."""
         os.chmod(self.path("watch.sheet"), 0)
         words = [COMMAND]
         if os.geteuid() == 0:
-            words = ["setpriv", "--reuid=65534", "--regid=65534", "--clear-groups", *words]
+            words = ["setpriv", "--bounding-set=-dac_override,-dac_read_search", *words]
         self.ends(2, b"refused 1\n", "watch: watch.sheet: Permission denied\nwatch: refused 1\n", words)
 
 
