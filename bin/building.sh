@@ -1,3 +1,4 @@
+# shellcheck shell=bash disable=SC2154
 # For the commands of this folder, which source it: proving and building, only where something changed, with a short line for each crate. They set
 # `root`, the repository, and `set -o pipefail`. Everything that is said goes to standard error, and standard input is not touched.
 
@@ -9,7 +10,7 @@ changed_since() { # STAMP [FILE..]
 # Waits until no other command builds here. What it builds may be what this one wants: look again. Holds descriptor 9 until end_building.
 begin_building() { # WHO
     mkdir -p "$root/target" || return 1
-    exec 9> "$root/target/building.lock"
+    exec 9> "$root/target/building.lock" || return 1
     flock -n 9 || { echo "$1: another command is building; waiting for it" >&2 || :; flock 9; }
 }
 

@@ -1,7 +1,8 @@
 // The program `watch`: reads the file watch.sheet (a missing one counts as empty), opens rule 0, takes flag bytes from standard input to its end and
 // prints what document 01 says. It is a library, so that a program for each test case can run it. Its functions answer nothing and read and write
 // outside of the program: no contract can say what, so they have none beyond being safe and ending. What they print, the engine's contracts and
-// watch_lines say; the programs' files `stdout` hold the two to document 01's words.
+// watch_lines say; the programs' files `stdout` hold the two to document 01's words. Standard error has a line for each ending that is not the end of
+// the input, which begins with `watch: `: bin/watch makes the exit status of it, since a proved program has none.
 mod output;
 mod reading;
 mod sheet_file;
