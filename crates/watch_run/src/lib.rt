@@ -1,34 +1,26 @@
 // The program `watch`: reads the file watch.sheet (a missing one counts as empty), opens rule 0, takes flag bytes from standard input to its end and
 // prints what document 01 says. It is a library, so that a program for each test case can run it. Its functions answer nothing and read and write
 // outside of the program: no contract can say what, so they have none beyond being safe and ending. What they print, the engine's contracts and
-// watch_lines say; the programs' files `stdout` hold the two to document 01's words.
+// watch_lines say; the programs' files `stdout` hold the two to document 01's words. Standard error has a line for each ending that is not the end of
+// the input, which begins with `watch: `: bin/watch makes the exit status of it, since a proved program has none.
 mod output;
+mod reading;
+mod sheet_file;
+mod waiting;
 mod watching;
+mod writing;
 
 ghost use mathlib.Core.Path.{_≡_};
 ghost use lib.ListN.{length};
-ghost use Rattle.io.specs.Counts.{Counts};
 use engine::OpenAnswer;
 use figures::FigureAnswer;
+use output::close_output;
 use output::print_figures;
 use output::print_refusal;
 use rule::Figures;
 use sheet::Found;
+use sheet_file::load;
 use watching::watch_input;
-
-// The file's bytes at the front of buf, and how many there are: 0 where there is no such file. The largest legal sheet has 16,513 bytes, so that a
-// longer file is seen to be longer.
-fn load(buf: &mut [u8]) -> usize
-    ensures { λ r. ⌜ Counts r (now (buf .exit)) ⌝ }
-{
-    let fd = os::open_read(b"watch.sheet");
-    if fd < 0 {
-        return 0;
-    }
-    let n = io::read_full(fd, buf);
-    libc::close(fd);
-    n
-}
 
 // Room for the 4,096 cells that a rule may need.
 fn cell_table() -> [u32; 16384]
@@ -44,35 +36,43 @@ fn report_words() -> [u32; 256]
     [0; 256]
 }
 
-// Opens rule 0 over lent memory and takes the input.
-fn watch_over(sheet: &[u8], f: Figures, history: &mut [u8], cells: &mut [u32], report: &mut [u32]) {
+// Opens rule 0 over lent memory and takes the input. Like the functions below, it answers whether every line was written.
+fn watch_over(
+    sheet: &[u8],
+    f: Figures,
+    history: &mut [u8],
+    cells: &mut [u32],
+    report: &mut [u32],
+) -> bool {
     let opened = engine::open(sheet, 0, history, cells);
     let answer = opened.answer;
     let state = opened.state;
     match answer {
         OpenAnswer::Refused(x) => print_refusal(x),
         OpenAnswer::Opened => {
-            print_figures(f);
-            watch_input(state, history, cells, report);
+            if !print_figures(f) {
+                return false;
+            }
+            watch_input(state, history, cells, report)
         }
     }
 }
 
 // Lends the history that the figure asks for, at most 4,096 bytes, and as much of the rest as a rule may need.
-fn watch_rule(sheet: &[u8], f: Figures) {
+fn watch_rule(sheet: &[u8], f: Figures) -> bool {
     let mut history = io::buffer();
     let mut cells = cell_table();
     let mut report = report_words();
     let h = f.history as usize;
     if 4096 < h {
-        return;
+        return false;
     }
-    watch_over(sheet, f, &mut history[..h], &mut cells, &mut report);
+    watch_over(sheet, f, &mut history[..h], &mut cells, &mut report)
 }
 
 // Runs rule 0 of a sheet over standard input. The first line shows the figures, so they are read before the rule is opened; the refusals of sheet
 // and figures are those of opening.
-pub fn watch_sheet(sheet: &[u8]) {
+fn run_sheet(sheet: &[u8]) -> bool {
     let place = sheet::find_rule(sheet, 0);
     match place {
         Found::Refused(x) => print_refusal(x),
@@ -86,9 +86,16 @@ pub fn watch_sheet(sheet: &[u8]) {
     }
 }
 
+// The program over a sheet that is at hand.
+pub fn watch_sheet(sheet: &[u8]) {
+    run_sheet(sheet);
+}
+
 // The whole program.
 pub fn watch() {
     let mut buf = io::large_buffer();
     let n = load(&mut buf);
-    watch_sheet(&buf[..n]);
+    if run_sheet(&buf[..n]) {
+        close_output();
+    }
 }

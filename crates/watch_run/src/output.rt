@@ -1,32 +1,45 @@
-// Writes the lines of `watch`, each by one write. What is written no contract can say; what a line is, watch_lines says.
+// The lines of `watch` on standard output. Each function answers whether its line was written whole; where it was not, standard error says why and
+// nothing more may be printed. What is written no contract can say; what a line is, watch_lines says.
+use crate::writing::write_line;
+use libc::STDERR_FILENO;
 use libc::STDOUT_FILENO;
 use refusal::Refusal;
 use rule::Figures;
 
-// The line of a refusal, with its number.
-pub(crate) fn print_refusal(x: Refusal) {
+// The line of a refusal, with its number. Standard error has it too, behind the program's name: there stands each ending that is not the end of the
+// input.
+pub(crate) fn print_refusal(x: Refusal) -> bool {
     let mut line = [0u8; 128];
     let n = watch_lines::refused_line(refusal::number(x) as u64, &mut line);
-    io::write_all(STDOUT_FILENO, &line[..n]);
+    io::write_all(STDERR_FILENO, b"watch: ");
+    io::write_all(STDERR_FILENO, &line[..n]);
+    write_line(&line[..n])
 }
 
 // The line of a rule's figures.
-pub(crate) fn print_figures(f: Figures) {
+pub(crate) fn print_figures(f: Figures) -> bool {
     let mut line = [0u8; 128];
     let n = watch_lines::figures_line(f.history, f.delay, f.cells, &mut line);
-    io::write_all(STDOUT_FILENO, &line[..n]);
+    write_line(&line[..n])
 }
 
 // The line of a tick that broke the rule, and of the step that said so.
-pub(crate) fn print_violation(tick: u32, step: u32) {
+pub(crate) fn print_violation(tick: u32, step: u32) -> bool {
     let mut line = [0u8; 128];
     let n = watch_lines::violation_line(tick as u64, step as u64, &mut line);
-    io::write_all(STDOUT_FILENO, &line[..n]);
+    write_line(&line[..n])
 }
 
 // The last line: how many steps and violations there were, and how many ticks are live.
-pub(crate) fn print_end(ticks: u32, violations: u64, live: usize) {
+pub(crate) fn print_end(ticks: u32, violations: u64, live: usize) -> bool {
     let mut line = [0u8; 128];
     let n = watch_lines::end_line(ticks as u64, violations, live as u64, &mut line);
-    io::write_all(STDOUT_FILENO, &line[..n]);
+    write_line(&line[..n])
+}
+
+// Closes standard output once every line is written: a file system may say only now that it could not keep them.
+pub(crate) fn close_output() {
+    if libc::close(STDOUT_FILENO) < 0 {
+        os::fail(b"watch: standard output");
+    }
 }

@@ -4,15 +4,47 @@ ghost use Prim.Native.Nat.{_+_, min};
 use crate::output::print_end;
 use crate::output::print_refusal;
 use crate::output::print_violation;
+use crate::reading::read_some;
 use engine::State;
 use engine::StepAnswer;
+use libc::STDIN_FILENO;
 
-// What the steps so far left. `more` is false once the input has ended or a step was refused.
+// How a run stands: it goes on; or the input has ended; or it was stopped by a refusal, a line that could not be written or a read that failed, which
+// standard error has said.
+enum Run {
+    GoesOn,
+    InputEnded,
+    Stopped,
+}
+
+// What the steps so far left.
 struct Progress {
     state: State,
     violations: u64,
-    more: bool,
-    refused: bool,
+    run: Run,
+}
+
+// Whether a run takes the next byte.
+fn goes_on(run: Run) -> bool {
+    match run {
+        Run::GoesOn => true,
+        Run::InputEnded => false,
+        Run::Stopped => false,
+    }
+}
+
+// How a run stands after its lines were written, or not.
+fn after_lines(written: bool) -> Run {
+    if written { Run::GoesOn } else { Run::Stopped }
+}
+
+// How a run stands after a read that brought nothing.
+fn after_nothing(failed: bool) -> Run {
+    if failed {
+        os::fail(b"watch: standard input");
+        return Run::Stopped;
+    }
+    Run::InputEnded
 }
 
 // A count that stays at its largest value.
@@ -26,16 +58,19 @@ fn more_by(count: u64, n: u64) -> u64
     }
 }
 
-// Prints the first n ticks of a report, all of them decided at this step.
-fn print_report(report: &[u32], n: usize, step: u32) {
+// Prints the first n ticks of a report, all of them decided at this step, and answers whether that was done.
+fn print_report(report: &[u32], n: usize, step: u32) -> bool {
     let mut i: usize = 0;
     while i < n {
         if report.len() <= i {
-            return;
+            return false;
         }
-        print_violation(report[i], step);
+        if !print_violation(report[i], step) {
+            return false;
+        }
         i += 1;
     }
+    true
 }
 
 // Takes one flag byte. A refused step prints its number and ends the run.
@@ -58,17 +93,15 @@ fn take_byte(
             Progress {
                 state,
                 violations,
-                more: false,
-                refused: true,
+                run: Run::Stopped,
             }
         }
         StepAnswer::Taken(reported, _) => {
-            print_report(report, reported, step);
+            let run = after_lines(print_report(report, reported, step));
             Progress {
                 state,
                 violations: more_by(violations, reported as u64),
-                more: true,
-                refused: false,
+                run,
             }
         }
     }
@@ -86,8 +119,8 @@ fn take_chunk(
     let mut i: usize = 0;
     while i < chunk.len() {
         so_far = take_byte(so_far, chunk[i], history, cells, report);
-        let more = so_far.more;
-        if !more {
+        let run = so_far.run;
+        if !goes_on(run) {
             return so_far;
         }
         i += 1;
@@ -95,18 +128,18 @@ fn take_chunk(
     so_far
 }
 
-// One read of what the input has now, so that a pipe is followed; where nothing comes, it has ended.
+// One read of what the input has now, so that a pipe is followed.
 fn take_some(p: Progress, history: &mut [u8], cells: &mut [u32], report: &mut [u32]) -> Progress {
     let mut buf = io::buffer();
-    let got = libc::read(0, &mut buf);
-    let n = io::count(got, &buf);
+    let got = read_some(STDIN_FILENO, &mut buf);
+    let n = got.count;
     if n == 0 {
         let state = p.state;
+        let run = after_nothing(got.failed);
         return Progress {
             state,
             violations: p.violations,
-            more: false,
-            refused: false,
+            run,
         };
     }
     take_chunk(p, &buf[..n], history, cells, report)
@@ -118,26 +151,33 @@ fn take_all(state: State, history: &mut [u8], cells: &mut [u32], report: &mut [u
     let mut p = Progress {
         state,
         violations: 0,
-        more: true,
-        refused: false,
+        run: Run::GoesOn,
     };
     let mut turns = u64::MAX;
     while 0 < turns {
         turns -= 1;
         p = take_some(p, history, cells, report);
-        let more = p.more;
-        if !more {
+        let run = p.run;
+        if !goes_on(run) {
             return p;
         }
     }
     p
 }
 
-// Takes the whole input and prints the end line, unless a step was refused.
-pub(crate) fn watch_input(state: State, history: &mut [u8], cells: &mut [u32], report: &mut [u32]) {
+// Takes the whole input and prints the end line at its end, and nowhere else. Answers whether that was done.
+pub(crate) fn watch_input(
+    state: State,
+    history: &mut [u8],
+    cells: &mut [u32],
+    report: &mut [u32],
+) -> bool {
     let p = take_all(state, history, cells, report);
     let end = p.state;
-    if !p.refused {
-        print_end(end.next, p.violations, end.live);
+    let run = p.run;
+    match run {
+        Run::InputEnded => print_end(end.next, p.violations, end.live),
+        Run::GoesOn => false,
+        Run::Stopped => false,
     }
 }

@@ -25,6 +25,9 @@ shared-slice-read-print-violation c = search needs
 print-violation-requires : tie.Need-print-violation-requires Inv-loop μ-loop
 print-violation-requires c κs = search needs
 
+returns-2 : tie.Need-returns-2 Inv-loop μ-loop
+returns-2 c = search needs
+
 add-i : tie.Need-add-i Inv-loop μ-loop
 add-i c = search needs
 
@@ -34,8 +37,8 @@ loop-less c = search needs
 loop-again : tie.Need-loop-again Inv-loop μ-loop
 loop-again c = search needs
 
-returns-2 : tie.Need-returns-2 Inv-loop μ-loop
-returns-2 c = search needs
+returns-3 : tie.Need-returns-3 Inv-loop μ-loop
+returns-3 c = search needs
 
 pub print-report-spec : {M : Type 1} → statement M
 print-report-spec =
@@ -48,7 +51,8 @@ print-report-spec =
     mul-print-violation
     shared-slice-read-print-violation
     print-violation-requires
+    returns-2
     add-i
     loop-less
     loop-again
-    returns-2)
+    returns-3)

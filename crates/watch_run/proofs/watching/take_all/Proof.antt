@@ -20,6 +20,9 @@ sub-turns c = search needs
 take-some-requires : tie.Need-take-some-requires Inv-loop μ-loop
 take-some-requires c κs = search needs
 
+goes-on-requires : tie.Need-goes-on-requires Inv-loop μ-loop
+goes-on-requires c κs = search needs
+
 same-length : tie.Need-same-length Inv-loop μ-loop
 same-length c = search needs
 
@@ -59,6 +62,7 @@ take-all-spec =
     loop-holds
     sub-turns
     take-some-requires
+    goes-on-requires
     same-length
     same-length-2
     same-length-3

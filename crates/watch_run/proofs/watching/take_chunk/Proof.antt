@@ -21,6 +21,9 @@ shared-slice-read-take-byte c = search needs
 take-byte-requires : tie.Need-take-byte-requires Inv-loop μ-loop
 take-byte-requires c κs = search needs
 
+goes-on-requires : tie.Need-goes-on-requires Inv-loop μ-loop
+goes-on-requires c κs = search needs
+
 same-length : tie.Need-same-length Inv-loop μ-loop
 same-length c = search needs
 
@@ -63,6 +66,7 @@ take-chunk-spec =
     loop-holds
     shared-slice-read-take-byte
     take-byte-requires
+    goes-on-requires
     same-length
     same-length-2
     same-length-3

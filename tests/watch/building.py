@@ -1,0 +1,105 @@
+"""Building by bin/watch, in a small repository with an rt of its own that proves nothing: what is said, when it is built, and what when it fails."""
+import os
+import shutil
+import subprocess
+import tempfile
+import unittest
+
+from station import ROOT
+
+CRATES = "# two libraries and a program\nwords:\nsheet: words\nwatch: sheet words io # io is the kit's\nother:\n"
+
+RT = """#!/bin/sh
+echo "rt $*" >> "$RECORD"
+[ -z "$SLOW" ] || sleep 1
+echo "rt: words proved (unchanged since it was last proved)"
+echo "much that nobody wants to see"
+[ -z "$FAILS" ] || { echo "sheet.rt:1: error: no"; echo "rt: sheet NOT PROVED (exit 1, 2 s)"; exit 1; }
+echo "rt: sheet proved (2 s)"
+echo "rt: watch proved (31 s)"
+mkdir -p target/bin
+printf '#!/bin/sh\\necho ran\\ncat\\n' > target/bin/watch
+chmod +x target/bin/watch
+"""
+
+BEGIN = "watch: building: proving what changed; all of it takes about 4 minutes on two cores\n"
+PROVED = "watch: building: 2 of 3 crates proved (sheet, 2 s)\nwatch: building: 3 of 3 crates proved (watch, 31 s)\n"
+
+
+class Building(unittest.TestCase):
+    def setUp(self):
+        folder = tempfile.TemporaryDirectory()
+        self.addCleanup(folder.cleanup)
+        self.root = folder.name
+        for name in ("watch", "building.sh"):
+            os.makedirs(self.path("bin"), exist_ok=True)
+            shutil.copy(os.path.join(ROOT, "bin", name), self.path("bin", name))
+        self.write(CRATES, "crates.txt")
+        self.write("", "crates", "words", "src", "lib.rt")
+        self.write(RT, "kit", "rt")
+        os.chmod(self.path("kit", "rt"), 0o755)
+
+    def path(self, *names):
+        return os.path.join(self.root, *names)
+
+    def write(self, text, *names):
+        os.makedirs(os.path.dirname(self.path(*names)), exist_ok=True)
+        with open(self.path(*names), "w") as out:
+            out.write(text)
+
+    def calls(self):
+        """The calls of rt so far."""
+        with open(self.path("record")) as record:
+            return record.read().splitlines()
+
+    def start(self, **settings):
+        environment = {**os.environ, "PATH": self.path("kit") + ":/usr/bin:/bin", "RECORD": self.path("record"), **settings}
+        pipe = subprocess.PIPE
+        return subprocess.Popen([self.path("bin", "watch")], env=environment, stdin=pipe, stdout=pipe, stderr=pipe, text=True)
+
+    def ends(self, status, printed, said, **settings):
+        run = self.start(**settings)
+        out, err = run.communicate("input\n", timeout=60)
+        self.assertEqual((run.returncode, out, err), (status, printed, said))
+
+    def test_built_where_something_changed(self):
+        """The input is left to the program."""
+        self.ends(0, "ran\ninput\n", BEGIN + PROVED)
+        self.ends(0, "ran\ninput\n", "")
+        self.assertEqual(self.calls(), ["rt check watch"])
+        self.write("// changed", "crates", "words", "src", "lib.rt")
+        self.ends(0, "ran\ninput\n", BEGIN + PROVED)
+        os.remove(self.path("target", "bin", "watch"))
+        self.ends(0, "ran\ninput\n", BEGIN + PROVED)
+        self.assertEqual(self.calls(), ["rt check watch"] * 3)
+
+    def test_all_that_rt_says_is_kept(self):
+        self.ends(0, "ran\ninput\n", BEGIN + PROVED)
+        with open(self.path("target", "watch-build.log")) as log:
+            self.assertIn("much that nobody wants to see\n", log)
+
+    def test_fails(self):
+        last = "rt: words proved (unchanged since it was last proved)\nmuch that nobody wants to see\nsheet.rt:1: error: no\nrt: sheet NOT PROVED (exit 1, 2 s)\n"
+        named = "watch: not built: the last lines of %s stand above\n" % self.path("target", "watch-build.log")
+        self.ends(2, "", BEGIN + last + named, FAILS="yes")
+        self.ends(0, "ran\ninput\n", BEGIN + PROVED)
+
+    def test_no_rt(self):
+        os.remove(self.path("kit", "rt"))
+        said = "watch: not built: the Rattle kit's command rt is not on PATH (it lies in /opt/rattle/bin)\n"
+        self.ends(2, "", said)
+
+    def test_two_at_once(self):
+        """The second waits for the first, and finds the program built."""
+        runs = [self.start(SLOW="yes") for _ in range(2)]
+        said = []
+        for run in runs:
+            out, err = run.communicate("input\n", timeout=60)
+            self.assertEqual((run.returncode, out), (0, "ran\ninput\n"))
+            said.append(err)
+        self.assertEqual(sorted(said), ["watch: another command is building; waiting for it\n", BEGIN + PROVED])
+        self.assertEqual(self.calls(), ["rt check watch"])
+
+
+if __name__ == "__main__":
+    unittest.main()
