@@ -151,14 +151,22 @@ walk-alike f o (suc n) q end h =
     last q n = omega arith
 
 -- The bodies of n positions from q on, none above t, where the body does not name the range's variable: from the outcome of the first.
-pub unnamed-walk : (F : Formula) (flags : ℕ → ℕ) (t : ℕ) (env : List ℕ) (s n q : ℕ) (end : Outcome) → names (length env) F ≡ false → 0 < n → q + n ≤ suc t
-    → walk (λ r. seen t r (outcome F flags t (env ++ (r ∷ [])) (max s r))) n q end
-    ≡ both (outcome F flags t (env ++ (q ∷ [])) (max s q)) (both (raise (q + (n - 1)) (outcome F flags t (env ++ (q ∷ [])) (max s q))) end)
-unnamed-walk F flags t env s n q end h i k =
-    ap (λ (m : ℕ). walk (λ r. seen t r (outcome F flags t (env ++ (r ∷ [])) (max s r))) m q end) (some n i)
-    ∙ walk-alike (λ r. seen t r (outcome F flags t (env ++ (r ∷ [])) (max s r))) (outcome F flags t (env ++ (q ∷ [])) (max s q)) (n - 1) q end
-    (λ r a b. seen-in t r (outcome F flags t (env ++ (r ∷ [])) (max s r)) (omega arith) ∙ unnamed-body F flags t env s q r h a)
-    ∙ ap (λ (o : Outcome). both o (both (raise (q + (n - 1)) (outcome F flags t (env ++ (q ∷ [])) (max s q))) end)) (sym (unnamed-body F flags t env s q q h (omega arith)))
-  where
-    some : (n : ℕ) → 0 < n → n ≡ suc (n - 1)
-    some n i = omega arith
+module _ (F : Formula) (flags : ℕ → ℕ) (t : ℕ) (env : List ℕ) (s : ℕ) where
+  abbrev body : ℕ → Outcome
+  body q = seen t q (outcome F flags t (env ++ (q ∷ [])) (max s q))
+
+  body-later : (q r : ℕ) → names (length env) F ≡ false → q ≤ r → r ≤ t → body r ≡ raise r (body q)
+  body-later q r h i j =
+      seen-in t r (outcome F flags t (env ++ (r ∷ [])) (max s r)) j
+      ∙ unnamed-body F flags t env s q r h i
+      ∙ ap (raise r) (sym (seen-in t q (outcome F flags t (env ++ (q ∷ [])) (max s q)) (omega arith)))
+
+  pub unnamed-walk : (n q : ℕ) (end : Outcome) → names (length env) F ≡ false → 0 < n → q + n ≤ suc t
+      → walk body n q end ≡ both (body q) (both (raise (q + (n - 1)) (body q)) end)
+  unnamed-walk n q end h i k =
+      ap (λ (m : ℕ). walk body m q end) some
+      ∙ walk-alike body (body q) (n - 1) q end (λ r a b. body-later q r h a (omega arith))
+      ∙ ap (λ (o : Outcome). both o (both (raise (q + (n - 1)) (body q)) end)) (sym (body-later q q h (omega arith) (omega arith)))
+    where
+      some : n ≡ suc (n - 1)
+      some = omega arith
