@@ -36,7 +36,7 @@ fn flag_at(recording: &[u8], env: Env, v: u32, k: u32, s: u64) -> Outcome
     outcomes::flag_outcome(flag_byte(recording, q), k, s)
 }
 
-// Whether no body started at this step or later can change an outcome, since a body is not decided before it starts.
+// Whether no formula started at this step or later can change an outcome beside it, since none is decided before it starts.
 fn settled(o: Outcome, start: u64) -> bool
     ensures { λ r. ⌜ r ≡ settled o start ⌝ }
 {
