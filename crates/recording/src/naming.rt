@@ -10,7 +10,7 @@ use nodes::SECOND_PART;
 use nodes::VARIABLE;
 use nodes::node_word;
 
-// The bound whose words start at word j.
+// The bound whose words start at word j: only one of kind 2 has a variable.
 fn bound_names(nodes: &[u32], j: usize, v: u32) -> bool
     ensures { λ r. ⌜ r ≡ bound-names v (bound-at (now (nodes .entry)) j) ⌝ }
 {
@@ -31,7 +31,7 @@ fn has_second_part(code: u32) -> bool
     code == 4
 }
 
-// The formula at word i, inside m quantifiers, with `left` formulas left.
+// The formula at word i, inside m quantifiers, with `left` formulas left: at a flag, or in a bound of a quantifier inside. It is that of any table.
 fn names(nodes: &[u32], left: u64, m: usize, i: usize, v: u32) -> bool
     requires { ⌜ (left ≤ 64) × (i + 12 * left ≤ 4294968064) ⌝ }
     ensures { λ r. ⌜ r ≡ names v (formula-in left (now (nodes .entry)) m i) ⌝ }
@@ -65,7 +65,8 @@ fn names(nodes: &[u32], left: u64, m: usize, i: usize, v: u32) -> bool
     node_word(nodes, i, VARIABLE) == v
 }
 
-// Whether the bodies of n positions of the range at word i, inside m quantifiers, are more than one and do not name the range's variable.
+// Whether the range at word i, inside m quantifiers, has n positions that are more than one, and a body that does not name its variable. One
+// position alone is evaluated as it is, and none costs nothing.
 pub(crate) fn alike(nodes: &[u32], left: u64, m: usize, i: usize, n: u64) -> bool
     requires { ⌜ (left ≤ 64) × ((i + 12 + 12 * left ≤ 4294968064) × (m < 4)) ⌝ }
     ensures { λ r. ⌜ r ≡ (ltb 1 n && not (names (m + 1) (formula-in left (now (nodes .entry)) (m + 1) (i + 12)))) ⌝ }

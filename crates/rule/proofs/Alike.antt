@@ -138,7 +138,9 @@ both-again Open Open = refl
 walk-alike : (f : ℕ → Outcome) (o : Outcome) (n q : ℕ) (end : Outcome) → ((r : ℕ) → q ≤ r → r ≤ q + n → f r ≡ raise r o)
     → walk f (suc n) q end ≡ both (raise q o) (both (raise (q + n) o) end)
 unfolding walk
-walk-alike f o zero q end h = ap (λ (a : Outcome). both a end) (h q (omega arith) (omega arith)) ∙ both-again (raise q o) end ∙ ap (λ (l : ℕ). both (raise q o) (both (raise l o) end)) (last q)
+walk-alike f o zero q end h =
+    ap (λ (a : Outcome). both a end) (h q (omega arith) (omega arith)) ∙ both-again (raise q o) end
+    ∙ ap (λ (l : ℕ). both (raise q o) (both (raise l o) end)) (last q)
   where
     last : (q : ℕ) → q ≡ q + 0
     last q = omega arith
