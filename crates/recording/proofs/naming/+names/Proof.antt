@@ -6,7 +6,6 @@ use mathlib.Core.List.{List}
 use native.Mathlib.Omega.{arith}
 use borrow.Author.Needs.{needs}
 use lib.ListN.{getD}
-use Rattle.rule.specs.Formula.{Formula}
 use Rattle.nodes.specs.Table.{formula-in}
 use Rattle.recording.specs.Evaluating.{forall-in}
 use Rattle.recording.proofs.Nodes.{none-in, negate-in, range-in}
