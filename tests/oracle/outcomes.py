@@ -69,6 +69,27 @@ CASES = [
     ("four quantifiers",
      h("05 02000000 02000100 05 02010000 02010100 05 02020000 02020100 05 02030000 02030000 01 04 00"), STREAM),
     ("64 formulas", h("02") * 63 + FLAG_0, MIXED),
+    ("beside: the second part is false earlier", h("04") + A + h("01 00 01"), MIXED),
+    # bodies that do not name their range's variable
+    ("Y from X to X+2, flag 0 at X", h("05 02000000 02000200 01 00 00"), MIXED),
+    ("Y from X+3 to X+5, flag 0 at X", h("05 02000300 02000500 01 00 00"), MIXED),
+    ("Y from X-3 to X-1, flag 0 at X", h("05 0200FDFF 0200FFFF 01 00 00"), MIXED),
+    ("Y from X to X-1, flag 0 at X", h("05 02000000 0200FFFF 01 00 00"), MIXED),
+    ("Y from infinity to X, flag 0 at X", h("05 01000000 02000000 01 00 00"), MIXED),
+    ("Y from X+1 to infinity, flag 0 at X", h("05 02000100 01000000 01 00 00"), MIXED),
+    ("Y from X-1 to X+3, Z from X to X+1", h("05 0200FFFF 02000300 05 02000000 02000100 01 02 00"), STREAM),
+    ("Y and Z from 0 to infinity", h("05 00000000 01000000 05 00000000 01000000 01 02 00"), MIXED),
+    ("four from 0 to infinity, flag 6 down at Z",
+     h("05 00000000 01000000") * 4 + h("02 01 02 06"), STREAM),
+    ("four from X-1 to X+2, flag 0 at X", h("05 0200FFFF 02000200") * 4 + h("01 00 00"), MIXED),
+    ("Y from X-1 to X+4, A then flag 1 at X",
+     h("05 0200FFFF 02000400 03 05 02000000 02000200 01 02 00 01 00 01"), MIXED),
+    ("not for all Y from X to X+3, Z from 0 to X, flag 7 down at Z",
+     h("02 05 02000000 02000300 05 00000000 02000000 02 01 02 07"), MIXED),
+    # the range's variable in a bound alone
+    ("Y from X to X+3, Z from X+2 to Y", h("05 02000000 02000300 05 02000200 02010000 01 02 00"), STREAM),
+    ("Y from X to X+3, some Z from Y to X+2, flag 0 at X",
+     h("05 02000000 02000300 02 05 02010000 02000200 01 00 00"), STREAM),
 ]
 
 REFUSED = [
@@ -117,6 +138,15 @@ def long():
     print(f"65000: {shown(nested, up, 65000)}")
     for tick in (0, 32767):
         print(f"{tick}: {shown(nested, bytes(65535), tick)}")
+    # Y from X to X+3, Z from 0 to 2, W from 0 on: the last tick alone is down
+    wide = h("05 02000000 02000300 05 00000000 00000200 05 00000000 01000000 01 03 00")
+    for tick in (0, 65532, 65534):
+        print(f"{tick}: {shown(wide, bytes(down), tick)}")
+    # three from 0 on, over 80 ticks
+    deep = h("05 00000000 01000000") * 3 + h("01 03 00")
+    for tick in (0, 79):
+        print(f"{tick}: {shown(deep, up[:80], tick)}")
+        print(f"{tick}: {shown(deep, up[:79] + bytes(1), tick)}")
 
 
 if __name__ == "__main__":

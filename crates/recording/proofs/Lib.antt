@@ -1,5 +1,6 @@
 pub mod Environment
 pub mod Nodes
 pub mod Parts
+pub mod Named
 pub mod Walking
 pub mod Entry

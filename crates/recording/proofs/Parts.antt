@@ -1,8 +1,10 @@
 -- The outcome of a formula from those of its parts, as the evaluator makes it.
 use Prim.Native.Nat.{ℕ}
-use mathlib.Core.Path.{_≡_, ap, ap₂, _∙_}
+use mathlib.Core.Path.{_≡_, refl, sym, ap, ap₂, _∙_}
+use mathlib.Core.Bool.{Bool, true, false≢true}
 use mathlib.Core.List.{List}
 use lib.ListN.{getD}
+use borrow.Author.Tests.{leb-true}
 use Rattle.rule.specs.declared.Verdict.{Verdict}
 use Rattle.rule.specs.declared.Verdict.the-variants.{True, False}
 use Rattle.rule.specs.declared.Outcome.{Outcome}
@@ -10,6 +12,15 @@ use Rattle.rule.specs.declared.Outcome.the-variants.{Decided, Open}
 use Rattle.rule.specs.Formula.{Formula, flag, negate, then, beside}
 use Rattle.rule.specs.Meaning.{verdict, up, opposite, both, after, outcome}
 use Rattle.rule.specs.Recording.{recorded}
+use Rattle.rule.specs.Started.{From}
+use Rattle.rule.proofs.Horizon.{from-less, from-start}
+use Rattle.outcomes.proofs.Conjunction.{both-comm, both-settled}
+use Rattle.recording.specs.Evaluating.{settled}
+
+settled-both : (o p : Outcome) (s : ℕ) → settled o s ≡ true → From s p → o ≡ both o p
+settled-both (Decided True d) p s h k = absurd (false≢true h)
+settled-both (Decided False d) p s h k = sym (both-comm (Decided False d) p ∙ both-settled d p (from-less p (leb-true d s h) k))
+settled-both Open p s h k = absurd (false≢true h)
 
 module _ (rec : List ℕ) (t : ℕ) (env : List ℕ) (s : ℕ) where
   pub by-flag : {F : Formula} {v k p : ℕ} {r : Outcome} → F ≡ flag v k → p ≡ getD env v 0 → r ≡ Decided (verdict (up k (recorded rec p))) s
@@ -28,6 +39,12 @@ module _ (rec : List ℕ) (t : ℕ) (env : List ℕ) (s : ℕ) where
       → r ≡ both o p → r ≡ outcome F (recorded rec) t env s
   unfolding outcome
   by-beside e f g h = rw e (h ∙ ap₂ both f g)
+
+  -- F false at s, before which G is not decided
+  pub beside-settled : {F G H : Formula} {o : Outcome} {b : Bool} → F ≡ beside G H → o ≡ outcome G (recorded rec) t env s → b ≡ settled o s → b ≡ true
+      → o ≡ outcome F (recorded rec) t env s
+  beside-settled {H = H} {o = o} e f x y =
+      by-beside e f refl (settled-both o (outcome H (recorded rec) t env s) s (sym x ∙ y) (from-start H (recorded rec) t env s))
 
   -- F then G, by F's outcome
   by-then : {F G H : Formula} {o r : Outcome} → F ≡ then G H → o ≡ outcome G (recorded rec) t env s → r ≡ after o (λ d. outcome H (recorded rec) t env d)

@@ -1,10 +1,12 @@
 -- The walk over a range's positions: upward, one position at a time, and no further once it is settled.
 use Prim.Native.Nat.{ℕ, zero, suc, _+_, _-_, _≤_, _<_, max}
-use mathlib.Core.Path.{_≡_, refl, sym, ap, _∙_}
-use mathlib.Core.Bool.{Bool, true, false≢true}
+use mathlib.Core.Path.{_≡_, refl, sym, ap, ap₂, _∙_}
+use mathlib.Core.Bool.{Bool, true, false, not, _&&_, false≢true}
 use mathlib.Core.List.{List, [], _∷_, _++_}
 use native.Mathlib.Omega.{arith}
+use lib.Dec.{ltb}
 use lib.ListN.{length, getD}
+use lib.Seq.{length-take-le}
 use borrow.Author.Tests.{leb-true, lt-ltb, le-ltb}
 use Rattle.rule.specs.declared.Verdict.the-variants.{True, False}
 use Rattle.rule.specs.declared.Outcome.{Outcome}
@@ -12,8 +14,10 @@ use Rattle.rule.specs.declared.Outcome.the-variants.{Decided, Open}
 use Rattle.rule.specs.Formula.{Formula, flag}
 use Rattle.rule.specs.Meaning.{Range, range, walk, seen, both, outcome}
 use Rattle.rule.specs.Recording.{recorded}
-use Rattle.rule.specs.Started.{From}
+use Rattle.rule.specs.Started.{From, raise}
+use Rattle.rule.specs.Naming.{names}
 use Rattle.rule.proofs.Every.{seen-in, seen-out, walk-next}
+use Rattle.rule.proofs.Alike.{unnamed-walk}
 use Rattle.rule.proofs.Horizon.{from-less, from-seen, from-start}
 use Rattle.nodes.specs.Table.{bound-at, formula-in}
 use Rattle.ranges.specs.Spans.{held, held-at}
@@ -55,6 +59,11 @@ walk-done f start n q Open h e = absurd (false≢true e)
 
 -- ---- the bodies of a "for all"
 
+not-named : (a b : Bool) → (a && not b) ≡ true → b ≡ false
+not-named true true h = absurd (false≢true h)
+not-named true false h = refl
+not-named false b h = absurd (false≢true h)
+
 -- The outcome of the body at position q: "starts its body at max(s, q); one above t is open".
 abbrev pub body-at : Formula → List ℕ → ℕ → List ℕ → ℕ → ℕ → Outcome
 body-at F rec t env s q = seen t q (outcome F (recorded rec) t (env ++ (q ∷ [])) (max s q))
@@ -83,6 +92,22 @@ module _ (left : ℕ) (ns : List ℕ) (i : ℕ) (rec : List ℕ) (t : ℕ) (e : 
       ∙ ap (λ (w : List ℕ). outcome body (recorded rec) t w start) (places-more e q l h)
       ∙ ap (λ (w : ℕ). outcome body (recorded rec) t (places e ++ (q ∷ [])) w) y
       ∙ sym (seen-in t q (outcome body (recorded rec) t (places e ++ (q ∷ [])) (max s q)) k)
+
+  -- what one evaluation answers for all positions that are left, where the body does not name the range's variable
+  pub body-alike : (n q n₀ : ℕ) {o x acc′ r : Outcome} {b : Bool} (acc : Outcome) → length (e .pos) ≡ 5 → e .nested < 4 → 0 < n → n ≤ suc t - q
+      → b ≡ (ltb 1 n₀ && not (names (e .nested + 1) body)) → b ≡ true → o ≡ body-at body rec t (places e) s q
+      → acc′ ≡ both o acc → x ≡ raise (q + (n - 1)) o → r ≡ both x acc′ → walk (body-at body rec t (places e) s) n q acc ≡ r
+  body-alike n q n₀ {o} {x} {acc′} {r} {b} acc l h i k a c f g y z =
+      unnamed-walk body (recorded rec) t (places e) s n q acc unnamed i (omega arith)
+      ∙ ap (λ (w : Outcome). both w (both (raise (q + (n - 1)) w) acc)) (sym f)
+      ∙ both-exchange o (raise (q + (n - 1)) o) acc
+      ∙ ap₂ both (sym y) (sym g) ∙ sym z
+    where
+      bound : length (places e) ≡ e .nested + 1
+      bound = length-take-le (suc (e .nested)) (e .pos) (omega arith) ∙ omega arith
+
+      unnamed : names (length (places e)) body ≡ false
+      unnamed = ap (λ (v : ℕ). names v body) bound ∙ not-named (ltb 1 n₀) (names (e .nested + 1) body) (sym a ∙ c)
 
   -- the plan is one for the definition's range
   pub plan-here : {r : Range} {first n : ℕ} {end : Outcome} → Ready (suc left) i t e → r ≡ range (bound-at ns (i + 1)) (bound-at ns (i + 4)) (held (e .pos))

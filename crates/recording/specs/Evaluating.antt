@@ -24,7 +24,7 @@ started p = record { nested = 0; pos = p ∷ (0 ∷ (0 ∷ (0 ∷ (0 ∷ [])))) 
 abbrev pub entered : Env → ℕ → Env
 entered e q = record { nested = e .nested + 1; pos = set (e .pos) (e .nested + 1) q }
 
--- An outcome that no body started at this step or later can change: false by then.
+-- An outcome that no formula started at this step or later, beside it, can change: false by then.
 abbrev pub settled : Outcome → ℕ → Bool
 settled (Decided True d) start = false
 settled (Decided False d) start = leb d start

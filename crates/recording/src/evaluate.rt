@@ -5,11 +5,13 @@ ghost use lib.ListN.{getD};
 ghost use Rattle.rule.specs.declared.Outcome.{Outcome};
 ghost use Rattle.rule.specs.Meaning.{verdict, up, outcome};
 ghost use Rattle.rule.specs.Recording.{recorded};
+ghost use Rattle.rule.specs.Started.{raise};
 ghost use Rattle.nodes.specs.Table.{formula-in};
 ghost use Rattle.recording.specs.Evaluating.{places, settled, forall-in, Ready};
 use crate::env::Env;
 use crate::env::enter;
 use crate::env::position;
+use crate::naming::alike;
 use nodes::CODE;
 use nodes::FLAG;
 use nodes::SECOND_PART;
@@ -34,7 +36,7 @@ fn flag_at(recording: &[u8], env: Env, v: u32, k: u32, s: u64) -> Outcome
     outcomes::flag_outcome(flag_byte(recording, q), k, s)
 }
 
-// Whether no body started at this step or later can change an outcome, since a body is not decided before it starts.
+// Whether no formula started at this step or later can change an outcome beside it, since none is decided before it starts.
 fn settled(o: Outcome, start: u64) -> bool
     ensures { λ r. ⌜ r ≡ settled o start ⌝ }
 {
@@ -44,6 +46,16 @@ fn settled(o: Outcome, start: u64) -> bool
             Verdict::False => d <= start,
         },
         Outcome::Open => false,
+    }
+}
+
+// The outcome, at step s or later.
+fn raise(s: u64, o: Outcome) -> Outcome
+    ensures { λ r. ⌜ r ≡ raise s o ⌝ }
+{
+    match o {
+        Outcome::Decided(v, d) => Outcome::Decided(v, outcomes::later(s, d)),
+        Outcome::Open => Outcome::Open,
     }
 }
 
@@ -81,6 +93,9 @@ pub(crate) fn evaluate(
     }
     if code == 4 {
         let first = evaluate(nodes, left - 1, i + 12, recording, t, env, s);
+        if settled(first, s) {
+            return first;
+        }
         let second = node_word(nodes, i, SECOND_PART) as usize;
         let other = evaluate(nodes, left - 1, second, recording, t, env, s);
         return outcomes::both(first, other);
@@ -94,7 +109,8 @@ pub(crate) fn evaluate(
 }
 
 // The outcome of the "for all" at word i: its bodies side by side, position by position upward, each started at max(s, q), never above t, and
-// no further once it is settled. A loop: so many calls as a recording has ticks would be too deep.
+// no further once it is settled. Where the body does not name the range's variable, the bodies are alike but for their start: the first is
+// evaluated, and the last is the same, raised. A loop: so many calls as a recording has ticks would be too deep.
 fn walk_range(
     nodes: &[u32],
     left: u64,
@@ -112,6 +128,7 @@ fn walk_range(
     }
     let pos = env.pos;
     let plan = ranges::plan_up_to(ranges::range_at(nodes, i, pos), t, s);
+    let alike = alike(nodes, left, env.nested, i, plan.n);
     let mut acc = plan.end;
     let mut q = plan.first;
     let mut n = plan.n;
@@ -122,6 +139,9 @@ fn walk_range(
         }
         let o = evaluate(nodes, left, i + 12, recording, t, enter(env, q), start);
         acc = outcomes::both(o, acc);
+        if alike {
+            return outcomes::both(raise(q + (n - 1), o), acc);
+        }
         q += 1;
         n -= 1;
     }

@@ -1,6 +1,7 @@
 // The recording evaluator: a body's outcome at a tick of a recording.
 mod env;
 mod evaluate;
+mod naming;
 
 ghost use mathlib.Core.Path.{_≡_};
 ghost use Rattle.rule.specs.Recording.{over-recording, recording-outcome};

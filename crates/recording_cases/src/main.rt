@@ -142,6 +142,97 @@ fn nested() {
     deep[64] = 0;
     deep[65] = 0;
     every_tick(b"64 formulas", &deep, mixed);
+    every_tick(
+        b"beside: the second part is false earlier",
+        b"\x04\x05\x02\x00\x00\x00\x02\x00\x02\x00\x01\x01\x00\x01\x00\x01",
+        mixed,
+    );
+}
+
+// A range whose body names only variables outside it: one range, of every kind.
+fn unnamed() {
+    let mixed = b"\x07\x06\x85\x01\x03\x07\x81\x05\x07\x00";
+    every_tick(
+        b"Y from X to X+2, flag 0 at X",
+        b"\x05\x02\x00\x00\x00\x02\x00\x02\x00\x01\x00\x00",
+        mixed,
+    );
+    every_tick(
+        b"Y from X+3 to X+5, flag 0 at X",
+        b"\x05\x02\x00\x03\x00\x02\x00\x05\x00\x01\x00\x00",
+        mixed,
+    );
+    every_tick(
+        b"Y from X-3 to X-1, flag 0 at X",
+        b"\x05\x02\x00\xfd\xff\x02\x00\xff\xff\x01\x00\x00",
+        mixed,
+    );
+    every_tick(
+        b"Y from X to X-1, flag 0 at X",
+        b"\x05\x02\x00\x00\x00\x02\x00\xff\xff\x01\x00\x00",
+        mixed,
+    );
+    every_tick(
+        b"Y from infinity to X, flag 0 at X",
+        b"\x05\x01\x00\x00\x00\x02\x00\x00\x00\x01\x00\x00",
+        mixed,
+    );
+    every_tick(
+        b"Y from X+1 to infinity, flag 0 at X",
+        b"\x05\x02\x00\x01\x00\x01\x00\x00\x00\x01\x00\x00",
+        mixed,
+    );
+}
+
+// The same with ranges inside.
+fn unnamed_nested() {
+    let stream = b"\x00\x01\x01\x00\x01\x01\x01\x01\x00\x00";
+    let mixed = b"\x07\x06\x85\x01\x03\x07\x81\x05\x07\x00";
+    every_tick(
+        b"Y from X-1 to X+3, Z from X to X+1",
+        b"\x05\x02\x00\xff\xff\x02\x00\x03\x00\x05\x02\x00\x00\x00\x02\x00\x01\x00\x01\x02\x00",
+        stream,
+    );
+    every_tick(
+        b"Y and Z from 0 to infinity",
+        b"\x05\x00\x00\x00\x00\x01\x00\x00\x00\x05\x00\x00\x00\x00\x01\x00\x00\x00\x01\x02\x00",
+        mixed,
+    );
+    every_tick(
+        b"four from 0 to infinity, flag 6 down at Z",
+        b"\x05\x00\x00\x00\x00\x01\x00\x00\x00\x05\x00\x00\x00\x00\x01\x00\x00\x00\x05\x00\x00\x00\x00\x01\x00\x00\x00\x05\x00\x00\x00\x00\x01\x00\x00\x00\x02\x01\x02\x06",
+        stream,
+    );
+    every_tick(
+        b"four from X-1 to X+2, flag 0 at X",
+        b"\x05\x02\x00\xff\xff\x02\x00\x02\x00\x05\x02\x00\xff\xff\x02\x00\x02\x00\x05\x02\x00\xff\xff\x02\x00\x02\x00\x05\x02\x00\xff\xff\x02\x00\x02\x00\x01\x00\x00",
+        mixed,
+    );
+    every_tick(
+        b"Y from X-1 to X+4, A then flag 1 at X",
+        b"\x05\x02\x00\xff\xff\x02\x00\x04\x00\x03\x05\x02\x00\x00\x00\x02\x00\x02\x00\x01\x02\x00\x01\x00\x01",
+        mixed,
+    );
+    every_tick(
+        b"not for all Y from X to X+3, Z from 0 to X, flag 7 down at Z",
+        b"\x02\x05\x02\x00\x00\x00\x02\x00\x03\x00\x05\x00\x00\x00\x00\x02\x00\x00\x00\x02\x01\x02\x07",
+        mixed,
+    );
+}
+
+// A range whose variable a bound alone names.
+fn named_in_a_bound() {
+    let stream = b"\x00\x01\x01\x00\x01\x01\x01\x01\x00\x00";
+    every_tick(
+        b"Y from X to X+3, Z from X+2 to Y",
+        b"\x05\x02\x00\x00\x00\x02\x00\x03\x00\x05\x02\x00\x02\x00\x02\x01\x00\x00\x01\x02\x00",
+        stream,
+    );
+    every_tick(
+        b"Y from X to X+3, some Z from Y to X+2, flag 0 at X",
+        b"\x05\x02\x00\x00\x00\x02\x00\x03\x00\x02\x05\x02\x01\x00\x00\x02\x00\x02\x00\x01\x00\x00",
+        stream,
+    );
 }
 
 fn refusals() {
@@ -179,5 +270,8 @@ fn main() {
     ranges_over_ticks();
     ranges_to_infinity();
     nested();
+    unnamed();
+    unnamed_nested();
+    named_in_a_bound();
     refusals();
 }

@@ -22,6 +22,28 @@ fn nested() {
     outcome_text::outcome(body, &down, 32767);
 }
 
+// Y from X to X+3, Z from 0 to 2, W from 0 on, of which only W is named: the last tick alone is down.
+fn wide(flags: &[u8]) {
+    let body =
+        b"\x05\x02\x00\x00\x00\x02\x00\x03\x00\x05\x00\x00\x00\x00\x00\x00\x02\x00\x05\x00\x00\x00\x00\x01\x00\x00\x00\x01\x03\x00";
+    outcome_text::outcome(body, flags, 0);
+    outcome_text::outcome(body, flags, 65532);
+    outcome_text::outcome(body, flags, 65534);
+}
+
+// Three from 0 on, of which only the innermost is named, over 80 ticks that are all up, and with the last one down.
+fn deep() {
+    let body =
+        b"\x05\x00\x00\x00\x00\x01\x00\x00\x00\x05\x00\x00\x00\x00\x01\x00\x00\x00\x05\x00\x00\x00\x00\x01\x00\x00\x00\x01\x03\x00";
+    let up = [1u8; 80];
+    let mut down = [1u8; 80];
+    down[79] = 0;
+    outcome_text::outcome(body, &up, 0);
+    outcome_text::outcome(body, &down, 0);
+    outcome_text::outcome(body, &up, 79);
+    outcome_text::outcome(body, &down, 79);
+}
+
 fn main() {
     let onward = b"\x05\x02\x00\x00\x00\x01\x00\x00\x00\x01\x01\x00";
     let past = b"\x05\x00\x00\x00\x00\x02\x00\x00\x00\x01\x01\x00";
@@ -34,4 +56,6 @@ fn main() {
     let longer = io::large_buffer();
     outcome_text::outcome(onward, &longer, 0);
     nested();
+    wide(&flags);
+    deep();
 }

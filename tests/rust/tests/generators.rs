@@ -133,6 +133,44 @@ fn bounds(formula: &Formula, seen: &mut Vec<Bound>) {
     }
 }
 
+/// Ranges whose body names their variable at a flag, only in a bound, and not at all.
+#[test]
+fn ranges_name_their_variable_or_not() {
+    let mut random = Random::new(209);
+    let mut seen = [0; 3];
+    for _ in 0..3_000 {
+        count_ranges(&wild_formula(&mut random), 0, &mut seen);
+    }
+    assert!(seen.iter().all(|&count| count > 300), "{seen:?}");
+}
+
+fn count_ranges(formula: &Formula, nested: usize, seen: &mut [u64; 3]) {
+    match formula {
+        Formula::Flag(..) => {}
+        Formula::Not(part) => count_ranges(part, nested, seen),
+        Formula::Then(f, g) | Formula::Beside(f, g) => {
+            count_ranges(f, nested, seen);
+            count_ranges(g, nested, seen);
+        }
+        Formula::ForAll(_, _, part) => {
+            let mut inside = Vec::new();
+            bounds(part, &mut inside);
+            let bounded =
+                inside.iter().any(|b| matches!(b, Bound::Variable(v, _) if *v == nested + 1));
+            seen[if at_flag(part, nested + 1) { 0 } else { 2 - bounded as usize }] += 1;
+            count_ranges(part, nested + 1, seen);
+        }
+    }
+}
+
+fn at_flag(formula: &Formula, variable: usize) -> bool {
+    match formula {
+        Formula::Flag(v, _) => *v == variable,
+        Formula::Not(part) | Formula::ForAll(_, _, part) => at_flag(part, variable),
+        Formula::Then(f, g) | Formula::Beside(f, g) => at_flag(f, variable) || at_flag(g, variable),
+    }
+}
+
 /// Bodies of any sort hit every number, and so do those damaged twice.
 #[test]
 fn any_bodies_hit_every_number() {

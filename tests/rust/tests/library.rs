@@ -2,7 +2,9 @@
 //! chosen so that all of this takes well under three minutes.
 
 use rust_tests::compare::{self, Tally};
-use rust_tests::library::Linked;
+use rust_tests::library::{Library, Linked};
+use rust_tests::notation::*;
+use rust_tests::paper::write_body;
 
 /// Together at least 20,000 rules and 2,000,000 steps, in two tests that run
 /// beside each other.
@@ -77,6 +79,30 @@ fn recordings() {
 fn long_recordings() {
     let numbers = compare::long_recordings(&Linked, 1_006, LONG_RECORDINGS).unwrap();
     assert!(numbers.each_at_least(&[0, 16], 2 * LONG_RECORDINGS as u64), "{numbers:?}");
+}
+
+/// Four ranges from 0 on over the longest recording, of which the flag names the innermost alone:
+/// walked each, they would take thousands of years. All flags are up, so that no body is false, and
+/// a range without an end is never true: open. With the last tick down, false at its step.
+#[test]
+fn nested_ranges_over_the_longest_recording() {
+    let mut rule = flag(0, V);
+    for _ in 0..4 {
+        rule = all(start(0), INFINITY, rule);
+    }
+    let body = write_body(&rule);
+    let mut recording = vec![1; 65_535];
+    assert_eq!(answer(&body, &recording, 0), (0, 0, 0));
+    recording[65_534] = 0;
+    assert_eq!(answer(&body, &recording, 0), (0, 2, 65_534));
+    assert_eq!(answer(&body, &recording, 65_534), (0, 2, 65_534));
+}
+
+/// The refusal's number, the verdict and the step of an outcome.
+fn answer(body: &[u8], recording: &[u8], tick: usize) -> (u32, u32, u64) {
+    let (mut verdict, mut step) = (9, 9);
+    let number = Linked.outcome(body, recording, tick, &mut verdict, &mut step);
+    (number, verdict, step)
 }
 
 #[test]

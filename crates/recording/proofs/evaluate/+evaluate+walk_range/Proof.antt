@@ -1,11 +1,12 @@
 -- `recording::evaluate::evaluate` and `walk_range` meet their contracts: the evaluator answers the formula's outcome for any table, and the
 -- walker that of a "for all". The formulas left fall from call to call, and the walker's positions from turn to turn.
 -- Assumes nothing.
-use mathlib.Core.Path.{_≡_, sym, _∙_}
+use mathlib.Core.Path.{_≡_, refl, sym, _∙_}
 use mathlib.Core.List.{List}
 use native.Mathlib.Omega.{arith}
 use borrow.Author.Needs.{needs}
 use lib.ListN.{getD}
+use Rattle.rule.specs.declared.Outcome.{Outcome}
 use Rattle.rule.specs.Meaning.{walk, outcome}
 use Rattle.rule.specs.Recording.{recorded}
 use Rattle.rule.proofs.Every.{walk-none}
@@ -13,8 +14,8 @@ use Rattle.nodes.specs.Table.{formula-in}
 use Rattle.recording.specs.Evaluating.{places, forall-in, Ready}
 use Rattle.recording.proofs.Environment.{place-at, ready-part, ready-range, ready-body}
 use Rattle.recording.proofs.Nodes.{none-in, negate-in, then-in, beside-in, range-in, flag-in}
-use Rattle.recording.proofs.Parts.{by-same, by-flag, by-negate, by-beside, then-true, then-false, then-open}
-use Rattle.recording.proofs.Walking.{body-at, walk-step, body-settled, body-here, plan-here, by-forall, no-forall}
+use Rattle.recording.proofs.Parts.{by-same, by-flag, by-negate, by-beside, beside-settled, then-true, then-false, then-open}
+use Rattle.recording.proofs.Walking.{body-at, walk-step, body-settled, body-here, body-alike, plan-here, by-forall, no-forall}
 use Prim.Native.Nat.{ℕ, suc, _+_, _*_, _-_, _≤_, _<_}
 use borrow.Fn.Kinds.{In}
 use borrow.Fn.PlainCycle.{Measures, is, falls, and}
@@ -32,7 +33,9 @@ use Rattle.ranges.proofs.plan_up_to.Reads as plan-up-to-reads
 use Rattle.ranges.proofs.range_at.Reads as range-at-reads
 use Rattle.recording.proofs.env.enter.Reads as enter-reads
 use Rattle.recording.proofs.evaluate.flag_at.Reads as flag-at-reads
+use Rattle.recording.proofs.evaluate.raise.Reads as raise-reads
 use Rattle.recording.proofs.evaluate.settled.Reads as settled-reads
+use Rattle.recording.proofs.naming.alike.Reads as alike-reads
 use Rattle.recording.proofs.evaluate.+evaluate+walk_range.{statement}
 use Rattle.recording.proofs.evaluate.+evaluate+walk_range.Tie.{close}
 
@@ -58,10 +61,10 @@ walk-range-below t =
     and 2 walk-range-kinds.ps (falls 2 walk-range-kinds.ps _<_ μ-walk-range t) walk-range.Pre
 
 abbrev evaluate-claims : ℕ → evaluate-lts.Claims
-evaluate-claims t = (flag-at-reads.Asked, flag-at-reads.Learnt, node-word-reads.Asked, node-word-reads.Learnt, evaluate-below t, evaluate.Post, opposite-reads.Asked, opposite-reads.Learnt, both-reads.Asked, both-reads.Learnt, walk-range-below t, walk-range.Post)
+evaluate-claims t = (flag-at-reads.Asked, flag-at-reads.Learnt, node-word-reads.Asked, node-word-reads.Learnt, evaluate-below t, evaluate.Post, opposite-reads.Asked, opposite-reads.Learnt, settled-reads.Asked, settled-reads.Learnt, both-reads.Asked, both-reads.Learnt, walk-range-below t, walk-range.Post)
 
 abbrev walk-range-claims : ℕ → walk-range-lts.Claims
-walk-range-claims t = (flag-at-reads.Asked, flag-at-reads.Learnt, range-at-reads.Asked, range-at-reads.Learnt, plan-up-to-reads.Asked, plan-up-to-reads.Learnt, later-reads.Asked, later-reads.Learnt, settled-reads.Asked, settled-reads.Learnt, enter-reads.Asked, enter-reads.Learnt, evaluate-below t, evaluate.Post, both-reads.Asked, both-reads.Learnt)
+walk-range-claims t = (flag-at-reads.Asked, flag-at-reads.Learnt, range-at-reads.Asked, range-at-reads.Learnt, plan-up-to-reads.Asked, plan-up-to-reads.Learnt, alike-reads.Asked, alike-reads.Learnt, later-reads.Asked, later-reads.Learnt, settled-reads.Asked, settled-reads.Learnt, enter-reads.Asked, enter-reads.Learnt, evaluate-below t, evaluate.Post, both-reads.Asked, both-reads.Learnt, raise-reads.Asked, raise-reads.Learnt)
 
 -- ---- after the code is read
 
@@ -187,6 +190,16 @@ evaluate-add-evaluate-3 t c = omega (arith, c .before .before .before .before .b
 evaluate-evaluate-requires-4 : (t : ℕ) → evaluate-lts.Need-evaluate-requires-4 (evaluate-claims t) (evaluate-at t) evaluate.Post
 evaluate-evaluate-requires-4 t c κs = first-ready t (c .before .before .before)
 
+evaluate-settled-requires : (t : ℕ) → evaluate-lts.Need-settled-requires (evaluate-claims t) (evaluate-at t) evaluate.Post
+evaluate-settled-requires t c κs = search needs
+
+evaluate-returns-6 : (t : ℕ) → evaluate-lts.Need-returns-6 (evaluate-claims t) (evaluate-at t) evaluate.Post
+evaluate-returns-6 t c =
+    let n = c .before .before .before .before .before .before in
+    let s = c .before .before .before .before .before .before .before .before .before .before in
+    beside-settled (s .args .recording .now) (s .args .t) (places (s .args .env)) (s .args .s) (beside-in (s .args .left) (s .args .nodes .now) (s .args .env .nested) (s .args .i) (some t n) (code t n 4 (c .before .before .before .if4 .taken)) refl)
+    (c .before .before .evaluate4 .ensures) (c .before .settled .ensures) (c .if5 .taken)
+
 evaluate-node-word-requires-3 : (t : ℕ) → evaluate-lts.Need-node-word-requires-3 (evaluate-claims t) (evaluate-at t) evaluate.Post
 evaluate-node-word-requires-3 t c κs = search needs
 
@@ -194,22 +207,22 @@ evaluate-cast-second-2 : (t : ℕ) → evaluate-lts.Need-cast-second-2 (evaluate
 evaluate-cast-second-2 t c = search needs
 
 evaluate-sub-evaluate-5 : (t : ℕ) → evaluate-lts.Need-sub-evaluate-5 (evaluate-claims t) (evaluate-at t) evaluate.Post
-evaluate-sub-evaluate-5 t c = omega (arith, some t (c .before .before .before .before .before))
+evaluate-sub-evaluate-5 t c = omega (arith, some t (c .before .before .before .before .before .before .before))
 
 evaluate-evaluate-requires-5 : (t : ℕ) → evaluate-lts.Need-evaluate-requires-5 (evaluate-claims t) (evaluate-at t) evaluate.Post
 evaluate-evaluate-requires-5 t c κs =
     let w = c .node-word3 in
-    second-ready t (c .before .before .before .before .before) (w .result) (omega (arith, w .ok))
+    second-ready t (c .before .before .before .before .before .before .before) (w .result) (omega (arith, w .ok))
 
 evaluate-both-requires : (t : ℕ) → evaluate-lts.Need-both-requires (evaluate-claims t) (evaluate-at t) evaluate.Post
 evaluate-both-requires t c κs = search needs
 
-evaluate-returns-6 : (t : ℕ) → evaluate-lts.Need-returns-6 (evaluate-claims t) (evaluate-at t) evaluate.Post
-evaluate-returns-6 t c =
-    let n = c .before .before .before .before .before .before .before in
-    let s = c .before .before .before .before .before .before .before .before .before .before .before in
-    by-beside (s .args .recording .now) (s .args .t) (places (s .args .env)) (s .args .s) (beside-in (s .args .left) (s .args .nodes .now) (s .args .env .nested) (s .args .i) (some t n) (code t n 4 (c .before .before .before .before .if4 .taken)) (c .before .before .node-word3 .ensures))
-    (c .before .before .before .evaluate4 .ensures) (c .before .evaluate5 .ensures) (c .both .ensures)
+evaluate-returns-7 : (t : ℕ) → evaluate-lts.Need-returns-7 (evaluate-claims t) (evaluate-at t) evaluate.Post
+evaluate-returns-7 t c =
+    let n = c .before .before .before .before .before .before .before .before .before in
+    let s = c .before .before .before .before .before .before .before .before .before .before .before .before .before in
+    by-beside (s .args .recording .now) (s .args .t) (places (s .args .env)) (s .args .s) (beside-in (s .args .left) (s .args .nodes .now) (s .args .env .nested) (s .args .i) (some t n) (code t n 4 (c .before .before .before .before .before .before .if4 .taken)) (c .before .before .node-word3 .ensures))
+    (c .before .before .before .before .before .evaluate4 .ensures) (c .before .evaluate5 .ensures) (c .both .ensures)
 
 evaluate-sub-walk-range : (t : ℕ) → evaluate-lts.Need-sub-walk-range (evaluate-claims t) (evaluate-at t) evaluate.Post
 evaluate-sub-walk-range t c = omega (arith, some t (c .before .before .before .before))
@@ -217,11 +230,11 @@ evaluate-sub-walk-range t c = omega (arith, some t (c .before .before .before .b
 evaluate-walk-range-requires : (t : ℕ) → evaluate-lts.Need-walk-range-requires (evaluate-claims t) (evaluate-at t) evaluate.Post
 evaluate-walk-range-requires t c κs = (falls-by t (c .before .before .before .before), ready-range (c .before .before .before .before .before .before .before .before .pre .1) (some t (c .before .before .before .before)))
 
-evaluate-returns-7 : (t : ℕ) → evaluate-lts.Need-returns-7 (evaluate-claims t) (evaluate-at t) evaluate.Post
-evaluate-returns-7 t c =
+evaluate-returns-8 : (t : ℕ) → evaluate-lts.Need-returns-8 (evaluate-claims t) (evaluate-at t) evaluate.Post
+evaluate-returns-8 t c =
     let n = c .before .before .before .before .before in
     let s = c .before .before .before .before .before .before .before .before .before in
-    by-same (s .args .recording .now) (s .args .t) (places (s .args .env)) (s .args .s) (range-in (s .args .left) (s .args .nodes .now) (s .args .env .nested) (s .args .i) (some t n) (code t n 5 (c .before .if5 .taken))) (c .walk-range .ensures)
+    by-same (s .args .recording .now) (s .args .t) (places (s .args .env)) (s .args .s) (range-in (s .args .left) (s .args .nodes .now) (s .args .env .nested) (s .args .i) (some t n) (code t n 5 (c .before .if6 .taken))) (c .walk-range .ensures)
 
 evaluate-node-word-requires-4 : (t : ℕ) → evaluate-lts.Need-node-word-requires-4 (evaluate-claims t) (evaluate-at t) evaluate.Post
 evaluate-node-word-requires-4 t c κs = search needs
@@ -232,21 +245,21 @@ evaluate-node-word-requires-5 t c κs = search needs
 evaluate-flag-at-requires-2 : (t : ℕ) → evaluate-lts.Need-flag-at-requires-2 (evaluate-claims t) (evaluate-at t) evaluate.Post
 evaluate-flag-at-requires-2 t c κs = search needs
 
-evaluate-returns-8 : (t : ℕ) → evaluate-lts.Need-returns-8 (evaluate-claims t) (evaluate-at t) evaluate.Post
-evaluate-returns-8 t c =
+evaluate-returns-9 : (t : ℕ) → evaluate-lts.Need-returns-9 (evaluate-claims t) (evaluate-at t) evaluate.Post
+evaluate-returns-9 t c =
     let n = c .before .before .before .before .before .before .before in
     let s = c .before .before .before .before .before .before .before .before .before .before .before in
     by-flag (s .args .recording .now) (s .args .t) (places (s .args .env)) (s .args .s)
-    (flag-in (s .args .left) (s .args .nodes .now) (s .args .env .nested) (s .args .i) (some t n) (no-code t n 2 (c .before .before .before .before .before .before .if2 .left)) (no-code t n 3 (c .before .before .before .before .before .if3 .left)) (no-code t n 4 (c .before .before .before .before .if4 .left)) (no-code t n 5 (c .before .before .before .if5 .left)) (c .before .before .node-word4 .ensures) (c .before .node-word5 .ensures))
+    (flag-in (s .args .left) (s .args .nodes .now) (s .args .env .nested) (s .args .i) (some t n) (no-code t n 2 (c .before .before .before .before .before .before .if2 .left)) (no-code t n 3 (c .before .before .before .before .before .if3 .left)) (no-code t n 4 (c .before .before .before .before .if4 .left)) (no-code t n 5 (c .before .before .before .if6 .left)) (c .before .before .node-word4 .ensures) (c .before .node-word5 .ensures))
     (place-at (s .pre .1) (c .before .before .node-word4 .result)) (c .flag-at2 .ensures)
 
 abbrev walk-range-Inv-loop : walk-range-lts.InvT-loop
-walk-range-Inv-loop nodes left i recording t env s acc₀ q₀ n₀ acc q n =
+walk-range-Inv-loop nodes left i recording t env s alike acc₀ q₀ n₀ acc q n =
     (n ≤ suc t - q) × (outcome (forall-in left nodes (env .nested) i) (recorded recording) t (places env) s
     ≡ walk (body-at (formula-in left nodes (env .nested + 1) (i + 12)) recording t (places env) s) n q acc)
 
 abbrev walk-range-μ-loop : walk-range-lts.MeasureT-loop
-walk-range-μ-loop nodes left i recording t env s acc₀ q₀ n₀ acc q n = n
+walk-range-μ-loop nodes left i recording t env s alike acc₀ q₀ n₀ acc q n = n
 
 walk-range-flag-at-requires : (t : ℕ) → walk-range-lts.Need-flag-at-requires (walk-range-claims t) (walk-range-at t) walk-range.Post walk-range-Inv-loop walk-range-μ-loop
 walk-range-flag-at-requires t c κs = search needs
@@ -262,11 +275,16 @@ walk-range-range-at-requires t c κs = search needs
 walk-range-plan-up-to-requires : (t : ℕ) → walk-range-lts.Need-plan-up-to-requires (walk-range-claims t) (walk-range-at t) walk-range.Post walk-range-Inv-loop walk-range-μ-loop
 walk-range-plan-up-to-requires t c κs = search needs
 
+walk-range-alike-requires : (t : ℕ) → walk-range-lts.Need-alike-requires (walk-range-claims t) (walk-range-at t) walk-range.Post walk-range-Inv-loop walk-range-μ-loop
+walk-range-alike-requires t c κs =
+    let p = c .before .before .before .before .before .before .before .pre .1 in
+    (omega (arith, p .few), (omega (arith, p .near), omega (arith, c .before .before .before .if1 .left)))
+
 walk-range-loop-holds : (t : ℕ) → walk-range-lts.Need-loop-holds (walk-range-claims t) (walk-range-at t) walk-range.Post walk-range-Inv-loop walk-range-μ-loop
 walk-range-loop-holds t c =
-    let s = c .before .before .before .before .before .before .before in
-    let p = plan-here (s .args .left) (s .args .nodes .now) (s .args .i) (s .args .recording .now) (s .args .t) (s .args .env) (s .args .s) (s .pre .1) (c .before .range-at .ensures) (c .plan-up-to .ensures) in
-    (p .few, by-forall (s .args .left) (s .args .nodes .now) (s .args .i) (s .args .recording .now) (s .args .t) (s .args .env) (s .args .s) (omega (arith, c .before .before .before .if1 .left)) p)
+    let s = c .before .before .before .before .before .before .before .before in
+    let p = plan-here (s .args .left) (s .args .nodes .now) (s .args .i) (s .args .recording .now) (s .args .t) (s .args .env) (s .args .s) (s .pre .1) (c .before .before .range-at .ensures) (c .before .plan-up-to .ensures) in
+    (p .few, by-forall (s .args .left) (s .args .nodes .now) (s .args .i) (s .args .recording .now) (s .args .t) (s .args .env) (s .args .s) (omega (arith, c .before .before .before .before .if1 .left)) p)
 
 -- ---- a turn of the walk
 
@@ -275,13 +293,30 @@ Turn t = walk-range-lts.In-loop (walk-range-claims t) (walk-range-at t) walk-ran
 
 module _ (t : ℕ) (l : Turn t) where
   abbrev begun : walk-range-lts.Start (walk-range-claims t) (walk-range-at t) walk-range.Post walk-range-Inv-loop walk-range-μ-loop
-  begun = l .before .before .before .before .before .before .before .before .before
+  begun = l .before .before .before .before .before .before .before .before .before .before
+
+  -- the outcome of the body at each position
+  abbrev bodies : ℕ → Outcome
+  bodies = body-at (formula-in (begun .args .left) (begun .args .nodes .now) (begun .args .env .nested + 1) (begun .args .i + 12)) (begun .args .recording .now) (begun .args .t) (places (begun .args .env)) (begun .args .s)
 
   shallow : begun .args .env .nested < 4
-  shallow = omega (arith, l .before .before .before .before .before .if1 .left)
+  shallow = omega (arith, l .before .before .before .before .before .before .if1 .left)
 
   not-above : l .before .loop .q ≤ begun .args .t
   not-above = omega (arith, l .before .loop .inv .0, l .loop-test .taken)
+
+-- the body at this position is evaluated
+abbrev Evaluated : ℕ → Type 0
+Evaluated t = walk-range-lts.After-evaluate (walk-range-claims t) (walk-range-at t) walk-range.Post walk-range-Inv-loop walk-range-μ-loop
+
+module _ (t : ℕ) (h : Evaluated t) where
+  abbrev turn : Turn t
+  turn = h .before .before .before .before .before
+
+  here : h .evaluate .result ≡ bodies t turn (turn .before .loop .q)
+  here =
+      let s = begun t turn in
+      body-here (s .args .left) (s .args .nodes .now) (s .args .i) (s .args .recording .now) (s .args .t) (s .args .env) (s .args .s) (turn .before .loop .q) (s .pre .1 .five) (shallow t turn) (not-above t turn) (h .before .enter .ensures) (h .before .before .before .before .later .ensures) (h .evaluate .ensures)
 
 walk-range-later-requires : (t : ℕ) → walk-range-lts.Need-later-requires (walk-range-claims t) (walk-range-at t) walk-range.Post walk-range-Inv-loop walk-range-μ-loop
 walk-range-later-requires t c κs = search needs
@@ -292,11 +327,11 @@ walk-range-settled-requires t c κs = search needs
 walk-range-returns-2 : (t : ℕ) → walk-range-lts.Need-returns-2 (walk-range-claims t) (walk-range-at t) walk-range.Post walk-range-Inv-loop walk-range-μ-loop
 walk-range-returns-2 t c =
     let l = c .before .before .before .before .loop in
-    let s = c .before .before .before .before .before .before .before .before .before .before .before .before in
+    let s = c .before .before .before .before .before .before .before .before .before .before .before .before .before in
     sym (l .inv .1 ∙ body-settled (formula-in (s .args .left) (s .args .nodes .now) (s .args .env .nested + 1) (s .args .i + 12)) (s .args .recording .now) (s .args .t) (places (s .args .env)) (s .args .s) (l .n) (l .q) (l .acc) (c .before .before .later .ensures) (c .before .settled .ensures) (c .if2 .taken))
 
 walk-range-add-evaluate : (t : ℕ) → walk-range-lts.Need-add-evaluate (walk-range-claims t) (walk-range-at t) walk-range.Post walk-range-Inv-loop walk-range-μ-loop
-walk-range-add-evaluate t c = omega (arith, c .before .before .before .before .before .before .before .before .before .before .before .before .pre .1 .near)
+walk-range-add-evaluate t c = omega (arith, c .before .before .before .before .before .before .before .before .before .before .before .before .before .pre .1 .near)
 
 walk-range-enter-requires : (t : ℕ) → walk-range-lts.Need-enter-requires (walk-range-claims t) (walk-range-at t) walk-range.Post walk-range-Inv-loop walk-range-μ-loop
 walk-range-enter-requires t c κs = shallow t (c .before .before .before)
@@ -304,35 +339,56 @@ walk-range-enter-requires t c κs = shallow t (c .before .before .before)
 walk-range-evaluate-requires : (t : ℕ) → walk-range-lts.Need-evaluate-requires (walk-range-claims t) (walk-range-at t) walk-range.Post walk-range-Inv-loop walk-range-μ-loop
 walk-range-evaluate-requires t c κs =
     let l = c .before .before .before .before in
-    let s = c .before .before .before .before .before .before .before .before .before .before .before .before .before in
-    (omega (arith, s .pre .0), ready-body (s .args .env) (c .before .before .before .before .before .loop .q) (s .pre .1) (shallow t l) (not-above t l) (c .enter .ensures))
+    let s = begun t l in
+    (omega (arith, s .pre .0), ready-body (s .args .env) (l .before .loop .q) (s .pre .1) (shallow t l) (not-above t l) (c .enter .ensures))
 
 walk-range-both-requires : (t : ℕ) → walk-range-lts.Need-both-requires (walk-range-claims t) (walk-range-at t) walk-range.Post walk-range-Inv-loop walk-range-μ-loop
 walk-range-both-requires t c κs = search needs
 
+walk-range-sub-raise : (t : ℕ) → walk-range-lts.Need-sub-raise (walk-range-claims t) (walk-range-at t) walk-range.Post walk-range-Inv-loop walk-range-μ-loop
+walk-range-sub-raise t c = omega (arith, c .before .before .before .before .before .before .before .loop-test .taken)
+
+walk-range-add-raise : (t : ℕ) → walk-range-lts.Need-add-raise (walk-range-claims t) (walk-range-at t) walk-range.Post walk-range-Inv-loop walk-range-μ-loop
+walk-range-add-raise t c =
+    let l = c .before .before .before .before .before .before .before in
+    omega (arith, not-above t l, l .before .loop .inv .0, begun t l .pre .1 .early)
+
+walk-range-raise-requires : (t : ℕ) → walk-range-lts.Need-raise-requires (walk-range-claims t) (walk-range-at t) walk-range.Post walk-range-Inv-loop walk-range-μ-loop
+walk-range-raise-requires t c κs = search needs
+
+walk-range-both-requires-2 : (t : ℕ) → walk-range-lts.Need-both-requires-2 (walk-range-claims t) (walk-range-at t) walk-range.Post walk-range-Inv-loop walk-range-μ-loop
+walk-range-both-requires-2 t c κs = search needs
+
+walk-range-returns-3 : (t : ℕ) → walk-range-lts.Need-returns-3 (walk-range-claims t) (walk-range-at t) walk-range.Post walk-range-Inv-loop walk-range-μ-loop
+walk-range-returns-3 t c =
+    let h = c .before .before .before .before in
+    let l = turn t h in
+    let s = begun t l in
+    sym (l .before .loop .inv .1
+    ∙ body-alike (s .args .left) (s .args .nodes .now) (s .args .i) (s .args .recording .now) (s .args .t) (s .args .env) (s .args .s) (l .before .loop .n) (l .before .loop .q) (c .before .before .before .before .before .before .before .before .before .before .before .before .plan-up-to .result .n) (l .before .loop .acc) (s .pre .1 .five) (shallow t l) (l .loop-test .taken) (l .before .loop .inv .0)
+    (c .before .before .before .before .before .before .before .before .before .before .before .alike .ensures) (c .before .before .if3 .taken) (here t h) (c .before .before .before .both .ensures) (c .before .raise .ensures) (c .both2 .ensures))
+
 walk-range-add-q : (t : ℕ) → walk-range-lts.Need-add-q (walk-range-claims t) (walk-range-at t) walk-range.Post walk-range-Inv-loop walk-range-μ-loop
-walk-range-add-q t c = omega (arith, not-above t (c .before .before .before .before .before .before), c .before .before .before .before .before .before .before .before .before .before .before .before .before .before .before .pre .1 .early)
+walk-range-add-q t c =
+    let l = c .before .before .before .before .before .before .before in
+    omega (arith, not-above t l, begun t l .pre .1 .early)
 
 walk-range-sub-n : (t : ℕ) → walk-range-lts.Need-sub-n (walk-range-claims t) (walk-range-at t) walk-range.Post walk-range-Inv-loop walk-range-μ-loop
 walk-range-sub-n t c = search needs
 
 walk-range-loop-less : (t : ℕ) → walk-range-lts.Need-loop-less (walk-range-claims t) (walk-range-at t) walk-range.Post walk-range-Inv-loop walk-range-μ-loop
-walk-range-loop-less t c = omega (arith, c .before .before .before .before .before .before .loop-test .taken)
+walk-range-loop-less t c = omega (arith, c .before .before .before .before .before .before .before .loop-test .taken)
 
 walk-range-loop-again : (t : ℕ) → walk-range-lts.Need-loop-again (walk-range-claims t) (walk-range-at t) walk-range.Post walk-range-Inv-loop walk-range-μ-loop
 walk-range-loop-again t c =
-    let l = c .before .before .before .before .before .before .before .loop in
-    let s = c .before .before .before .before .before .before .before .before .before .before .before .before .before .before .before in (
-      omega (arith, l .inv .0, c .before .before .before .before .before .before .loop-test .taken),
-      l .inv .1
-          ∙ walk-step (body-at (formula-in (s .args .left) (s .args .nodes .now) (s .args .env .nested + 1) (s .args .i + 12)) (s .args .recording .now) (s .args .t) (places (s .args .env)) (s .args .s)) (l .n) (l .q) (l .acc) (c .before .before .before .before .before .before .loop-test .taken)
-          (body-here (s .args .left) (s .args .nodes .now) (s .args .i) (s .args .recording .now) (s .args .t) (s .args .env) (s .args .s) (l .q) (s .pre .1 .five) (shallow t (c .before .before .before .before .before .before)) (not-above t (c .before .before .before .before .before .before)) (c .before .before .enter .ensures) (c .before .before .before .before .before .later .ensures) (c .before .evaluate .ensures)) (c .both .ensures),
-    )
+    let h = c .before .before in
+    let l = turn t h in
+    (omega (arith, l .before .loop .inv .0, l .loop-test .taken), l .before .loop .inv .1 ∙ walk-step (bodies t l) (l .before .loop .n) (l .before .loop .q) (l .before .loop .acc) (l .loop-test .taken) (here t h) (c .before .both .ensures))
 
-walk-range-returns-3 : (t : ℕ) → walk-range-lts.Need-returns-3 (walk-range-claims t) (walk-range-at t) walk-range.Post walk-range-Inv-loop walk-range-μ-loop
-walk-range-returns-3 t c =
+walk-range-returns-4 : (t : ℕ) → walk-range-lts.Need-returns-4 (walk-range-claims t) (walk-range-at t) walk-range.Post walk-range-Inv-loop walk-range-μ-loop
+walk-range-returns-4 t c =
     let l = c .before .loop in
-    let s = c .before .before .before .before .before .before .before .before .before in
+    let s = c .before .before .before .before .before .before .before .before .before .before in
     sym (l .inv .1 ∙ walk-none (body-at (formula-in (s .args .left) (s .args .nodes .now) (s .args .env .nested + 1) (s .args .i + 12)) (s .args .recording .now) (s .args .t) (places (s .args .env)) (s .args .s)) (l .n) (l .q) (l .acc) (omega (arith, c .loop-test .left)))
 
 pub +evaluate+walk-range-spec : {M : Type 1} → statement M
@@ -364,19 +420,21 @@ pub +evaluate+walk-range-spec : {M : Type 1} → statement M
     (evaluate-sub-evaluate-4 t)
     (evaluate-add-evaluate-3 t)
     (evaluate-evaluate-requires-4 t)
+    (evaluate-settled-requires t)
+    (evaluate-returns-6 t)
     (evaluate-node-word-requires-3 t)
     (evaluate-cast-second-2 t)
     (evaluate-sub-evaluate-5 t)
     (evaluate-evaluate-requires-5 t)
     (evaluate-both-requires t)
-    (evaluate-returns-6 t)
+    (evaluate-returns-7 t)
     (evaluate-sub-walk-range t)
     (evaluate-walk-range-requires t)
-    (evaluate-returns-7 t)
+    (evaluate-returns-8 t)
     (evaluate-node-word-requires-4 t)
     (evaluate-node-word-requires-5 t)
     (evaluate-flag-at-requires-2 t)
-    (evaluate-returns-8 t))
+    (evaluate-returns-9 t))
     λ t. walk-range-lts.spec (walk-range-claims t)
     (walk-range-at t)
     walk-range.Post
@@ -386,6 +444,7 @@ pub +evaluate+walk-range-spec : {M : Type 1} → statement M
     (walk-range-returns t)
     (walk-range-range-at-requires t)
     (walk-range-plan-up-to-requires t)
+    (walk-range-alike-requires t)
     (walk-range-loop-holds t)
     (walk-range-later-requires t)
     (walk-range-settled-requires t)
@@ -394,8 +453,13 @@ pub +evaluate+walk-range-spec : {M : Type 1} → statement M
     (walk-range-enter-requires t)
     (walk-range-evaluate-requires t)
     (walk-range-both-requires t)
+    (walk-range-sub-raise t)
+    (walk-range-add-raise t)
+    (walk-range-raise-requires t)
+    (walk-range-both-requires-2 t)
+    (walk-range-returns-3 t)
     (walk-range-add-q t)
     (walk-range-sub-n t)
     (walk-range-loop-less t)
     (walk-range-loop-again t)
-    (walk-range-returns-3 t)
+    (walk-range-returns-4 t)
