@@ -1,11 +1,12 @@
 -- The laws of `sentence`: the text that an arm puts is the sentence of the number. Assumes nothing.
-use Prim.Native.Nat.{ℕ, zero, suc, _<_}
+use Prim.Native.Nat.{ℕ, zero, suc, _+_, _<_}
 use mathlib.Core.Path.{_≡_, refl, sym, ap, subst}
-use mathlib.Core.Logic.{_⊎_, inl, inr}
+use mathlib.Core.Logic.{inl, inr}
 use mathlib.Core.List.{List, _++_}
 use native.Mathlib.Omega.{arith}
+use native.Mathlib.Nat.{add-zero}
 use lib.ListN.{length, drop, List·getD-eq-default}
-use Rattle.refusal_text.specs.Sentences.{sentence-of, ascii, sentences, unknown}
+use Rattle.refusal_text.specs.Sentences.{sentence-of, ascii, sentences, unknown, Past}
 
 -- A text lies at the front of a buffer.
 abbrev pub Puts : List ℕ → ℕ → List ℕ → List ℕ → Type 0
@@ -15,24 +16,26 @@ pub said : (k n r : ℕ) (before after : List ℕ) → sentence-of n ≡ sentenc
     → (r < 128) × Puts (sentence-of n) r before after
 said k n r before after e few p = (omega (arith, p .0), subst (λ (text : List ℕ). Puts text r before after) (sym e) p)
 
--- What the last arm knows: the number is none of 1 to k.
-abbrev pub Beyond : ℕ → ℕ → Type 0
-Beyond zero n = Unit {0}
-Beyond (suc k) n = Beyond k n × (n ≡ suc k → ⊥)
+-- What the last arm knows: the number is none of a + 1 to a + k.
+abbrev pub NoneOf : ℕ → ℕ → ℕ → Type 0
+NoneOf a zero n = Unit {0}
+NoneOf a (suc k) n = NoneOf a k n × (n ≡ a + suc k → ⊥)
 
-beyond : (k n : ℕ) → Beyond k n → (n ≡ 0) ⊎ (k < n)
-beyond zero zero h = inl refl
-beyond zero (suc n) h = inr (omega arith)
-beyond (suc k) n h = more (beyond k n (h .0))
+pub past : (a k n : ℕ) → Past a n → NoneOf a k n → Past (a + k) n
+past a zero n p h = simp add-zero p
+past a (suc k) n p h = more (past a k n p (h .0))
   where
-    more : (n ≡ 0) ⊎ (k < n) → (n ≡ 0) ⊎ (suc k < n)
+    more : Past (a + k) n → Past (a + suc k) n
     more (inl e) = inl e
-    more (inr g) = let other : n ≡ suc k → ⊥ = h .1 in inr (omega (arith, other))
+    more (inr g) = let other : n ≡ a + suc k → ⊥ = h .1 in inr (omega (arith, other))
 
-pub other : (n : ℕ) → Beyond 22 n → sentence-of n ≡ sentence-of 0
+-- Where the arms begin.
+pub past-none : (n : ℕ) → Past 0 n
+past-none zero = inl refl
+past-none (suc n) = inr (omega arith)
+
+-- Past the last refusal.
+pub other : (n : ℕ) → Past 22 n → sentence-of n ≡ sentence-of 0
 unfolding sentence-of
-other n h = go (beyond 22 n h)
-  where
-    go : (n ≡ 0) ⊎ (22 < n) → sentence-of n ≡ sentence-of 0
-    go (inl e) = ap sentence-of e
-    go (inr g) = ap ascii (List·getD-eq-default sentences unknown {n = n} (omega arith))
+other n (inl e) = ap sentence-of e
+other n (inr g) = ap ascii (List·getD-eq-default sentences unknown {n = n} (omega arith))

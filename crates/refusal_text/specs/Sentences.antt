@@ -1,7 +1,9 @@
 -- The sentence of each refusal, for people who read its number.
-use Prim.Native.Nat.{ℕ}
+use Prim.Native.Nat.{ℕ, _<_}
 use Prim.Native.Char.{code}
 use Prim.Native.String.{String, [] as empty, _∷_ as _then_}
+use mathlib.Core.Path.{_≡_}
+use mathlib.Core.Logic.{_⊎_}
 use mathlib.Core.List.{List, [], _∷_}
 use lib.ListN.{getD}
 
@@ -44,3 +46,7 @@ sentences =
 -- The sentence of a number; every other number has that of 0.
 unfoldable pub sentence-of : ℕ → List ℕ
 sentence-of n = ascii (getD sentences n unknown)
+
+-- A number is none of 1 to k.
+abbrev pub Past : ℕ → ℕ → Type 0
+Past k n = (n ≡ 0) ⊎ (k < n)
