@@ -1,16 +1,24 @@
 -- The laws of `sentence`: the text that an arm puts is the sentence of the number. Assumes nothing.
-use Prim.Native.Nat.{ℕ, zero, suc, _+_, _<_}
-use mathlib.Core.Path.{_≡_, refl, sym, ap, subst}
+use Prim.Native.Nat.{ℕ, zero, suc, _+_, _≤_, _<_}
+use mathlib.Core.Path.{_≡_, refl, sym, ap, subst, _∙_}
 use mathlib.Core.Logic.{inl, inr}
 use mathlib.Core.List.{List, _++_}
 use native.Mathlib.Omega.{arith}
 use native.Mathlib.Nat.{add-zero}
-use lib.ListN.{length, drop, List·getD-eq-default}
+use lib.ListN.{length, take, drop, length-append, List·getD-eq-default}
+use lib.Seq.{take-at}
 use Rattle.refusal_text.specs.Sentences.{sentence-of, ascii, sentences, unknown, Past}
 
 -- A text lies at the front of a buffer.
 abbrev pub Puts : List ℕ → ℕ → List ℕ → List ℕ → Type 0
 Puts text r before after = (r ≡ length text) × (after ≡ text ++ drop r before)
+
+-- Its length counts bytes at the buffer's front.
+pub counted : (text : List ℕ) (r : ℕ) (before after : List ℕ) → Puts text r before after → (r ≤ length after) × (r ≡ length (take r after))
+counted text r before after p =
+    let front : take r after ≡ text = ap (take r) (p .1) ∙ take-at text (drop r before) r (sym (p .0)) in
+    let whole : length after ≡ length text + length (drop r before) = ap length (p .1) ∙ length-append text (drop r before) in
+    (omega (arith, whole, p .0), p .0 ∙ ap length (sym front))
 
 pub said : (k n r : ℕ) (before after : List ℕ) → sentence-of n ≡ sentence-of k → length (sentence-of k) < 128 → Puts (sentence-of k) r before after
     → (r < 128) × Puts (sentence-of n) r before after

@@ -1,8 +1,8 @@
 // What is wrong, in words: the sentence of each refusal's number, in ASCII.
 ghost use mathlib.Core.Path.{_≡_};
 ghost use mathlib.Core.List.{_++_};
-ghost use Prim.Native.Nat.{_<_};
-ghost use lib.ListN.{length, drop};
+ghost use Prim.Native.Nat.{_≤_, _<_};
+ghost use lib.ListN.{length, take, drop};
 ghost use Rattle.refusal_text.specs.Sentences.{sentence-of, Past};
 
 // Puts a text at the front of a buffer, and answers its length. The bytes after it stay as they were.
@@ -75,8 +75,8 @@ fn of_body(number: u32, out: &mut [u8; 128]) -> usize
     }
 }
 
-// Puts the sentence of a number at the front of a buffer, and answers its length. The bytes after it stay as they were. First the sheet.
-pub fn sentence(number: u32, out: &mut [u8; 128]) -> usize
+// The sheet.
+fn of_sheet(number: u32, out: &mut [u8; 128]) -> usize
     ensures { λ r. ⌜ r < 128 ⌝ }
     ensures { λ r. ⌜ r ≡ length (sentence-of number) ⌝ }
     ensures { λ r. ⌜ now (out .exit) ≡ sentence-of number ++ drop r (now (out .entry)) ⌝ }
@@ -90,4 +90,15 @@ pub fn sentence(number: u32, out: &mut [u8; 128]) -> usize
         3 => put(b"no such rule", out),
         _ => of_body(number, out),
     }
+}
+
+// Puts the sentence of a number at the front of a buffer, and answers its length: there is room for a byte more, and the bytes after it stay as they
+// were. The second line is what `io` asks of a count.
+pub fn sentence(number: u32, out: &mut [u8; 128]) -> usize
+    ensures { λ r. ⌜ r < 128 ⌝ }
+    ensures { λ r. ⌜ (r ≤ length (now (out .exit))) × (r ≡ length (take r (now (out .exit)))) ⌝ }
+    ensures { λ r. ⌜ r ≡ length (sentence-of number) ⌝ }
+    ensures { λ r. ⌜ now (out .exit) ≡ sentence-of number ++ drop r (now (out .entry)) ⌝ }
+{
+    of_sheet(number, out)
 }

@@ -24,14 +24,14 @@ returns : tie.Need-returns
 returns c =
     let a = c .before .before .before .before .before .args in
     let s = c .before .before .sentence in
-    let short : length (now (a .out)) ≤ length (sentence-of (a .refused)) = omega (arith, c .before .if1 .taken, s .ensures .1 .0) in
+    let short : length (now (a .out)) ≤ length (sentence-of (a .refused)) = omega (arith, c .before .if1 .taken, s .ensures .1 .1 .0) in
     let none = no-room (a .refused) (now (a .out)) short in
     (c .number .ensures ∙ sym (ap number (none .0)), (sym (none .1), sym (ap (λ (w : Answer ℕ). or-kept (λ n. n) w (now (a .written))) (none .0))))
 
 slice-aggregate-copy-front : tie.Need-slice-aggregate-copy-front
 slice-aggregate-copy-front c =
     let s = c .before .before .sentence in
-    text-length (c .before .before .before .before .before .args .refused) (s .result) (s .last .1 .0) (s .ensures .0) (s .ensures .1 .0) (s .ensures .1 .1)
+    text-length (c .before .before .before .before .before .args .refused) (s .result) (s .last .1 .0) (s .ensures .0) (s .ensures .1 .1 .0) (s .ensures .1 .1 .1)
 
 add-copy-front : tie.Need-add-copy-front
 add-copy-front c = search needs
@@ -47,7 +47,7 @@ slice-aggregate-copy-front-2 c =
 copy-front-requires : tie.Need-copy-front-requires
 copy-front-requires c κs =
     let s = c .before .before .before .sentence in
-    let long = text-length (c .before .before .before .before .before .before .args .refused) (s .result) (s .last .1 .0) (s .ensures .0) (s .ensures .1 .0) (s .ensures .1 .1) in
+    let long = text-length (c .before .before .before .before .before .before .args .refused) (s .result) (s .last .1 .0) (s .ensures .0) (s .ensures .1 .1 .0) (s .ensures .1 .1 .1) in
     let front = length-take-le (s .result + 1) (now (c .before .before .before .before .before .before .args .out)) (omega (arith, c .before .before .if1 .left)) in
     omega (arith, long, front, s .ensures .0)
 
@@ -59,8 +59,8 @@ returns-2 c =
     let a = c .before .before .before .before .before .before .before .before .before .args in
     let s = c .before .before .before .before .before .before .sentence in
     let room : s .result < length (now (a .out)) = omega (arith, c .before .before .before .before .before .if1 .left) in
-    let e = there (a .refused) (s .result) (s .last .1 .0) (s .ensures .0) (s .ensures .1 .0) (s .ensures .1 .1) (now (a .out)) room in
-    let puts = put-there (a .refused) (s .result) (s .last .1 .0) (s .ensures .0) (s .ensures .1 .0) (s .ensures .1 .1) (now (a .out)) room in
+    let e = there (a .refused) (s .result) (s .last .1 .0) (s .ensures .0) (s .ensures .1 .1 .0) (s .ensures .1 .1 .1) (now (a .out)) room in
+    let puts = put-there (a .refused) (s .result) (s .last .1 .0) (s .ensures .0) (s .ensures .1 .1 .0) (s .ensures .1 .1 .1) (now (a .out)) room in
     let copied = ap (λ (l : List ℕ). l ++ drop (s .result + 1) (now (a .out))) (c .before .before .copy-front .ensures) in
     (sym (ap number e), (copied ∙ puts, sym (ap (λ (w : Answer ℕ). or-kept (λ n. n) w (now (a .written))) e)))
 
