@@ -1,16 +1,16 @@
-"""Holds include/station_watch.h and libstation_watch.so to each other: the same functions, and the sentence in the comment above each refusal's constant
-is what sw_sentence writes. It loads the library as other languages do, and asks for the figures of the scope document's example.
+"""Holds include/station_watch.h and the library to each other: both kinds show the header's functions and no others, and the sentence in the comment above
+each refusal's constant is what sw_sentence writes. It loads the shared library as other languages do, and asks for the figures of the scope document's example.
 
-    python3 header.py HEADER LIBRARY
+    python3 header.py HEADER SHARED STATIC
 """
 import ctypes
 import re
 import subprocess
 import sys
 
-header_file, library_file = sys.argv[1:]
+header_file, shared, static = sys.argv[1:]
 header = open(header_file).read()
-library = ctypes.CDLL(library_file)
+library = ctypes.CDLL(shared)
 failures = []
 
 
@@ -44,10 +44,16 @@ def sentence(number):
     return out.value.decode("ascii")
 
 
+def symbols(*words):
+    """What nm lists, a symbol a line, with address and kind before it."""
+    said = subprocess.run(["nm", "--defined-only", *words], check=True, text=True, stdout=subprocess.PIPE).stdout
+    return sorted(line.split()[2] for line in said.splitlines() if len(line.split()) == 3)
+
+
 def functions():
     declared = sorted(re.findall(r"^\w+ (sw_\w+)\(", header, re.M))
-    shown = subprocess.run(["nm", "-D", "--defined-only", library_file], check=True, text=True, stdout=subprocess.PIPE).stdout
-    same("functions of the library", declared, sorted(line.split()[-1] for line in shown.splitlines()))
+    same("functions of the shared library", declared, symbols("--dynamic", shared))
+    same("functions of the static library", declared, symbols("--extern-only", static))
 
 
 def sentences():

@@ -20,6 +20,7 @@ counted text r before after p =
     let whole : length after ≡ length text + length (drop r before) = ap length (p .1) ∙ length-append text (drop r before) in
     (omega (arith, whole, p .0), p .0 ∙ ap length (sym front))
 
+-- What an arm puts that knows its number k, or only that the sentence is that of k.
 pub said : (k n r : ℕ) (before after : List ℕ) → sentence-of n ≡ sentence-of k → length (sentence-of k) < 128 → Puts (sentence-of k) r before after
     → (r < 128) × Puts (sentence-of n) r before after
 said k n r before after e few p = (omega (arith, p .0), subst (λ (text : List ℕ). Puts text r before after) (sym e) p)

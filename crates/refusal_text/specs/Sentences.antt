@@ -15,32 +15,32 @@ ascii (c then text) = code c ∷ ascii text
 abbrev pub unknown : String
 unknown = "no such refusal"
 
--- By number: the first is that of 0, which is no refusal.
+-- By number, from 0 on, which is no refusal.
 abbrev pub sentences : List String
 sentences =
     unknown
-    ∷ "sheet empty, not 1 to 32 rules, or its table of contents is cut short"
-    ∷ "an entry of the sheet breaks the layout"
-    ∷ "no such rule"
-    ∷ "the body ends too early"
-    ∷ "unknown code or kind"
-    ∷ "a variable that is not bound here"
-    ∷ "a flag above 7"
-    ∷ "an offset outside -4,095 to 4,095, or a byte that should be 0"
-    ∷ "a 65th formula or a 5th nested quantifier"
-    ∷ "bytes left over after the formula"
-    ∷ "the delay is infinite"
-    ∷ "the delay is above 255"
-    ∷ "the history is infinite"
-    ∷ "the history is above 4,096"
-    ∷ "more than 4,096 cells"
-    ∷ "the recording is too long, or the tick is not in it"
-    ∷ "the history has a wrong length"
-    ∷ "the cell table is too short"
-    ∷ "the report is too short"
-    ∷ "tick numbers are used up"
-    ∷ "state and cells were not left by one opening and its steps"
-    ∷ "the buffer is too short"
+    ∷ "sheet empty, not 1 to 32 rules, or its table of contents is cut short"  -- 1
+    ∷ "an entry of the sheet breaks the layout"  -- 2
+    ∷ "no such rule"  -- 3
+    ∷ "the body ends too early"  -- 4
+    ∷ "unknown code or kind"  -- 5
+    ∷ "a variable that is not bound here"  -- 6
+    ∷ "a flag above 7"  -- 7
+    ∷ "an offset outside -4,095 to 4,095, or a byte that should be 0"  -- 8
+    ∷ "a 65th formula or a 5th nested quantifier"  -- 9
+    ∷ "bytes left over after the formula"  -- 10
+    ∷ "the delay is infinite"  -- 11
+    ∷ "the delay is above 255"  -- 12
+    ∷ "the history is infinite"  -- 13
+    ∷ "the history is above 4,096"  -- 14
+    ∷ "more than 4,096 cells"  -- 15
+    ∷ "the recording is too long, or the tick is not in it"  -- 16
+    ∷ "the history has a wrong length"  -- 17
+    ∷ "the cell table is too short"  -- 18
+    ∷ "the report is too short"  -- 19
+    ∷ "tick numbers are used up"  -- 20
+    ∷ "state and cells were not left by one opening and its steps"  -- 21
+    ∷ "the buffer is too short"  -- 22
     ∷ []
 
 -- The sentence of a number; every other number has that of 0.
