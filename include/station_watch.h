@@ -253,7 +253,8 @@ uint32_t sw_open(const uint8_t *sheet, size_t sheet_len, size_t rule,
  * other bytes are as they were.
  * The last h flags, h being the history figure, must still be in the history, each at
  * byte tick mod (history length); the other history bytes may be overwritten between
- * steps. */
+ * steps. Where one of the last h was overwritten, steps still end and write only what
+ * they may, but from then on what they report means nothing. */
 uint32_t sw_step(uint8_t state[SW_STATE_BYTES], uint8_t flag,
                  uint8_t *history, size_t history_len,
                  uint32_t *cells, size_t cells_len,
