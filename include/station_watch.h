@@ -1,18 +1,36 @@
-/* The station watch engine for C: libexports.a (rt staticlib exports).
+/* The station watch engine for C and C++.
  *
- * Every function answers 0, or document 01's refusal number (1 to 22; README.md
- * lists them). On a refusal nothing lent is changed: no buffer, no state, and
- * none of the numbers that answers are written to.
+ * Link with libstation_watch.a or libstation_watch.so; bin/library builds both into
+ * target/lib (x86-64 Linux). They need nothing but the C library.
  *
- * What is lent: a pointer and how many elements it points to. No pointer may be
- * NULL, also where the length is 0 (any other pointer of the type will do then).
- * Each pointer is aligned for its type, what is written may not overlap anything
- * else that the same call is lent, and nobody else writes to any of it during the
- * call. Nothing is kept after a call returns. No memory is allocated, and nothing
- * is written but what is named here. The functions have no other state, so threads
- * may call them at once on separate memory.
+ * docs/RULES.md explains rules and restates the scope document, which these functions
+ * keep to. In short: a tick is one flag byte, flag k is its bit 2^k, and ticks are
+ * numbered from 0. A sheet has 1 to 32 rules, each a body of bytes. A rule is decided for
+ * each tick, at that step or some steps later; a tick for which it is decided to be false
+ * is a violation and is reported.
  *
- * Ticks are numbered from 0. A tick is one flag byte; flag k is the bit 2^k. */
+ * To watch a stream: sw_rule_place finds the body of a rule in a sheet, sw_figures says
+ * how much memory it needs, sw_open opens it, sw_step takes a flag byte. sw_steps takes
+ * many at once. sw_outcome evaluates a rule at one tick of a recording, and
+ * sw_write_sheet makes a sheet. Examples: examples/c.
+ *
+ * ANSWERS. Every function answers SW_OK (0) or the number of a refusal (1 to 22, below).
+ * On a refusal nothing that was lent is changed: no buffer, no state, and none of the
+ * numbers that answers are written to.
+ *
+ * MEMORY. What is lent is a pointer and how many elements it points to. No pointer may
+ * be NULL, also where the length is 0 (any other pointer of the type will do then). Each
+ * pointer is aligned for its type. What is written may not overlap anything else that
+ * the same call is lent, and nobody else writes to any of it during the call. Nothing is
+ * kept after a call returns. No memory is allocated, and nothing is written but what is
+ * named here. There is no other state, so threads may call the functions at once, each
+ * on memory of its own.
+ *
+ * COST. A call uses at most SW_MAX_STACK bytes of stack and always returns; it does not
+ * wait for anything. What a step costs does not grow with the recording. What calls take
+ * in time, as measured, stands in docs/PERFORMANCE.md: the worst step found takes
+ * milliseconds, but sw_outcome with several nested ranges up to infinity can take longer
+ * than anyone waits. */
 #ifndef STATION_WATCH_H
 #define STATION_WATCH_H
 
@@ -23,100 +41,257 @@
 extern "C" {
 #endif
 
-/* Bytes of a state: 512 for the rule's body, then four 64-bit numbers, low byte
- * first: the body's size at 512, the opened history's length at 520, the next
- * tick at 528, the live count at 536. A state is plain bytes: it may be copied,
- * stored and moved. It belongs to the cell table that its steps wrote. */
+/* ---- Version ---- */
+
+#define SW_VERSION_MAJOR 0
+#define SW_VERSION_MINOR 2
+#define SW_VERSION_PATCH 0
+#define SW_VERSION "0.2.0"
+
+/* ---- Refusals: the sentence that sw_sentence writes, and what to do ---- */
+
+#define SW_OK 0
+
+/* "sheet empty, not 1 to 32 rules, or its table of contents is cut short"
+ * Check the file's length and its first byte. For sw_write_sheet: lend 1 to 32 lengths. */
+#define SW_RULE_COUNT 1
+
+/* "an entry of the sheet breaks the layout"
+ * Bodies of 1 to 512 bytes lie end to end after the contents, and the last ends with the
+ * sheet. For sw_write_sheet: each length is 1 to 512, and their sum is the bodies' size. */
+#define SW_ENTRY_LAYOUT 2
+
+/* "no such rule"
+ * Rules are numbered from 0: ask for one below the sheet's first byte. */
+#define SW_NO_SUCH_RULE 3
+
+/* "the body ends too early"
+ * Add the formula's missing bytes or parts, or correct the entry's length. */
+#define SW_BODY_ENDS_EARLY 4
+
+/* "unknown code or kind"
+ * Codes are 01 to 05, kinds of a bound 0 to 2. */
+#define SW_UNKNOWN_CODE 5
+
+/* "a variable that is not bound here"
+ * 0 is the tick, m + 1 the quantifier nested under m others; bounds see only outer ones. */
+#define SW_UNBOUND_VARIABLE 6
+
+/* "a flag above 7"
+ * A byte has flags 0 to 7. */
+#define SW_NO_SUCH_FLAG 7
+
+/* "an offset outside -4,095 to 4,095, or a byte that should be 0"
+ * Kinds 0 and 1 have variable 0, infinity has offset 0. */
+#define SW_BAD_OFFSET 8
+
+/* "a 65th formula or a 5th nested quantifier"
+ * Split the rule. */
+#define SW_BODY_TOO_LARGE 9
+
+/* "bytes left over after the formula"
+ * A body is one formula: join two by 03 or 04, or correct the entry's length. */
+#define SW_BYTES_LEFT_OVER 10
+
+/* "the delay is infinite"
+ * Bound the range's end by the tick. sw_outcome takes the rule as it is. */
+#define SW_DELAY_INFINITE 11
+
+/* "the delay is above 255"
+ * Bound the range's end closer to the tick. */
+#define SW_DELAY_ABOVE_LIMIT 12
+
+/* "the history is infinite"
+ * A range from position 0 cannot be watched live. sw_outcome takes it. */
+#define SW_HISTORY_INFINITE 13
+
+/* "the history is above 4,096"
+ * Bound the range's start closer to the tick. */
+#define SW_HISTORY_ABOVE_LIMIT 14
+
+/* "more than 4,096 cells"
+ * Narrow or unnest ranges, or split the rule. */
+#define SW_CELLS_ABOVE_LIMIT 15
+
+/* "the recording is too long, or the tick is not in it"
+ * Lend a part of at most 65,535 bytes; its ticks are numbered from 0. */
+#define SW_NOT_IN_RECORDING 16
+
+/* "the history has a wrong length"
+ * To open: from the figure `history` to 4,096 bytes. To step: as many as were opened. */
+#define SW_HISTORY_LENGTH 17
+
+/* "the cell table is too short"
+ * Lend four words for each of the figure `cells`, and every step the same table. */
+#define SW_CELL_TABLE_TOO_SHORT 18
+
+/* "the report is too short"
+ * Lend delay + 1 words; SW_MAX_REPORT are enough for every rule. */
+#define SW_REPORT_TOO_SHORT 19
+
+/* "tick numbers are used up"
+ * Tick 4,294,967,295 is not taken (13 years at ten a second). Open the rule anew. */
+#define SW_TICKS_USED_UP 20
+
+/* "state and cells were not left by one opening and its steps"
+ * Open the rule anew, and hand on state and cells untouched. */
+#define SW_STATE_NOT_OPENED 21
+
+/* "the buffer is too short"
+ * sw_write_sheet: lend 1 + 4 * count + the bodies' size bytes; SW_MAX_SHEET are always
+ * enough. sw_sentence: lend SW_MAX_SENTENCE. */
+#define SW_BUFFER_TOO_SHORT 22
+
+/* ---- Limits ---- */
+
+/* A sheet: rules, bytes of a body, bytes of the whole. */
+#define SW_MAX_RULES 32
+#define SW_MAX_BODY 512
+#define SW_MAX_SHEET 16513
+
+/* A recording, in flag bytes. */
+#define SW_MAX_RECORDING 65535
+
+/* What a rule that opens can need: history bytes; cell table words (four a cell); report
+ * words for sw_step (a tick each), and for sw_steps (a pair each). */
+#define SW_CELL_WORDS 4
+#define SW_MAX_HISTORY 4096
+#define SW_MAX_CELL_WORDS 16384
+#define SW_MAX_REPORT 256
+#define SW_MAX_BATCH_REPORT 512
+
+/* A sentence in bytes, its 0 byte included. */
+#define SW_MAX_SENTENCE 128
+
+/* Bytes of stack of any call, what it calls included.
+ * measured: docs/PERFORMANCE.md */
+#define SW_MAX_STACK 98304
+
+/* Bytes of a state: 512 for the rule's body, then four 64-bit numbers, low byte first:
+ * the body's size at 512, the opened history's length at 520, the next tick at 528, the
+ * live count at 536. A state is plain bytes: it may be copied, stored and moved. It
+ * belongs to the cell table that its steps wrote.
+ *
+ * Every call looks at the state anew. It answers SW_STATE_NOT_OPENED where no opening
+ * gives such a state: the opened length is above 4096, the body's size is above 512 or it
+ * does not open, its history figure is above the opened length, or the next tick is above
+ * 4,294,967,295.
+ * Any other state or cell table that was not left by one opening and its steps is not
+ * noticed. A step on it still ends and writes only what a step may: one history byte, the
+ * needed cells, the report's first delay + 1 words, and next tick and live count in the
+ * state. But what it reports means nothing. */
 #define SW_STATE_BYTES 544
 
-/* Words of a cell; the longest history and report that a rule can need; the words
- * of the largest cell table. */
-#define SW_CELL_WORDS 4
-#define SW_MOST_HISTORY 4096
-#define SW_MOST_REPORT 256
-#define SW_MOST_CELL_WORDS 16384
+/* ---- Verdicts: what sw_outcome answers ---- */
 
-/* What sw_outcome answers as a verdict. */
 #define SW_OPEN 0
 #define SW_TRUE 1
 #define SW_FALSE 2
 
+/* ---- Functions ---- */
+
+/* The sentence of a refusal, in ASCII. A number that is no refusal (SW_OK, 23 and more)
+ * has the sentence "no such refusal".
+ * Answers 0, or 22.
+ * After 0, *written is the sentence's length, `out` begins with the sentence and a 0
+ * byte, and the bytes after them are as they were. */
+uint32_t sw_sentence(uint32_t refusal, uint8_t *out, size_t out_len, size_t *written);
+
 /* Where the body of rule number `rule` lies in a sheet.
- * Answers 0, or 1 to 3.
- * After 0, *start is the position of the body's first byte in the sheet and *size
- * how many bytes it has: 1 to 512. */
+ * Answers 0, or 1, 2, 3.
+ * After 0, *start is the position of the body's first byte in the sheet and *size how
+ * many bytes it has: 1 to 512. */
 uint32_t sw_rule_place(const uint8_t *sheet, size_t sheet_len, size_t rule,
                        size_t *start, size_t *size);
 
-/* Writes the sheet of `count` bodies, which lie end to end in `bodies` and have
- * these lengths, at the start of `out`. It does not look inside the bodies.
- * Answers 0, or 1, 2 or 22.
- * After 0, *written is the sheet's length, 1 + 4 * count + bodies_len; so many
- * bytes of `out` are the sheet, and those after them are as they were. */
+/* Writes the sheet of `count` bodies, which lie end to end in `bodies` and have these
+ * lengths, at the start of `out`. It does not look inside the bodies.
+ * Answers 0, or 1, 2, 22.
+ * After 0, *written is the sheet's length, 1 + 4 * count + bodies_len; so many bytes of
+ * `out` are the sheet, and those after them are as they were. */
 uint32_t sw_write_sheet(const uint16_t *lengths, size_t count,
                         const uint8_t *bodies, size_t bodies_len,
                         uint8_t *out, size_t out_len, size_t *written);
 
-/* The figures of a rule's body: how many past flags it needs (history, at most
- * 4096), within how many ticks it is decided (delay, at most 255), and how many
- * cells of four words its steps need (cells, at most 4096).
+/* The figures of a rule's body: how many past flags it needs (history, at most 4096),
+ * within how many ticks it is decided (delay, at most 255), and how many cells of four
+ * words its steps need (cells, at most 4096).
  * Answers 0, or 4 to 15.
  * After 0 the three numbers are set. */
 uint32_t sw_figures(const uint8_t *body, size_t body_len,
                     uint64_t *history, uint64_t *delay, uint64_t *cells);
 
-/* The outcome of a body at a tick of a recording of up to 65,535 flag bytes, also
- * for a body that cannot be opened.
- * Answers 0, or 4 to 10, or 16.
- * After 0, *verdict is SW_OPEN, SW_TRUE or SW_FALSE, and *step the step that
- * decided it; 0 where it is open. */
+/* The outcome of a body at a tick of a recording of up to 65,535 flag bytes, also for a
+ * body that cannot be opened.
+ * Answers 0, or 4 to 10, 16.
+ * After 0, *verdict is SW_OPEN, SW_TRUE or SW_FALSE, and *step the step that decided it;
+ * 0 where it is open. */
 uint32_t sw_outcome(const uint8_t *body, size_t body_len,
                     const uint8_t *recording, size_t recording_len, size_t tick,
                     uint32_t *verdict, uint64_t *step);
 
-/* Opens rule number `rule` of a sheet over a history, whose length is from the
- * rule's figure to 4096 bytes, and a cell table of at least four times its cells,
- * which is only measured: its content does not matter.
- * Answers 0, or 1 to 15, 17 or 18.
- * After 0 every history byte is 0, and all 544 bytes of the state are set: the
- * body with 0 after it, its size, the history's length, next tick 0, 0 live. */
+/* Opens rule number `rule` of a sheet over a history, whose length is from the rule's
+ * figure to 4096 bytes, and a cell table of at least four times its cells, which is only
+ * measured: its content does not matter.
+ * Answers 0, or 1 to 15, 17, 18.
+ * After 0 every history byte is 0, and all 544 bytes of the state are set: the body with
+ * 0 after it, its size, the history's length, next tick 0, 0 live. */
 uint32_t sw_open(const uint8_t *sheet, size_t sheet_len, size_t rule,
                  uint8_t *history, size_t history_len,
                  const uint32_t *cells, size_t cells_len,
                  uint8_t state[SW_STATE_BYTES]);
 
-/* Takes one flag byte at the state's next tick t. The history has the opened
- * length, the cell table the needed words as the last step left them, the report
- * at least delay + 1 words.
- * Answers 0, or 17 to 20; or 21 for a state that no opening gives.
- * After 0, the first *reported words of the report are the ticks whose outcome is
- * false at step t, ascending, and the words after them are as they were. *live
- * is how many ticks up to t are still open. History byte t mod (history length)
- * is the flag byte and no other changed (none, where the length is 0). Cell table
- * words after the needed ones are as they were. In the state the next tick is
- * t + 1 and the live count is *live; its other bytes are as they were.
- * The last h flags, h being the history figure, must still be in the history, each
- * at byte tick mod (history length); the other history bytes may be overwritten
- * between steps. */
+/* Takes one flag byte at the state's next tick t. The history has the opened length, the
+ * cell table the needed words as the last step left them, the report at least delay + 1
+ * words.
+ * Answers 0, or 21, 17, 18, 19, 20, in this order.
+ * After 0, the first *reported words of the report are the ticks whose outcome is false
+ * at step t, ascending, and the words after them are as they were. *live is how many
+ * ticks up to t are still open. History byte t mod (history length) is the flag byte and
+ * no other changed (none, where the length is 0). Cell table words after the needed ones
+ * are as they were. In the state the next tick is t + 1 and the live count is *live; its
+ * other bytes are as they were.
+ * The last h flags, h being the history figure, must still be in the history, each at
+ * byte tick mod (history length); the other history bytes may be overwritten between
+ * steps. Where one of the last h was overwritten, steps still end and write only what
+ * they may, but from then on what they report means nothing. */
 uint32_t sw_step(uint8_t state[SW_STATE_BYTES], uint8_t flag,
                  uint8_t *history, size_t history_len,
                  uint32_t *cells, size_t cells_len,
                  uint32_t *report, size_t report_len,
                  size_t *reported, size_t *live);
 
-/* Takes flag bytes one after another, each as sw_step does, and writes a pair of
- * words, tick and deciding step, for each tick that a step reports, end to end
- * from the report's start. It stops where the flags end; before a step for which
- * fewer than 2 * (delay + 1) report words are left; and at a step that would be
- * refused, which after the first can only be by 20. To go on, call it again with
- * the flags that were not taken and an empty report.
- * Answers 0, or, where a first step would be refused although its report is long
- * enough, its number: 17, 18, 20, 21; also where there are no flags. A report that
- * is too short for even one step is no refusal: 0 flags are taken.
- * After 0, *taken is how many flags were taken and *pairs how many pairs were
- * written; report words after the pairs are as they were. State, history and cell
- * table are what so many calls of sw_step leave, and *live is the state's live
- * count. */
+/* Takes flag bytes one after another, each as sw_step does, and writes a pair of words,
+ * tick and deciding step, for each tick that a step reports, end to end from the report's
+ * start. It stops where the flags end; before a step for which fewer than 2 * (delay + 1)
+ * report words are left, since so many a step can need; and before a step that would be
+ * refused, which after the first can only be by 20.
+ * Answers 0, or 21, 17, 18, 20, in this order: what sw_step would answer for the first of
+ * these flags if its report were long enough. It asks this also where there are no flags.
+ * It never answers 19: with a report of fewer than 2 * (delay + 1) words it answers 0 and
+ * takes no flag.
+ * After 0, *taken is how many flags were taken and *pairs how many pairs were written;
+ * report words after the pairs are as they were. State, history and cell table are what
+ * so many calls of sw_step leave, and *live is the state's live count.
+ *
+ * To take all flags, call it again with those that were not taken. This ends for every
+ * rule with a report of SW_MAX_BATCH_REPORT words, and for a known rule with one of
+ * 2 * (delay + 1): each call takes a flag or is refused. With a shorter report it would
+ * go on for ever.
+ *
+ *     size_t done = 0;
+ *     while (done < count) {
+ *         size_t taken, pairs, live, i;
+ *         uint32_t refusal = sw_steps(state, flags + done, count - done,
+ *                                     history, history_len, cells, cells_len,
+ *                                     report, SW_MAX_BATCH_REPORT,
+ *                                     &taken, &pairs, &live);
+ *         if (refusal != SW_OK)
+ *             return refusal;
+ *         for (i = 0; i < pairs; i++)
+ *             violation(report[2 * i], report[2 * i + 1]);
+ *         done += taken;
+ *     } */
 uint32_t sw_steps(uint8_t state[SW_STATE_BYTES],
                   const uint8_t *flags, size_t flags_len,
                   uint8_t *history, size_t history_len,

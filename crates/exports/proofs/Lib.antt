@@ -1,4 +1,5 @@
 mod Numbers
+mod Texts
 mod States
 mod Calls
 mod Batches

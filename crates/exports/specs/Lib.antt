@@ -1,4 +1,5 @@
 pub mod Answers
+pub mod Sentences
 pub mod Numbers
 pub mod States
 pub mod Calls

@@ -3,6 +3,7 @@
 mod batch;
 mod bodies;
 mod bytes;
+mod sentences;
 mod sheets;
 mod state;
 mod watching;
@@ -10,6 +11,7 @@ mod watching;
 pub use batch::sw_steps;
 pub use bodies::sw_figures;
 pub use bodies::sw_outcome;
+pub use sentences::sw_sentence;
 pub use sheets::sw_rule_place;
 pub use sheets::sw_write_sheet;
 pub use watching::sw_open;

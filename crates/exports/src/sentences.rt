@@ -1,0 +1,24 @@
+// A refusal in words.
+ghost use mathlib.Core.Path.{_≡_};
+ghost use lib.ListN.{length};
+ghost use Rattle.exports.specs.Answers.{number, or-kept};
+ghost use Rattle.exports.specs.Sentences.{sentence-length, with-sentence};
+use crate::bytes::copy_front;
+use refusal::Refusal;
+
+// Writes the sentence of a refusal's number and a byte 0 at the start of the buffer, and answers the sentence's length: refusal 22.
+#[no_mangle]
+pub extern "C" fn sw_sentence(refused: u32, out: &mut [u8], written: &mut usize) -> u32
+    ensures { λ n. ⌜ n ≡ number (sentence-length refused (length (now (out .entry)))) ⌝ }
+    ensures { λ n. ⌜ now (out .exit) ≡ with-sentence refused (now (out .entry)) ⌝ }
+    ensures { λ n. ⌜ now (written .exit) ≡ or-kept (λ n. n) (sentence-length refused (length (now (out .entry)))) (now (written .entry)) ⌝ }
+{
+    let mut text = [0u8; 128];
+    let n = refusal_text::sentence(refused, &mut text);
+    if out.len() <= n {
+        return refusal::number(Refusal::BufferTooShort);
+    }
+    copy_front(&text, &mut out[..n + 1]);
+    *written = n;
+    0
+}

@@ -1,0 +1,345 @@
+/* The header's constants against what the library answers. Expected values are the scope
+ * document's: its figures, its example, its limits and the lines of its refusals. */
+#include <inttypes.h>
+#include <stdio.h>
+#include <string.h>
+
+#include "station_watch.h"
+
+static unsigned checks, failures;
+
+static void same(int line, const char *what, uint64_t expected, uint64_t seen)
+{
+    checks++;
+    if (seen == expected)
+        return;
+    failures++;
+    printf("boundary.c:%d: %s is %" PRIu64 ", not %" PRIu64 "\n", line, what, seen, expected);
+}
+
+#define SAME(expected, seen) same(__LINE__, #seen, (uint64_t)(expected), (uint64_t)(seen))
+
+/* ---- Rules of the scope document ---- */
+
+/* not (flag 0 at X beside for all Y from X-1 to X+2: flag 0 at Y): 1, 2, 21 */
+static const uint8_t example[] = {2, 4, 1, 0, 0, 5, 2, 0, 0xFF, 0xFF, 2, 0, 2, 0, 1, 1, 0};
+static const uint8_t flags[] = {0, 1, 1, 0, 1, 1, 1, 1, 0, 0};
+
+/* for all Y from X+255 to X+255: flag 0 at Y: 0, 255, 768 */
+static const uint8_t ahead[] = {5, 2, 0, 255, 0, 2, 0, 255, 0, 1, 1, 0};
+
+/* Memory for any rule, and a word more where a test lends too much. */
+static uint8_t history[SW_MAX_HISTORY + 1];
+static uint32_t cells[SW_MAX_CELL_WORDS];
+static uint32_t report[SW_MAX_BATCH_REPORT];
+static uint8_t state[SW_STATE_BYTES];
+static uint8_t sheet[SW_MAX_SHEET];
+static size_t sheet_len;
+
+/* The sheet of one rule. */
+static void write_one(const uint8_t *body, uint16_t length)
+{
+    SAME(SW_OK, sw_write_sheet(&length, 1, body, length, sheet, sizeof sheet, &sheet_len));
+    SAME(5 + length, sheet_len);
+}
+
+static uint32_t open_with(size_t history_len, size_t cells_len)
+{
+    return sw_open(sheet, sheet_len, 0, history, history_len, cells, cells_len, state);
+}
+
+static uint32_t step_with(size_t history_len, size_t cells_len, size_t report_len)
+{
+    size_t reported, live;
+    return sw_step(state, 0, history, history_len, cells, cells_len, report, report_len, &reported, &live);
+}
+
+static void set_number(size_t at, uint64_t value)
+{
+    for (int i = 0; i < 8; i++)
+        state[at + i] = (uint8_t)(value >> (8 * i));
+}
+
+/* ---- 1 to 3, 22: sheets ---- */
+
+static uint32_t place(const uint8_t *bytes, size_t len, size_t rule)
+{
+    size_t start = 77, size = 78;
+    uint32_t number = sw_rule_place(bytes, len, rule, &start, &size);
+    if (number != SW_OK) {
+        SAME(77, start);
+        SAME(78, size);
+    }
+    return number;
+}
+
+static void sheets(void)
+{
+    write_one(example, sizeof example);
+    SAME(SW_OK, place(sheet, sheet_len, 0));
+    SAME(SW_RULE_COUNT, place(sheet, 0, 0));
+    SAME(SW_RULE_COUNT, place(sheet, 4, 0));
+    SAME(SW_NO_SUCH_RULE, place(sheet, sheet_len, 1));
+    SAME(SW_ENTRY_LAYOUT, place(sheet, sheet_len - 1, 0));
+    sheet[0] = SW_MAX_RULES + 1;
+    SAME(SW_RULE_COUNT, place(sheet, sheet_len, 0));
+    sheet[0] = 0;
+    SAME(SW_RULE_COUNT, place(sheet, sheet_len, 0));
+
+    /* The largest sheet, and a body, a rule and a byte too much. */
+    static uint16_t lengths[SW_MAX_RULES + 1];
+    static uint8_t bodies[(SW_MAX_RULES + 1) * SW_MAX_BODY];
+    for (int i = 0; i <= SW_MAX_RULES; i++)
+        lengths[i] = SW_MAX_BODY;
+    size_t written = 79;
+    SAME(SW_BUFFER_TOO_SHORT, sw_write_sheet(lengths, SW_MAX_RULES, bodies, SW_MAX_RULES * SW_MAX_BODY,
+                                             sheet, SW_MAX_SHEET - 1, &written));
+    SAME(79, written);
+    SAME(SW_RULE_COUNT, sw_write_sheet(lengths, SW_MAX_RULES + 1, bodies, sizeof bodies, sheet, SW_MAX_SHEET, &written));
+    lengths[1] = SW_MAX_BODY + 1;
+    SAME(SW_ENTRY_LAYOUT, sw_write_sheet(lengths, 2, bodies, 2 * SW_MAX_BODY + 1, sheet, SW_MAX_SHEET, &written));
+    lengths[1] = SW_MAX_BODY;
+    SAME(SW_OK, sw_write_sheet(lengths, SW_MAX_RULES, bodies, SW_MAX_RULES * SW_MAX_BODY, sheet, SW_MAX_SHEET, &written));
+    SAME(SW_MAX_SHEET, written);
+    SAME(SW_OK, place(sheet, written, SW_MAX_RULES - 1));
+    SAME(SW_NO_SUCH_RULE, place(sheet, written, SW_MAX_RULES));
+}
+
+/* ---- 4 to 15: bodies ---- */
+
+static uint32_t figures_are(const uint8_t *body, size_t len, uint64_t h, uint64_t d, uint64_t c)
+{
+    uint64_t history_figure, delay, cells_figure;
+    uint32_t number = sw_figures(body, len, &history_figure, &delay, &cells_figure);
+    if (number == SW_OK) {
+        SAME(h, history_figure);
+        SAME(d, delay);
+        SAME(c, cells_figure);
+    }
+    return number;
+}
+
+#define REFUSED(number, ...)                                                  \
+    do {                                                                      \
+        static const uint8_t body[] = {__VA_ARGS__};                          \
+        uint64_t h = 71, d = 72, c = 73;                                      \
+        SAME(number, sw_figures(body, sizeof body, &h, &d, &c));              \
+        SAME(71, h);                                                          \
+        SAME(72, d);                                                          \
+        SAME(73, c);                                                          \
+    } while (0)
+
+static void bodies(void)
+{
+    SAME(SW_OK, figures_are(example, sizeof example, 1, 2, 21));
+    SAME(SW_OK, figures_are(ahead, sizeof ahead, 0, 255, 768));
+    SAME(SW_BODY_ENDS_EARLY, figures_are(example, 0, 0, 0, 0));
+    SAME(SW_BODY_ENDS_EARLY, figures_are(example, sizeof example - 1, 0, 0, 0));
+    REFUSED(SW_UNKNOWN_CODE, 6);
+    REFUSED(SW_UNKNOWN_CODE, 5, 3, 0, 0, 0, 2, 0, 0, 0, 1, 1, 0);
+    REFUSED(SW_UNBOUND_VARIABLE, 1, 1, 0);
+    REFUSED(SW_NO_SUCH_FLAG, 1, 0, 8);
+    REFUSED(SW_BAD_OFFSET, 5, 2, 0, 0x00, 0x10, 2, 0, 0x00, 0x10, 1, 1, 0);        /* offset 4,096 */
+    REFUSED(SW_BAD_OFFSET, 5, 1, 0, 1, 0, 2, 0, 0, 0, 1, 1, 0);                    /* infinity + 1 */
+    REFUSED(SW_BYTES_LEFT_OVER, 1, 0, 0, 1);
+    REFUSED(SW_DELAY_INFINITE, 5, 2, 0, 0, 0, 1, 0, 0, 0, 1, 1, 0);                /* X..infinity */
+    REFUSED(SW_DELAY_ABOVE_LIMIT, 5, 2, 0, 0, 1, 2, 0, 0, 1, 1, 1, 0);             /* X+256..X+256 */
+    REFUSED(SW_HISTORY_INFINITE, 5, 0, 0, 0, 0, 2, 0, 0, 0, 1, 1, 0);              /* 0..X */
+    REFUSED(SW_HISTORY_ABOVE_LIMIT, 5, 2, 0, 0x01, 0xF0, 2, 0, 0x01, 0xF0,         /* X-4,095 */
+            5, 2, 1, 0xFE, 0xFF, 2, 1, 0xFE, 0xFF, 1, 2, 0);                       /* Y-2 */
+    REFUSED(SW_CELLS_ABOVE_LIMIT, 5, 2, 0, 0, 0, 2, 0, 63, 0, 1, 1, 0);            /* X..X+63 */
+
+    /* 64 formulas, and one more. */
+    uint8_t nots[67];
+    memset(nots, 2, sizeof nots);
+    memset(nots + 63, 0, 3);
+    nots[63] = 1;
+    SAME(SW_OK, figures_are(nots, 66, 0, 0, 1));
+    memset(nots + 63, 2, 1);
+    nots[64] = 1;
+    nots[65] = nots[66] = 0;
+    SAME(SW_BODY_TOO_LARGE, figures_are(nots, 67, 0, 0, 0));
+}
+
+/* ---- 16: a recording, and the verdicts ---- */
+
+static void recordings(void)
+{
+    static uint8_t recording[SW_MAX_RECORDING + 1];
+    uint32_t verdict = 74;
+    uint64_t step = 75;
+    SAME(SW_NOT_IN_RECORDING, sw_outcome(example, sizeof example, flags, sizeof flags, sizeof flags, &verdict, &step));
+    SAME(SW_NOT_IN_RECORDING, sw_outcome(example, sizeof example, recording, sizeof recording, 0, &verdict, &step));
+    SAME(74, verdict);
+    SAME(75, step);
+    SAME(SW_OK, sw_outcome(example, sizeof example, recording, SW_MAX_RECORDING, SW_MAX_RECORDING - 1, &verdict, &step));
+    SAME(SW_TRUE, verdict);
+    SAME(SW_MAX_RECORDING - 1, step);
+    SAME(SW_OK, sw_outcome(example, sizeof example, flags, sizeof flags, 5, &verdict, &step));
+    SAME(SW_FALSE, verdict);
+    SAME(7, step);
+    SAME(SW_OK, sw_outcome(example, sizeof example, flags, 7, 5, &verdict, &step));
+    SAME(SW_OPEN, verdict);
+    SAME(0, step);
+}
+
+/* ---- 17 to 21: what an opening and a step are lent ---- */
+
+static void lending(void)
+{
+    write_one(example, sizeof example);
+    SAME(SW_HISTORY_LENGTH, open_with(0, 84));
+    SAME(SW_HISTORY_LENGTH, open_with(SW_MAX_HISTORY + 1, 84));
+    SAME(SW_CELL_TABLE_TOO_SHORT, open_with(1, SW_CELL_WORDS * 21 - 1));
+    SAME(SW_OK, open_with(SW_MAX_HISTORY, SW_CELL_WORDS * 21));
+    SAME(SW_OK, open_with(1, SW_CELL_WORDS * 21));
+
+    SAME(SW_HISTORY_LENGTH, step_with(2, 84, 3));
+    SAME(SW_CELL_TABLE_TOO_SHORT, step_with(1, 83, 3));
+    SAME(SW_REPORT_TOO_SHORT, step_with(1, 84, 2));
+    SAME(SW_OK, step_with(1, 84, 3));
+
+    set_number(528, UINT32_MAX);
+    SAME(SW_TICKS_USED_UP, step_with(1, 84, 3));
+    set_number(528, (uint64_t)UINT32_MAX + 1);
+    SAME(SW_STATE_NOT_OPENED, step_with(1, 84, 3));
+    set_number(528, UINT32_MAX - 1);
+    SAME(SW_OK, step_with(1, 84, 3));
+    SAME(SW_TICKS_USED_UP, step_with(1, 84, 3));
+
+    set_number(520, SW_MAX_HISTORY + 1);
+    SAME(SW_STATE_NOT_OPENED, step_with(1, 84, 3));
+    memset(state, 0, sizeof state);
+    SAME(SW_STATE_NOT_OPENED, step_with(1, 84, 3));
+
+    /* What every rule can need. */
+    SAME(SW_MAX_CELL_WORDS, 4096 * SW_CELL_WORDS);
+    write_one(ahead, sizeof ahead);
+    SAME(SW_OK, open_with(0, SW_MAX_CELL_WORDS));
+    SAME(SW_REPORT_TOO_SHORT, step_with(0, SW_MAX_CELL_WORDS, SW_MAX_REPORT - 1));
+    SAME(SW_OK, step_with(0, SW_MAX_CELL_WORDS, SW_MAX_REPORT));
+}
+
+/* A dishonest table that is not caught: a step ends and writes only what a step may. */
+static void dishonest(void)
+{
+    size_t reported, live;
+    write_one(example, sizeof example);
+    SAME(SW_OK, open_with(4, 84));
+    set_number(528, 6);
+    memset(cells, 0xFF, sizeof cells);
+    memset(history, 0xEE, sizeof history);
+    memset(report, 0xDD, sizeof report);
+    SAME(SW_OK, sw_step(state, 1, history, 4, cells, SW_MAX_CELL_WORDS, report, SW_MAX_REPORT, &reported, &live));
+    SAME(1, reported <= 3);
+    SAME(0xDDDDDDDD, report[3]);
+    SAME(UINT32_MAX, cells[84]);
+    SAME(0xEE, history[1]);
+    SAME(1, history[2]);
+    SAME(0xEE, history[3]);
+    SAME(7, state[528]);
+}
+
+/* ---- Batches ---- */
+
+static size_t violations;
+
+static void violation(uint32_t tick, uint32_t step)
+{
+    SAME(violations, tick);
+    SAME(violations + 255, step);
+    violations++;
+}
+
+/* The loop that the header shows; tests/c/run takes it out of there. */
+static uint32_t take_all(const uint8_t *flags, size_t count, size_t history_len, size_t cells_len)
+{
+#include "loop.inc"
+    return SW_OK;
+}
+
+static void batches(void)
+{
+    static const uint8_t down[1000];
+    size_t taken, pairs, live;
+
+    /* Every tick is a violation, 255 steps later. */
+    write_one(ahead, sizeof ahead);
+    SAME(SW_OK, open_with(0, SW_MAX_CELL_WORDS));
+
+    /* A report that is one word too short: no refusal, and no flag is ever taken. */
+    for (int i = 0; i < 2; i++) {
+        taken = pairs = live = 76;
+        SAME(SW_OK, sw_steps(state, down, sizeof down, history, 0, cells, SW_MAX_CELL_WORDS,
+                             report, SW_MAX_BATCH_REPORT - 1, &taken, &pairs, &live));
+        SAME(0, taken);
+        SAME(0, pairs);
+        SAME(0, live);
+    }
+
+    /* The loop of the header ends, and sees them all. */
+    SAME(SW_OK, take_all(down, sizeof down, 0, SW_MAX_CELL_WORDS));
+    SAME(sizeof down - 255, violations);
+    SAME(SW_OK, sw_steps(state, down, 0, history, 0, cells, SW_MAX_CELL_WORDS, report, 0, &taken, &pairs, &live));
+    SAME(255, live);
+    SAME(sizeof down % 256, state[528]);
+    SAME(sizeof down / 256, state[529]);
+
+    /* What is asked of a first step, also where there is no flag; never 19. */
+    SAME(SW_CELL_TABLE_TOO_SHORT, sw_steps(state, down, 0, history, 0, cells, 4 * 768 - 1, report, 0, &taken, &pairs, &live));
+    SAME(SW_HISTORY_LENGTH, sw_steps(state, down, 0, history, 1, cells, 4 * 768 - 1, report, 0, &taken, &pairs, &live));
+    SAME(SW_OK, sw_steps(state, down, 1, history, 0, cells, 4 * 768, report, 0, &taken, &pairs, &live));
+    SAME(0, taken);
+
+    /* The last tick ends a batch, and refuses the next one. */
+    set_number(528, UINT32_MAX - 1);
+    SAME(SW_OK, sw_steps(state, down, 2, history, 0, cells, 4 * 768, report, SW_MAX_BATCH_REPORT, &taken, &pairs, &live));
+    SAME(1, taken);
+    SAME(SW_TICKS_USED_UP, sw_steps(state, down, 2, history, 0, cells, 4 * 768, report, SW_MAX_BATCH_REPORT, &taken, &pairs, &live));
+    memset(state, 0, sizeof state);
+    SAME(SW_STATE_NOT_OPENED, sw_steps(state, down, 2, history, 0, cells, 4 * 768, report, SW_MAX_BATCH_REPORT, &taken, &pairs, &live));
+}
+
+/* ---- Sentences: header.py compares the texts ---- */
+
+static void sentences(void)
+{
+    uint8_t out[SW_MAX_SENTENCE + 1];
+    for (uint32_t number = 0; number <= 23; number++) {
+        size_t written = 99;
+        memset(out, 0xAA, sizeof out);
+        SAME(SW_OK, sw_sentence(number, out, SW_MAX_SENTENCE, &written));
+        SAME(written, strlen((const char *)out));
+        SAME(0xAA, out[written + 1]);
+
+        /* Room for the text and not for its 0. */
+        size_t kept = 98;
+        memset(out, 0xAA, sizeof out);
+        SAME(SW_BUFFER_TOO_SHORT, sw_sentence(number, out, written, &kept));
+        SAME(98, kept);
+        SAME(0xAA, out[0]);
+        SAME(SW_OK, sw_sentence(number, out, written + 1, &kept));
+        SAME(written, kept);
+    }
+}
+
+static void version(void)
+{
+    char text[32];
+    snprintf(text, sizeof text, "%d.%d.%d", SW_VERSION_MAJOR, SW_VERSION_MINOR, SW_VERSION_PATCH);
+    SAME(0, strcmp(text, SW_VERSION));
+}
+
+int main(void)
+{
+    sheets();
+    bodies();
+    recordings();
+    lending();
+    dishonest();
+    batches();
+    sentences();
+    version();
+    printf("boundary.c: %u checks, %u failed\n", checks, failures);
+    return failures != 0;
+}

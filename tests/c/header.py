@@ -1,0 +1,79 @@
+"""Holds include/station_watch.h and the library to each other: both kinds show the header's functions and no others, and the sentence in the comment above
+each refusal's constant is what sw_sentence writes. It loads the shared library as other languages do, and asks for the figures of the scope document's example.
+
+    python3 header.py HEADER SHARED STATIC
+"""
+import ctypes
+import re
+import subprocess
+import sys
+
+header_file, shared, static = sys.argv[1:]
+header = open(header_file).read()
+library = ctypes.CDLL(shared)
+failures = []
+
+
+def same(what, expected, seen):
+    if seen != expected:
+        failures.append(f"{what}: {seen!r}, not {expected!r}")
+
+
+def plain(comment):
+    """The words of a comment that goes over several lines."""
+    return " ".join(re.sub(r"\n \*", " ", comment).split())
+
+
+def constants():
+    return {name: int(value) for name, value in re.findall(r"^#define (SW_\w+) (\d+)$", header, re.M)}
+
+
+def refusals():
+    """(name, number, sentence) of each constant with a quoted sentence at the start of the comment above it."""
+    found = re.findall(r'/\* "([^"]*)"((?:(?!\*/).)*)\*/\n#define (SW_\w+) (\d+)\n', header, re.S)
+    return [(name, int(number), plain(sentence)) for sentence, _, name, number in found]
+
+
+def sentence(number):
+    """What sw_sentence writes, in a buffer of SW_MAX_SENTENCE bytes."""
+    room = constants()["SW_MAX_SENTENCE"]
+    out = ctypes.create_string_buffer(b"\xaa" * room, room)
+    written = ctypes.c_size_t()
+    same(f"sw_sentence({number})", 0, library.sw_sentence(ctypes.c_uint32(number), out, ctypes.c_size_t(room), ctypes.byref(written)))
+    same(f"the length of sentence {number}", len(out.value), written.value)
+    return out.value.decode("ascii")
+
+
+def symbols(*words):
+    """What nm lists, a symbol a line, with address and kind before it."""
+    said = subprocess.run(["nm", "--defined-only", *words], check=True, text=True, stdout=subprocess.PIPE).stdout
+    return sorted(line.split()[2] for line in said.splitlines() if len(line.split()) == 3)
+
+
+def functions():
+    declared = sorted(re.findall(r"^\w+ (sw_\w+)\(", header, re.M))
+    same("functions of the shared library", declared, symbols("--dynamic", shared))
+    same("functions of the static library", declared, symbols("--extern-only", static))
+
+
+def sentences():
+    listed = refusals()
+    same("numbers of the refusals", list(range(1, 23)), [number for _, number, _ in listed])
+    for name, number, text in listed:
+        same(name, text, sentence(number))
+    for number in (constants()["SW_OK"], 23, 4294967295):
+        same(f"sentence {number}", "no such refusal", sentence(number))
+
+
+def figures():
+    body = bytes.fromhex("02 04 010000 05 0200FFFF 02000200 010100")
+    history, delay, cells = (ctypes.c_uint64() for _ in range(3))
+    answer = library.sw_figures(body, ctypes.c_size_t(len(body)), ctypes.byref(history), ctypes.byref(delay), ctypes.byref(cells))
+    same("figures of the example", (0, 1, 2, 21), (answer, history.value, delay.value, cells.value))
+
+
+functions()
+sentences()
+figures()
+print("\n".join(failures) if failures else "header.py: ok")
+sys.exit(bool(failures))
