@@ -5,7 +5,7 @@
 use crate::anew::Anew;
 use crate::plain::Engine;
 use rust_tests::paper::{write_body, Formula};
-use station_watch::{figures, write_sheet, Figures, State};
+use station_watch::{figures, sheet_of, Figures, Pair, Watch};
 
 /// Every violation in order, folded into one number, and the live counts.
 #[derive(Clone, Copy, Debug, Default, PartialEq, Eq)]
@@ -49,32 +49,17 @@ pub fn rule_figures(rule: &Formula) -> Figures {
     figures(&write_body(rule)).expect("a rule that can be opened")
 }
 
-/// The rule's history, cells and report, all of the least length but the report,
-/// which has room for a batch.
+/// The library, with what it reported.
 struct Library {
-    state: State,
-    history: Vec<u8>,
-    cells: Vec<u32>,
-    report: Vec<u32>,
-    next: u64,
-    live: usize,
+    watch: Watch,
     tally: Tally,
 }
 
-/// Words of the report that a batch gets.
-const BATCH_REPORT: usize = 4096;
-
 impl Library {
     fn open(rule: &Formula) -> Library {
-        let body = write_body(rule);
-        let needs = rule_figures(rule);
-        let mut sheet = vec![0; body.len() + 5];
-        write_sheet(&[body.len() as u16], &body, &mut sheet).expect("a body of 1 to 512 bytes");
-        let mut history = vec![0; needs.history];
-        let cells = vec![0; needs.cell_words()];
-        let state = State::open(&sheet, 0, &mut history, &cells).expect("lent what it needs");
-        let report = vec![0; BATCH_REPORT];
-        Library { state, history, cells, report, next: 0, live: 0, tally: Tally::default() }
+        let sheet = sheet_of(&[&write_body(rule)]).expect("a body of 1 to 512 bytes");
+        let watch = Watch::open(&sheet, 0).expect("a rule that can be opened");
+        Library { watch, tally: Tally::default() }
     }
 }
 
@@ -83,14 +68,11 @@ struct Single(Library);
 
 impl Way for Single {
     fn take(&mut self, flags: &[u8]) {
-        let l = &mut self.0;
+        let Library { watch, tally } = &mut self.0;
         for &flag in flags {
-            let step = l.state.step(flag, &mut l.history, &mut l.cells, &mut l.report).unwrap();
-            for &tick in step.ticks {
-                l.tally.add(tick as u64, l.next);
+            for pair in watch.step(flag).expect("ticks are left").pairs() {
+                tally.add(pair.tick as u64, pair.step as u64);
             }
-            l.live = step.live;
-            l.next += 1;
         }
     }
 
@@ -99,7 +81,7 @@ impl Way for Single {
     }
 
     fn live(&self) -> usize {
-        self.0.live
+        self.0.watch.live() as usize
     }
 }
 
@@ -108,16 +90,9 @@ struct Batch(Library);
 
 impl Way for Batch {
     fn take(&mut self, flags: &[u8]) {
-        let l = &mut self.0;
-        let mut rest = flags;
-        while !rest.is_empty() {
-            let steps = l.state.steps(rest, &mut l.history, &mut l.cells, &mut l.report).unwrap();
-            for pair in steps.pairs.chunks_exact(2) {
-                l.tally.add(pair[0] as u64, pair[1] as u64);
-            }
-            l.live = steps.live;
-            rest = &rest[steps.taken..];
-        }
+        let Library { watch, tally } = &mut self.0;
+        let add = |pair: Pair| tally.add(pair.tick as u64, pair.step as u64);
+        watch.steps(flags, add).expect("ticks are left");
     }
 
     fn tally(&self) -> Tally {
@@ -125,7 +100,7 @@ impl Way for Batch {
     }
 
     fn live(&self) -> usize {
-        self.0.live
+        self.0.watch.live() as usize
     }
 }
 

@@ -1,7 +1,7 @@
 //! Opens the example rule of document 01, takes its ten flag bytes one by one, and
 //! prints 01's three lines.
 
-use station_watch::{figures, rule_body, Refusal, State};
+use station_watch::{Refusal, Watch};
 
 /// Not (flag 0 at X, beside: for all Y from X - 1 to X + 2, flag 0 at Y).
 const SHEET: [u8; 22] = [
@@ -16,22 +16,16 @@ const SHEET: [u8; 22] = [
 const FLAGS: [u8; 10] = [0, 1, 1, 0, 1, 1, 1, 1, 0, 0];
 
 fn main() -> Result<(), Refusal> {
-    let rule = figures(rule_body(&SHEET, 0)?)?;
-    println!("rule 0 history {} delay {} cells {}", rule.history, rule.delay, rule.cells);
+    let mut watch = Watch::open(&SHEET, 0)?;
+    println!("rule 0 {}", watch.figures());
 
-    let mut history = vec![0; rule.history];
-    let mut cells = vec![0; rule.cell_words()];
-    let mut report = vec![0; rule.report_words()];
-    let mut state = State::open(&SHEET, 0, &mut history, &cells)?;
-    let (mut violations, mut live) = (0, 0);
-    for (tick, &flag) in FLAGS.iter().enumerate() {
-        let step = state.step(flag, &mut history, &mut cells, &mut report)?;
-        for violation in step.ticks {
-            println!("violation {violation} at {tick}");
+    let mut violations = 0;
+    for flag in FLAGS {
+        for violation in watch.step(flag)?.pairs() {
+            println!("violation {} at {}", violation.tick, violation.step);
+            violations += 1;
         }
-        violations += step.ticks.len();
-        live = step.live;
     }
-    println!("end {} steps {violations} violations {live} live", FLAGS.len());
+    println!("end {} steps {violations} violations {} live", watch.next_tick(), watch.live());
     Ok(())
 }

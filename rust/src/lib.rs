@@ -1,19 +1,67 @@
-//! The station watch engine for Rust: safe functions over the proved static
-//! library (`rt staticlib exports`). Memory is lent as slices, as it is in C, and
-//! nothing is allocated. A refused call answers document 01's number and has
-//! changed nothing.
+//! The station watch engine for Rust: safe functions over the proved library
+//! `libstation_watch.a`, which `bin/library` builds.
 //!
-//! `raw` has the functions as C sees them; all `unsafe` of this crate are calls of
-//! these with the pointer and length of a slice. Slices are what the functions ask
-//! for: not null, aligned, and what is written is apart from all else.
+//! A station sends one flag byte a tick. A sheet of rules says what may not happen,
+//! and each tick that breaks a rule is reported with the step that decided it. The
+//! sheet's bytes and the meaning of a rule are told in docs/RULES.md.
+//!
+//! [`Watch`] runs a rule on a live stream:
+//!
+//! ```
+//! use station_watch::{sheet_of, Pair, Refusal, Watch};
+//!
+//! // Not (flag 0 at X, beside: for all Y from X - 1 to X + 2, flag 0 at Y): a detector
+//! // that is up may not stay up from one tick before to two ticks after.
+//! let body = [2, 4, 1, 0, 0, 5, 2, 0, 0xFF, 0xFF, 2, 0, 2, 0, 1, 1, 0];
+//! let sheet = sheet_of(&[&body])?;
+//!
+//! let mut watch = Watch::open(&sheet, 0)?;
+//! assert_eq!(watch.figures().to_string(), "history 1 delay 2 cells 21");
+//!
+//! let mut violations = Vec::new();
+//! watch.steps(&[0, 1, 1, 0, 1, 1, 1, 1, 0, 0], |violation| violations.push(violation))?;
+//! assert_eq!(violations, [Pair { tick: 5, step: 7 }]);
+//! assert_eq!((watch.next_tick(), watch.live()), (10, 0));
+//! # Ok::<(), Refusal>(())
+//! ```
+//!
+//! [`State`] is the same over memory that the caller lends, as in C. [`figures`] says
+//! what a rule needs, [`outcome`] how it stands at a tick of a recording,
+//! [`rule_body`] and [`write_sheet`] read and write sheets. A call that cannot be
+//! answered gives a [`Refusal`] and has changed nothing.
+//!
+//! The crate needs no `std`. Without its feature `alloc`, which is on unless it is
+//! turned off, `Watch` and `sheet_of` are gone and nothing is allocated.
+//!
+//! [`raw`] has the functions as C sees them. All `unsafe` of this crate are calls of
+//! these with the pointer and length of a slice, and one view of pairs as words.
 
-mod body;
+#![no_std]
+#![deny(missing_docs)]
+#![warn(unsafe_op_in_unsafe_fn)]
+
+#[cfg(feature = "alloc")]
+extern crate alloc;
+
+mod figures;
+mod limits;
+mod outcome;
 pub mod raw;
 mod refusal;
+mod report;
 mod sheet;
 mod state;
+#[cfg(feature = "alloc")]
+mod watch;
 
-pub use body::{figures, outcome, Figures, Outcome};
+pub use figures::{figures, Figures};
+pub use limits::*;
+pub use outcome::{outcome, Outcome, Verdict};
 pub use refusal::Refusal;
+pub use report::{Pair, Step, Steps};
+#[cfg(feature = "alloc")]
+pub use sheet::sheet_of;
 pub use sheet::{rule_body, write_sheet};
-pub use state::{State, Step, Steps};
+pub use state::State;
+#[cfg(feature = "alloc")]
+pub use watch::Watch;

@@ -1,16 +1,31 @@
-//! The functions of include/station_watch.h, as C sees them. The header says of
-//! each what it answers, what memory holds afterwards, and what a caller owes:
-//! pointers that are not null, aligned, and apart from each other.
+//! The functions of include/station_watch.h, as C sees them.
+//!
+//! The header says of each what it answers, what memory holds afterwards, and what a
+//! caller owes: pointers that are not null, aligned, and apart from each other.
+//!
+//! ```
+//! use station_watch::raw::sw_figures;
+//!
+//! let body = [1, 0, 7]; // flag 7 at X
+//! let (mut history, mut delay, mut cells) = (0, 0, 0);
+//! // SAFETY: the pointer and length of an array, and three numbers of this frame.
+//! let answer = unsafe {
+//!     sw_figures(body.as_ptr(), body.len(), &mut history, &mut delay, &mut cells)
+//! };
+//! assert_eq!((answer, history, delay, cells), (0, 0, 0, 1));
+//! ```
 
-/// The bytes of a state.
-pub const STATE_BYTES: usize = 544;
+pub use crate::limits::STATE_BYTES;
 
-/// How `sw_outcome` answers a verdict.
+/// What `sw_outcome` answers as a verdict: open.
 pub const OPEN: u32 = 0;
+/// What `sw_outcome` answers as a verdict: true.
 pub const TRUE: u32 = 1;
+/// What `sw_outcome` answers as a verdict: false.
 pub const FALSE: u32 = 2;
 
 extern "C" {
+    /// Where the body of a rule lies in a sheet.
     pub fn sw_rule_place(
         sheet: *const u8,
         sheet_len: usize,
@@ -19,6 +34,7 @@ extern "C" {
         size: *mut usize,
     ) -> u32;
 
+    /// Writes the sheet of bodies.
     pub fn sw_write_sheet(
         lengths: *const u16,
         count: usize,
@@ -29,6 +45,7 @@ extern "C" {
         written: *mut usize,
     ) -> u32;
 
+    /// The figures of a body.
     pub fn sw_figures(
         body: *const u8,
         body_len: usize,
@@ -37,6 +54,7 @@ extern "C" {
         cells: *mut u64,
     ) -> u32;
 
+    /// The outcome of a body at a tick of a recording.
     pub fn sw_outcome(
         body: *const u8,
         body_len: usize,
@@ -47,6 +65,7 @@ extern "C" {
         step: *mut u64,
     ) -> u32;
 
+    /// Opens a rule of a sheet.
     pub fn sw_open(
         sheet: *const u8,
         sheet_len: usize,
@@ -58,6 +77,7 @@ extern "C" {
         state: *mut u8,
     ) -> u32;
 
+    /// Takes one flag byte.
     pub fn sw_step(
         state: *mut u8,
         flag: u8,
@@ -71,6 +91,7 @@ extern "C" {
         live: *mut usize,
     ) -> u32;
 
+    /// Takes flag bytes one after another.
     pub fn sw_steps(
         state: *mut u8,
         flags: *const u8,
@@ -85,4 +106,7 @@ extern "C" {
         pairs: *mut usize,
         live: *mut usize,
     ) -> u32;
+
+    /// The sentence of a refusal, in ASCII with a 0 after it.
+    pub fn sw_sentence(refusal: u32, out: *mut u8, out_len: usize, written: *mut usize) -> u32;
 }

@@ -1,59 +1,163 @@
 //! Why a call was refused.
 
-use std::error::Error;
-use std::fmt;
+use crate::limits::MAX_SENTENCE;
+use crate::raw;
+use core::error::Error;
+use core::fmt;
 
-/// A refusal: document 01's number, 1 to 22. Nothing that was lent to the call
-/// has changed.
-#[derive(Clone, Copy, Debug, PartialEq, Eq)]
-pub struct Refusal(u32);
+/// Why a call was refused, with document 01's number. Nothing that was lent to the
+/// call has changed.
+///
+/// ```
+/// use station_watch::{figures, Refusal};
+///
+/// let refusal = figures(&[]).unwrap_err();
+/// assert_eq!(refusal, Refusal::BodyEndsEarly);
+/// assert_eq!(refusal.number(), 4);
+/// assert_eq!(refusal.to_string(), "refused 4: the body ends too early");
+/// ```
+#[derive(Clone, Copy, Debug, PartialEq, Eq, Hash)]
+#[non_exhaustive]
+pub enum Refusal {
+    /// 1: sheet empty, not 1 to 32 rules, or its table of contents is cut short.
+    RuleCount,
+    /// 2: an entry of the sheet breaks the layout.
+    EntryLayout,
+    /// 3: no such rule.
+    NoSuchRule,
+    /// 4: the body ends too early.
+    BodyEndsEarly,
+    /// 5: unknown code or kind.
+    UnknownCode,
+    /// 6: a variable that is not bound here.
+    UnboundVariable,
+    /// 7: a flag above 7.
+    NoSuchFlag,
+    /// 8: an offset outside -4,095 to 4,095, or a byte that should be 0.
+    BadOffset,
+    /// 9: a 65th formula or a 5th nested quantifier.
+    BodyTooLarge,
+    /// 10: bytes left over after the formula.
+    BytesLeftOver,
+    /// 11: the delay is infinite.
+    DelayInfinite,
+    /// 12: the delay is above 255.
+    DelayAboveLimit,
+    /// 13: the history is infinite.
+    HistoryInfinite,
+    /// 14: the history is above 4,096.
+    HistoryAboveLimit,
+    /// 15: more than 4,096 cells.
+    CellsAboveLimit,
+    /// 16: the recording is too long, or the tick is not in it.
+    NotInRecording,
+    /// 17: the history has a wrong length.
+    HistoryLength,
+    /// 18: the cell table is too short.
+    CellTableTooShort,
+    /// 19: the report is too short.
+    ReportTooShort,
+    /// 20: tick numbers are used up.
+    TicksUsedUp,
+    /// 21: state and cells were not left by one opening and its steps.
+    StateNotOpened,
+    /// 22: the buffer is too short.
+    BufferTooShort,
+    /// A number that this version has no name for: the library that was linked is a
+    /// later one. Only `from_number` makes it, so that no refusal has two forms.
+    #[non_exhaustive]
+    Other {
+        /// The number that the library answered.
+        number: u32,
+    },
+}
+
+/// Every refusal that has a name; number n stands at place n - 1.
+const NAMED: [Refusal; 22] = [
+    Refusal::RuleCount,
+    Refusal::EntryLayout,
+    Refusal::NoSuchRule,
+    Refusal::BodyEndsEarly,
+    Refusal::UnknownCode,
+    Refusal::UnboundVariable,
+    Refusal::NoSuchFlag,
+    Refusal::BadOffset,
+    Refusal::BodyTooLarge,
+    Refusal::BytesLeftOver,
+    Refusal::DelayInfinite,
+    Refusal::DelayAboveLimit,
+    Refusal::HistoryInfinite,
+    Refusal::HistoryAboveLimit,
+    Refusal::CellsAboveLimit,
+    Refusal::NotInRecording,
+    Refusal::HistoryLength,
+    Refusal::CellTableTooShort,
+    Refusal::ReportTooShort,
+    Refusal::TicksUsedUp,
+    Refusal::StateNotOpened,
+    Refusal::BufferTooShort,
+];
 
 impl Refusal {
+    /// Document 01's number.
+    ///
+    /// ```
+    /// use station_watch::Refusal;
+    ///
+    /// assert_eq!(Refusal::CellsAboveLimit.number(), 15);
+    /// ```
+    pub fn number(self) -> u32 {
+        match self {
+            Refusal::Other { number } => number,
+            named => 1 + NAMED.iter().take_while(|&&before| before != named).count() as u32,
+        }
+    }
+
+    /// The refusal of a number; `None` for 0, which is the answer of a call that was
+    /// not refused. A number without a name is kept.
+    ///
+    /// ```
+    /// use station_watch::Refusal;
+    ///
+    /// assert_eq!(Refusal::from_number(15), Some(Refusal::CellsAboveLimit));
+    /// assert_eq!(Refusal::from_number(1_000).unwrap().number(), 1_000);
+    /// assert_eq!(Refusal::from_number(0), None);
+    /// ```
+    pub fn from_number(number: u32) -> Option<Refusal> {
+        let place = (number as usize).checked_sub(1)?;
+        Some(NAMED.get(place).copied().unwrap_or(Refusal::Other { number }))
+    }
+
     /// `Ok` for an answer of 0.
     pub(crate) fn unless_0(answer: u32) -> Result<(), Refusal> {
-        if answer == 0 {
-            return Ok(());
-        }
-        Err(Refusal(answer))
-    }
-
-    pub fn number(self) -> u32 {
-        self.0
-    }
-
-    fn sentence(self) -> &'static str {
-        match self.0 {
-            1 => "sheet empty, not 1 to 32 rules, or its table of contents is cut short",
-            2 => "an entry of the sheet breaks the layout",
-            3 => "no such rule",
-            4 => "the body ends too early",
-            5 => "unknown code or kind",
-            6 => "a variable that is not bound here",
-            7 => "a flag above 7",
-            8 => "an offset outside -4,095 to 4,095, or a byte that should be 0",
-            9 => "a 65th formula or a 5th nested quantifier",
-            10 => "bytes left over after the formula",
-            11 => "the delay is infinite",
-            12 => "the delay is above 255",
-            13 => "the history is infinite",
-            14 => "the history is above 4,096",
-            15 => "more than 4,096 cells",
-            16 => "the recording is too long, or the tick is not in it",
-            17 => "the history has a wrong length",
-            18 => "the cell table is too short",
-            19 => "the report is too short",
-            20 => "tick numbers are used up",
-            21 => "state and cells were not left by one opening and its steps",
-            22 => "the writer's buffer is too short",
-            _ => "no number of document 01",
+        match Refusal::from_number(answer) {
+            None => Ok(()),
+            Some(refusal) => Err(refusal),
         }
     }
 }
 
+/// Number and sentence: `refused 3: no such rule`. The sentence is the library's own.
 impl fmt::Display for Refusal {
-    fn fmt(&self, f: &mut fmt::Formatter) -> fmt::Result {
-        write!(f, "refused {}: {}", self.0, self.sentence())
+    fn fmt(&self, f: &mut fmt::Formatter<'_>) -> fmt::Result {
+        write!(f, "refused {}", self.number())?;
+        match sentence(self.number(), &mut [0; MAX_SENTENCE]) {
+            Some(sentence) => write!(f, ": {sentence}"),
+            None => Ok(()),
+        }
     }
 }
 
 impl Error for Refusal {}
+
+/// The library's sentence for a number; `None` where a later library has a longer one.
+fn sentence(number: u32, room: &mut [u8; MAX_SENTENCE]) -> Option<&str> {
+    let mut written = 0;
+    // SAFETY: the pointer and length of an array that is lent here alone, and a number
+    // of this frame.
+    let answer = unsafe { raw::sw_sentence(number, room.as_mut_ptr(), room.len(), &mut written) };
+    if answer != 0 {
+        return None;
+    }
+    core::str::from_utf8(room.get(..written)?).ok()
+}

@@ -1,0 +1,65 @@
+//! The sizes that document 01 fixes.
+
+/// The version of this crate, which is that of the library.
+///
+/// ```
+/// assert_eq!(station_watch::VERSION, "0.2.0");
+/// ```
+pub const VERSION: &str = env!("CARGO_PKG_VERSION");
+
+/// The most rules of a sheet.
+pub const MAX_RULES: usize = 32;
+
+/// The most bytes of a rule's body.
+pub const MAX_BODY: usize = 512;
+
+/// The bytes of the largest sheet: a count, an entry of four bytes for each rule, and
+/// the bodies.
+///
+/// ```
+/// assert_eq!(station_watch::MAX_SHEET, 16_513);
+/// ```
+pub const MAX_SHEET: usize = 1 + MAX_RULES * (4 + MAX_BODY);
+
+/// The most flag bytes of a recording.
+pub const MAX_RECORDING: usize = 65_535;
+
+/// The longest history that a rule can need, in bytes.
+pub const MAX_HISTORY: usize = 4_096;
+
+/// The largest delay of a rule, in ticks.
+pub const MAX_DELAY: usize = 255;
+
+/// The most cells that a rule can need.
+pub const MAX_CELLS: usize = 4_096;
+
+/// The words of a cell.
+pub const CELL_WORDS: usize = 4;
+
+/// The words of the largest cell table.
+///
+/// ```
+/// assert_eq!(station_watch::MAX_CELL_WORDS, 16_384);
+/// ```
+pub const MAX_CELL_WORDS: usize = CELL_WORDS * MAX_CELLS;
+
+/// The longest report that a rule can need: so many words for a step, and so many
+/// pairs for a batch of steps.
+///
+/// ```
+/// assert_eq!(station_watch::MAX_REPORT, 256);
+/// ```
+pub const MAX_REPORT: usize = MAX_DELAY + 1;
+
+/// The tick that no step takes: refusal 20.
+///
+/// ```
+/// assert_eq!(station_watch::LAST_TICK, 4_294_967_295);
+/// ```
+pub const LAST_TICK: u64 = u32::MAX as u64;
+
+/// The bytes of a state.
+pub const STATE_BYTES: usize = 544;
+
+/// The bytes that are enough for the sentence of every refusal and the 0 after it.
+pub const MAX_SENTENCE: usize = 128;

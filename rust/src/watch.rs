@@ -1,0 +1,201 @@
+//! A rule that runs on a stream, with the memory that it needs.
+
+use crate::figures::{figures, Figures};
+use crate::limits::MAX_REPORT;
+use crate::refusal::Refusal;
+use crate::report::{Pair, Step};
+use crate::sheet::rule_body;
+use crate::state::State;
+use alloc::vec;
+use alloc::vec::Vec;
+use core::fmt;
+
+/// A rule that runs on a stream. It keeps its state, history, cells and report
+/// together, so that a step can only be refused when tick numbers are used up (20).
+///
+/// ```
+/// use station_watch::{sheet_of, Refusal, Watch};
+///
+/// // For all Y from X to X + 1, flag 0 at Y.
+/// let sheet = sheet_of(&[&[5, 2, 0, 0, 0, 2, 0, 1, 0, 1, 1, 0]])?;
+/// let mut watch = Watch::open(&sheet, 0)?;
+/// let mut said = Vec::new();
+/// for flag in [1, 1, 0] {
+///     for violation in watch.step(flag)?.pairs() {
+///         said.push(format!("violation {} at {}", violation.tick, violation.step));
+///     }
+/// }
+/// assert_eq!(said, ["violation 1 at 2", "violation 2 at 2"]);
+/// # Ok::<(), Refusal>(())
+/// ```
+#[derive(Clone)]
+pub struct Watch {
+    figures: Figures,
+    state: State,
+    history: Vec<u8>,
+    cells: Vec<u32>,
+    report: Vec<Pair>,
+}
+
+impl Watch {
+    /// Opens a rule of a sheet. Refusals 1 to 15.
+    ///
+    /// ```
+    /// use station_watch::{sheet_of, Refusal, Watch};
+    ///
+    /// let sheet = sheet_of(&[&[1, 0, 7]])?;
+    /// assert_eq!(Watch::open(&sheet, 0)?.next_tick(), 0);
+    /// assert_eq!(Watch::open(&sheet, 1).unwrap_err(), Refusal::NoSuchRule);
+    /// # Ok::<(), Refusal>(())
+    /// ```
+    pub fn open(sheet: &[u8], rule: usize) -> Result<Watch, Refusal> {
+        let figures = figures(rule_body(sheet, rule)?)?;
+        let mut history = vec![0; figures.history];
+        let cells = vec![0; figures.cell_words()];
+        let state = State::open(sheet, rule, &mut history, &cells)?;
+        Ok(Watch { figures, state, history, cells, report: report() })
+    }
+
+    /// Takes one flag byte. Refusal 20.
+    ///
+    /// ```
+    /// use station_watch::{sheet_of, Refusal, Watch};
+    ///
+    /// // Not flag 7 at X.
+    /// let mut watch = Watch::open(&sheet_of(&[&[2, 1, 0, 7]])?, 0)?;
+    /// assert_eq!(watch.step(0x7F)?.ticks, []);
+    /// assert_eq!(watch.step(0x80)?.ticks, [1]);
+    /// # Ok::<(), Refusal>(())
+    /// ```
+    pub fn step(&mut self, flag: u8) -> Result<Step<'_>, Refusal> {
+        let words = Pair::as_words(&mut self.report);
+        self.state.step(flag, &mut self.history, &mut self.cells, words)
+    }
+
+    /// Takes all of these flag bytes, one after another, and hands over each violation
+    /// as soon as it is decided. Refusal 20 where tick numbers are used up before the
+    /// last flag: then the violations of the flags that were taken have been handed
+    /// over, and `next_tick` tells how many those are.
+    ///
+    /// ```
+    /// use station_watch::{sheet_of, Pair, Refusal, Watch};
+    ///
+    /// // Flag 0 at X.
+    /// let mut watch = Watch::open(&sheet_of(&[&[1, 0, 0]])?, 0)?;
+    /// let mut violations = Vec::new();
+    /// watch.steps(&[1, 0, 1, 0], |violation| violations.push(violation))?;
+    /// assert_eq!(violations, [Pair { tick: 1, step: 1 }, Pair { tick: 3, step: 3 }]);
+    /// # Ok::<(), Refusal>(())
+    /// ```
+    pub fn steps(&mut self, flags: &[u8], mut take: impl FnMut(Pair)) -> Result<(), Refusal> {
+        let mut rest = flags;
+        while !rest.is_empty() {
+            let (history, cells) = (&mut self.history, &mut self.cells);
+            let steps = self.state.steps(rest, history, cells, &mut self.report)?;
+            steps.pairs.iter().copied().for_each(&mut take);
+            rest = &rest[steps.taken..];
+        }
+        Ok(())
+    }
+
+    /// What the rule needs.
+    ///
+    /// ```
+    /// use station_watch::{sheet_of, Figures, Refusal, Watch};
+    ///
+    /// let watch = Watch::open(&sheet_of(&[&[1, 0, 7]])?, 0)?;
+    /// assert_eq!(watch.figures(), Figures { history: 0, delay: 0, cells: 1 });
+    /// # Ok::<(), Refusal>(())
+    /// ```
+    pub fn figures(&self) -> Figures {
+        self.figures
+    }
+
+    /// The tick that the next step takes: how many steps were taken.
+    ///
+    /// ```
+    /// use station_watch::{sheet_of, Refusal, Watch};
+    ///
+    /// let mut watch = Watch::open(&sheet_of(&[&[1, 0, 7]])?, 0)?;
+    /// watch.step(0x80)?;
+    /// assert_eq!(watch.next_tick(), 1);
+    /// # Ok::<(), Refusal>(())
+    /// ```
+    pub fn next_tick(&self) -> u64 {
+        self.state.next_tick()
+    }
+
+    /// How many ticks are still open.
+    ///
+    /// ```
+    /// use station_watch::{sheet_of, Refusal, Watch};
+    ///
+    /// // For all Y from X to X + 1, flag 0 at Y.
+    /// let sheet = sheet_of(&[&[5, 2, 0, 0, 0, 2, 0, 1, 0, 1, 1, 0]])?;
+    /// let mut watch = Watch::open(&sheet, 0)?;
+    /// watch.step(1)?;
+    /// assert_eq!(watch.live(), 1);
+    /// # Ok::<(), Refusal>(())
+    /// ```
+    pub fn live(&self) -> u64 {
+        self.state.live()
+    }
+
+    /// State, history and cells, to be stored. The report is not part of it: each step
+    /// writes it anew.
+    ///
+    /// ```
+    /// use station_watch::{sheet_of, Refusal, Watch};
+    ///
+    /// let watch = Watch::open(&sheet_of(&[&[1, 0, 7]])?, 0)?;
+    /// let (state, history, cells) = watch.parts();
+    /// assert_eq!((state.as_bytes().len(), history.len(), cells.len()), (544, 0, 4));
+    /// # Ok::<(), Refusal>(())
+    /// ```
+    pub fn parts(&self) -> (&State, &[u8], &[u32]) {
+        (&self.state, &self.history, &self.cells)
+    }
+
+    /// A watch of stored parts, which goes on where they were left. Refusals 21, 17, 18,
+    /// 20, as of a first step; after that only 20 can come. Parts that were not left
+    /// together by one watch, or were changed, may go unnoticed: their steps report
+    /// something.
+    ///
+    /// ```
+    /// use station_watch::{sheet_of, Refusal, Watch};
+    ///
+    /// // For all Y from X to X + 1, flag 0 at Y.
+    /// let sheet = sheet_of(&[&[5, 2, 0, 0, 0, 2, 0, 1, 0, 1, 1, 0]])?;
+    /// let mut watch = Watch::open(&sheet, 0)?;
+    /// watch.step(1)?;
+    /// let (state, history, cells) = watch.parts();
+    /// let mut again = Watch::from_parts(state.clone(), history.to_vec(), cells.to_vec())?;
+    /// assert_eq!(again.step(0)?.ticks, [0, 1]);
+    /// # Ok::<(), Refusal>(())
+    /// ```
+    pub fn from_parts(
+        mut state: State,
+        mut history: Vec<u8>,
+        mut cells: Vec<u32>,
+    ) -> Result<Watch, Refusal> {
+        // A batch of no flags changes nothing and is refused as a first step would be.
+        state.steps(&[], &mut history, &mut cells, &mut [])?;
+        let figures = figures(state.body())?;
+        Ok(Watch { figures, state, history, cells, report: report() })
+    }
+}
+
+/// A report that is long enough for the steps and batches of every rule.
+fn report() -> Vec<Pair> {
+    vec![Pair::default(); MAX_REPORT]
+}
+
+impl fmt::Debug for Watch {
+    fn fmt(&self, f: &mut fmt::Formatter<'_>) -> fmt::Result {
+        f.debug_struct("Watch")
+            .field("figures", &self.figures)
+            .field("next_tick", &self.next_tick())
+            .field("live", &self.live())
+            .finish_non_exhaustive()
+    }
+}

@@ -1,0 +1,168 @@
+//! Each refusal by its name, number and sentence.
+
+mod common;
+
+use common::{sheet, BODY, FLAG};
+use station_watch::{
+    figures, outcome, rule_body, write_sheet, Pair, Refusal, State, LAST_TICK, MAX_RECORDING,
+    STATE_BYTES,
+};
+use std::collections::HashSet;
+use std::error::Error;
+
+/// Name, number and sentence of every refusal.
+const ALL: [(Refusal, u32, &str); 22] = [
+    (
+        Refusal::RuleCount,
+        1,
+        "sheet empty, not 1 to 32 rules, or its table of contents is cut short",
+    ),
+    (Refusal::EntryLayout, 2, "an entry of the sheet breaks the layout"),
+    (Refusal::NoSuchRule, 3, "no such rule"),
+    (Refusal::BodyEndsEarly, 4, "the body ends too early"),
+    (Refusal::UnknownCode, 5, "unknown code or kind"),
+    (Refusal::UnboundVariable, 6, "a variable that is not bound here"),
+    (Refusal::NoSuchFlag, 7, "a flag above 7"),
+    (Refusal::BadOffset, 8, "an offset outside -4,095 to 4,095, or a byte that should be 0"),
+    (Refusal::BodyTooLarge, 9, "a 65th formula or a 5th nested quantifier"),
+    (Refusal::BytesLeftOver, 10, "bytes left over after the formula"),
+    (Refusal::DelayInfinite, 11, "the delay is infinite"),
+    (Refusal::DelayAboveLimit, 12, "the delay is above 255"),
+    (Refusal::HistoryInfinite, 13, "the history is infinite"),
+    (Refusal::HistoryAboveLimit, 14, "the history is above 4,096"),
+    (Refusal::CellsAboveLimit, 15, "more than 4,096 cells"),
+    (Refusal::NotInRecording, 16, "the recording is too long, or the tick is not in it"),
+    (Refusal::HistoryLength, 17, "the history has a wrong length"),
+    (Refusal::CellTableTooShort, 18, "the cell table is too short"),
+    (Refusal::ReportTooShort, 19, "the report is too short"),
+    (Refusal::TicksUsedUp, 20, "tick numbers are used up"),
+    (Refusal::StateNotOpened, 21, "state and cells were not left by one opening and its steps"),
+    (Refusal::BufferTooShort, 22, "the buffer is too short"),
+];
+
+#[test]
+fn names_numbers_and_sentences() {
+    for (refusal, number, sentence) in ALL {
+        assert_eq!(refusal.number(), number);
+        assert_eq!(Refusal::from_number(number), Some(refusal));
+        assert_eq!(refusal.to_string(), format!("refused {number}: {sentence}"));
+    }
+    assert_eq!(ALL.iter().map(|(refusal, ..)| refusal).collect::<HashSet<_>>().len(), 22);
+}
+
+#[test]
+fn a_number_without_a_name_is_kept() {
+    for number in [23, 24, 128, 4_294_967_295] {
+        let refusal = Refusal::from_number(number).unwrap();
+        assert_eq!(refusal.number(), number);
+        assert!(matches!(refusal, Refusal::Other { number: same, .. } if same == number));
+        assert_eq!(refusal.to_string(), format!("refused {number}: no such refusal"));
+        assert!(ALL.iter().all(|&(named, ..)| named != refusal));
+    }
+    assert_ne!(Refusal::from_number(23), Refusal::from_number(24));
+}
+
+#[test]
+fn zero_is_no_refusal() {
+    assert_eq!(Refusal::from_number(0), None);
+}
+
+#[test]
+fn a_refusal_is_an_error() {
+    let error: Box<dyn Error + Send + Sync> = Box::new(Refusal::NoSuchRule);
+    assert_eq!(error.to_string(), "refused 3: no such rule");
+    assert_eq!(format!("{:?}", Refusal::NoSuchRule), "NoSuchRule");
+}
+
+#[test]
+fn of_a_sheet() {
+    let sheet = sheet(&BODY);
+    assert_eq!(rule_body(&[], 0), Err(Refusal::RuleCount));
+    assert_eq!(rule_body(&sheet[..4], 0), Err(Refusal::RuleCount));
+    assert_eq!(rule_body(&sheet[..21], 0), Err(Refusal::EntryLayout));
+    assert_eq!(rule_body(&sheet, 1), Err(Refusal::NoSuchRule));
+}
+
+#[test]
+fn of_the_writer() {
+    assert_eq!(write_sheet(&[], &BODY, &mut [0; 30]), Err(Refusal::RuleCount));
+    assert_eq!(write_sheet(&[16], &BODY, &mut [0; 30]), Err(Refusal::EntryLayout));
+    assert_eq!(write_sheet(&[17], &BODY, &mut [0; 21]), Err(Refusal::BufferTooShort));
+}
+
+#[test]
+fn of_a_body() {
+    let nots = [[2; 64].as_slice(), &FLAG].concat(); // 65 formulas
+    let all = [5, 2, 0, 0, 0, 2, 0, 0, 0]; // for all positions from X to X
+    assert_eq!(figures(&[]), Err(Refusal::BodyEndsEarly));
+    assert_eq!(figures(&BODY[..16]), Err(Refusal::BodyEndsEarly));
+    assert_eq!(figures(&[6]), Err(Refusal::UnknownCode));
+    assert_eq!(figures(&[1, 1, 0]), Err(Refusal::UnboundVariable));
+    assert_eq!(figures(&[1, 0, 8]), Err(Refusal::NoSuchFlag));
+    // Offset 4,096.
+    let far = [5, 2, 0, 0, 0x10, 2, 0, 0, 0x10, 1, 1, 0];
+    assert_eq!(figures(&far), Err(Refusal::BadOffset));
+    assert_eq!(figures(&nots), Err(Refusal::BodyTooLarge));
+    assert_eq!(figures(&nots[1..]).map(|figures| figures.cells), Ok(1));
+    assert_eq!(figures(&[&all.repeat(5), &FLAG[..]].concat()), Err(Refusal::BodyTooLarge));
+    assert_eq!(figures(&[1, 0, 0, 0]), Err(Refusal::BytesLeftOver));
+}
+
+#[test]
+fn of_the_figures() {
+    // X..infinity; X+256..X+256; 0..X; X..X+63.
+    let over = |range: [u8; 8]| figures(&[&[5], &range[..], &[1, 1, 0]].concat());
+    assert_eq!(over([2, 0, 0, 0, 1, 0, 0, 0]), Err(Refusal::DelayInfinite));
+    assert_eq!(over([2, 0, 0, 1, 2, 0, 0, 1]), Err(Refusal::DelayAboveLimit));
+    assert_eq!(over([0, 0, 0, 0, 2, 0, 0, 0]), Err(Refusal::HistoryInfinite));
+    assert_eq!(over([2, 0, 0, 0, 2, 0, 63, 0]), Err(Refusal::CellsAboveLimit));
+    // Y in X-4,095..X-4,095, inside it Z in Y-2..Y-2.
+    let old = [5, 2, 0, 0x01, 0xF0, 2, 0, 0x01, 0xF0, 5, 2, 1, 0xFE, 0xFF, 2, 1, 0xFE, 0xFF];
+    assert_eq!(figures(&[&old[..], &[1, 2, 0]].concat()), Err(Refusal::HistoryAboveLimit));
+}
+
+#[test]
+fn of_a_recording() {
+    let long = vec![0; MAX_RECORDING + 1];
+    assert_eq!(outcome(&BODY, &[0; 10], 10), Err(Refusal::NotInRecording));
+    assert_eq!(outcome(&BODY, &long, 0), Err(Refusal::NotInRecording));
+    assert!(outcome(&BODY, &long[1..], 0).is_ok());
+}
+
+#[test]
+fn of_an_opening() {
+    let sheet = sheet(&BODY);
+    assert_eq!(State::open(&[], 0, &mut [0], &[0; 84]), Err(Refusal::RuleCount));
+    assert_eq!(State::open(&sheet, 0, &mut [], &[0; 84]), Err(Refusal::HistoryLength));
+    assert_eq!(State::open(&sheet, 0, &mut [0], &[0; 83]), Err(Refusal::CellTableTooShort));
+}
+
+#[test]
+fn of_a_step() {
+    let (mut history, mut cells) = ([0], [0; 84]);
+    let mut state = State::open(&sheet(&BODY), 0, &mut history, &cells).unwrap();
+    let refused = |state: &mut State, history: &mut [u8], cells: &mut [u32], report: usize| {
+        state.step(1, history, cells, &mut vec![0; report]).unwrap_err()
+    };
+    assert_eq!(refused(&mut state, &mut [], &mut cells, 3), Refusal::HistoryLength);
+    assert_eq!(refused(&mut state, &mut history, &mut [0; 83], 3), Refusal::CellTableTooShort);
+    assert_eq!(refused(&mut state, &mut history, &mut cells, 2), Refusal::ReportTooShort);
+    let mut last = *state.as_bytes();
+    last[528..536].copy_from_slice(&LAST_TICK.to_le_bytes());
+    let mut last = State::from_bytes(last);
+    assert_eq!(refused(&mut last, &mut history, &mut cells, 3), Refusal::TicksUsedUp);
+    let mut none = State::from_bytes([0; STATE_BYTES]);
+    assert_eq!(refused(&mut none, &mut [], &mut [], 0), Refusal::StateNotOpened);
+}
+
+#[test]
+fn of_a_batch() {
+    let (mut history, mut cells, mut report) = ([0], [0; 84], [Pair::default(); 3]);
+    let mut state = State::open(&sheet(&BODY), 0, &mut history, &cells).unwrap();
+    let steps = state.steps(&[1], &mut [], &mut cells, &mut report);
+    assert_eq!(steps, Err(Refusal::HistoryLength));
+    let steps = state.steps(&[], &mut history, &mut [0; 83], &mut report);
+    assert_eq!(steps, Err(Refusal::CellTableTooShort));
+    let mut none = State::from_bytes([0; STATE_BYTES]);
+    assert_eq!(none.steps(&[], &mut [], &mut [], &mut []), Err(Refusal::StateNotOpened));
+}
