@@ -27,7 +27,7 @@
 //!
 //! [`State`] is the same over memory that the caller lends, as in C. [`figures`] says
 //! what a rule needs, [`outcome`] how it stands at a tick of a recording,
-//! [`rule_body`] and [`write_sheet`] read and write sheets. A call that cannot be
+//! [`rule_body`], [`bodies`] and [`write_sheet`] read and write sheets. A call that cannot be
 //! answered gives a [`Refusal`] and has changed nothing.
 //!
 //! The crate needs no `std`. Without its feature `alloc`, which is on unless it is
@@ -61,7 +61,7 @@ pub use refusal::Refusal;
 pub use report::{Pair, Step, Steps};
 #[cfg(feature = "alloc")]
 pub use sheet::sheet_of;
-pub use sheet::{rule_body, write_sheet};
+pub use sheet::{bodies, rule_body, write_sheet};
 pub use state::State;
 #[cfg(feature = "alloc")]
 pub use watch::Watch;

@@ -24,6 +24,22 @@ pub fn rule_body(sheet: &[u8], rule: usize) -> Result<&[u8], Refusal> {
     Ok(&sheet[start..start + size])
 }
 
+/// The bodies of all rules, in their order. Refusals 1, 2.
+///
+/// ```
+/// use station_watch::{bodies, Refusal};
+///
+/// let sheet = [2, 9, 0, 3, 0, 12, 0, 4, 0, 1, 0, 7, 2, 1, 0, 7];
+/// let lengths: Vec<usize> = bodies(&sheet)?.map(|body| body.len()).collect();
+/// assert_eq!(lengths, [3, 4]);
+/// assert_eq!(bodies(&sheet[..15]).err(), Some(Refusal::EntryLayout));
+/// # Ok::<(), Refusal>(())
+/// ```
+pub fn bodies(sheet: &[u8]) -> Result<impl Iterator<Item = &[u8]>, Refusal> {
+    rule_body(sheet, 0)?;
+    Ok((0..).map_while(|rule| rule_body(sheet, rule).ok()))
+}
+
 /// Writes the sheet of bodies, which lie end to end in `bodies` and have these
 /// lengths, at the start of `out`, and answers its length, 1 + 4 for each body + their
 /// bytes. Bytes of `out` after it stay. It does not look inside bodies. Refusals 1, 2, 22.

@@ -32,6 +32,25 @@ fn a_written_sheet_reads_back() {
 }
 
 #[test]
+fn all_bodies_of_a_sheet() {
+    let mut out = [0; 49];
+    let all = [&BODY[..], &FLAG, &LATE].concat();
+    assert_eq!(write_sheet(&[17, 3, 12], &all, &mut out), Ok(45));
+    let read: Vec<&[u8]> = bodies(&out[..45]).unwrap().collect();
+    assert_eq!(read, [&BODY[..], &FLAG, &LATE]);
+    assert_eq!(bodies(&out[..44]).err(), Some(Refusal::EntryLayout));
+    assert_eq!(bodies(&[]).err(), Some(Refusal::RuleCount));
+    let most = [&[32][..], &entries(32), &FLAG.repeat(32)].concat();
+    assert_eq!(bodies(&most).unwrap().count(), 32);
+}
+
+/// The table of contents of so many bodies of three bytes.
+fn entries(count: u16) -> Vec<u8> {
+    let entry = |rule: u16| [(1 + 4 * count + 3 * rule).to_le_bytes(), [3, 0]].concat();
+    (0..count).flat_map(entry).collect()
+}
+
+#[test]
 fn figures_of_rules() {
     assert_eq!(figures(&BODY), Ok(FIGURES));
     assert_eq!((FIGURES.cell_words(), FIGURES.report_len()), (84, 3));

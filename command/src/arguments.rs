@@ -1,0 +1,83 @@
+//! The arguments, read.
+
+use crate::answer::Stop;
+use crate::hexadecimal;
+use crate::usage;
+use std::ffi::OsString;
+use std::path::PathBuf;
+
+/// What was asked for.
+pub enum Command {
+    Figures { sheet: PathBuf },
+    Outcome { sheet: PathBuf, rule: usize, flags: PathBuf, tick: usize },
+    Sheet { out: PathBuf, bodies: Vec<Vec<u8>> },
+    Help(&'static str),
+    Version,
+}
+
+pub fn read(words: &[OsString]) -> Result<Command, Stop> {
+    let Some((first, rest)) = words.split_first() else {
+        return Err(Stop::Usage("no command".to_string(), usage::ALL));
+    };
+    match &*first.to_string_lossy() {
+        "--help" | "-h" => Ok(Command::Help(usage::ALL)),
+        "--version" | "-V" => Ok(Command::Version),
+        "help" => help(rest),
+        name => command(name, rest),
+    }
+}
+
+/// `help`, or `help COMMAND`.
+fn help(rest: &[OsString]) -> Result<Command, Stop> {
+    match rest.first() {
+        None => Ok(Command::Help(usage::ALL)),
+        Some(name) => usage_of(&name.to_string_lossy()).map(Command::Help),
+    }
+}
+
+fn usage_of(name: &str) -> Result<&'static str, Stop> {
+    usage::of(name).ok_or_else(|| Stop::Usage(format!("no command '{name}'"), usage::ALL))
+}
+
+fn command(name: &str, rest: &[OsString]) -> Result<Command, Stop> {
+    let usage = usage_of(name)?;
+    if rest.first().is_some_and(|word| word == "--help" || word == "-h") {
+        return Ok(Command::Help(usage));
+    }
+    match (name, rest) {
+        ("figures", [sheet]) => Ok(Command::Figures { sheet: sheet.into() }),
+        ("outcome", [sheet, rule, flags, tick]) => Ok(Command::Outcome {
+            sheet: sheet.into(),
+            rule: number("RULE", rule, usage)?,
+            flags: flags.into(),
+            tick: number("TICK", tick, usage)?,
+        }),
+        ("sheet", [out, bodies @ ..]) => {
+            Ok(Command::Sheet { out: out.into(), bodies: all_bytes(bodies, usage)? })
+        }
+        _ => {
+            let said = format!("{name}: wrong number of arguments ({})", rest.len());
+            Err(Stop::Usage(said, usage::line(usage)))
+        }
+    }
+}
+
+/// A number in decimal digits. One too large for the machine is as large as can be,
+/// which no rule and no tick has.
+fn number(what: &str, word: &OsString, usage: &'static str) -> Result<usize, Stop> {
+    let text = word.to_string_lossy();
+    if text.is_empty() || !text.bytes().all(|byte| byte.is_ascii_digit()) {
+        return Err(Stop::Usage(format!("{what} is no number: '{text}'"), usage::line(usage)));
+    }
+    Ok(text.parse().unwrap_or(usize::MAX))
+}
+
+/// The bytes of each BODY.
+fn all_bytes(bodies: &[OsString], usage: &'static str) -> Result<Vec<Vec<u8>>, Stop> {
+    let mut all = Vec::new();
+    for (rule, body) in bodies.iter().enumerate() {
+        let wrong = |said| Stop::Usage(format!("body of rule {rule}: {said}"), usage::line(usage));
+        all.push(hexadecimal::bytes(&body.to_string_lossy()).map_err(wrong)?);
+    }
+    Ok(all)
+}

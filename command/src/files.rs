@@ -1,0 +1,81 @@
+//! Files, standard input and standard output. A read or a write that is interrupted, or
+//! would block, is tried again.
+
+use crate::answer::Stop;
+use std::fs::File;
+use std::io::{self, ErrorKind, Read, Write};
+use std::os::fd::AsFd;
+use std::path::Path;
+use std::thread::sleep;
+use std::time::Duration;
+
+/// How long to wait before a read or a write that would block is tried again.
+const WAIT: Duration = Duration::from_millis(5);
+
+/// The bytes of a file, but no more than `most`.
+pub fn read(path: &Path, most: usize) -> Result<Vec<u8>, Stop> {
+    let stop = |error| Stop::Read(path.display().to_string(), error);
+    File::open(path).and_then(|file| read_up_to(file, most)).map_err(stop)
+}
+
+/// The same of a file, or of standard input where it is named -.
+pub fn read_or_input(path: &Path, most: usize) -> Result<Vec<u8>, Stop> {
+    if path != Path::new("-") {
+        return read(path, most);
+    }
+    let stop = |error| Stop::Read("standard input".to_string(), error);
+    own(io::stdin()).and_then(|input| read_up_to(input, most)).map_err(stop)
+}
+
+/// Writes a file whole.
+pub fn write(path: &Path, bytes: &[u8]) -> Result<(), Stop> {
+    let stop = |error| Stop::Write(path.display().to_string(), error);
+    File::create(path).and_then(|file| write_whole(file, bytes)).map_err(stop)
+}
+
+/// Writes to standard output.
+pub fn write_output(bytes: &[u8]) -> Result<(), Stop> {
+    let stop = |error| Stop::Write("standard output".to_string(), error);
+    own(io::stdout()).and_then(|output| write_whole(output, bytes)).map_err(stop)
+}
+
+/// Standard input or output as a file: with no buffer in between, and no error passed
+/// over, as the standard library passes over a descriptor that cannot be used.
+fn own(stream: impl AsFd) -> io::Result<File> {
+    stream.as_fd().try_clone_to_owned().map(File::from)
+}
+
+fn read_up_to(mut from: impl Read, most: usize) -> io::Result<Vec<u8>> {
+    let mut bytes = vec![0; most];
+    let mut length = 0;
+    while length < most {
+        match again(|| from.read(&mut bytes[length..]))? {
+            0 => break,
+            more => length += more,
+        }
+    }
+    bytes.truncate(length);
+    Ok(bytes)
+}
+
+fn write_whole(mut to: impl Write, bytes: &[u8]) -> io::Result<()> {
+    let mut rest = bytes;
+    while !rest.is_empty() {
+        match again(|| to.write(rest))? {
+            0 => return Err(ErrorKind::WriteZero.into()),
+            some => rest = &rest[some..],
+        }
+    }
+    Ok(())
+}
+
+/// Tries until it is neither interrupted nor would block.
+fn again<T>(mut attempt: impl FnMut() -> io::Result<T>) -> io::Result<T> {
+    loop {
+        match attempt() {
+            Err(error) if error.kind() == ErrorKind::Interrupted => {}
+            Err(error) if error.kind() == ErrorKind::WouldBlock => sleep(WAIT),
+            ended => return ended,
+        }
+    }
+}

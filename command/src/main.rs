@@ -1,0 +1,37 @@
+//! The command `station-watch`: what a C programmer calls, a person can type. It has no
+//! logic of its own: it reads arguments and files, asks the library, and writes what
+//! that answers. `usage` says what it takes, prints, and ends with.
+
+mod answer;
+mod arguments;
+mod figures;
+mod files;
+mod hexadecimal;
+mod outcome;
+mod sheet;
+mod usage;
+
+use answer::{Answer, Stop};
+use arguments::Command;
+use std::env;
+use std::ffi::OsString;
+use std::process::ExitCode;
+
+fn main() -> ExitCode {
+    let words: Vec<OsString> = env::args_os().skip(1).collect();
+    answer::finish(arguments::read(&words).and_then(run))
+}
+
+fn run(command: Command) -> Result<Answer, Stop> {
+    match command {
+        Command::Figures { sheet } => figures::of_sheet(&sheet),
+        Command::Outcome { sheet, rule, flags, tick } => {
+            outcome::at_tick(&sheet, rule, &flags, tick)
+        }
+        Command::Sheet { out, bodies } => sheet::write(&out, &bodies),
+        Command::Help(text) => Ok(Answer::given(text.to_string())),
+        Command::Version => {
+            Ok(Answer::given(format!("station-watch {}\n", station_watch::VERSION)))
+        }
+    }
+}

@@ -1,0 +1,428 @@
+//! The command as it is run: what it prints on standard output and standard error, and
+//! its exit status.
+
+use std::fs::{self, File};
+use std::io::{ErrorKind, Read, Write};
+use std::net::Shutdown;
+use std::os::fd::OwnedFd;
+use std::os::unix::net::UnixStream;
+use std::path::{Path, PathBuf};
+use std::process::{self, Child, Command, Output, Stdio};
+use std::thread::sleep;
+use std::time::Duration;
+
+/// Document 01's example rule and its flag bytes.
+const EXAMPLE: &str = "02 04 010000 05 0200FFFF 02000200 010100";
+const FLAGS: [u8; 10] = [0, 1, 1, 0, 1, 1, 1, 1, 0, 0];
+/// For all Y from X to X + 63, flag 0 at Y: too many cells.
+const WIDE: &str = "05 02000000 02003F00 010100";
+/// For all Y from X to infinity, flag 0 at Y: no engine can watch it.
+const ALWAYS: &str = "05 02000000 01000000 010100";
+
+const USAGE_LINE: &str = "usage: station-watch outcome SHEET RULE FLAGS TICK\n";
+
+/// A folder for a test's files, which goes with it.
+struct Folder(PathBuf);
+
+impl Folder {
+    fn new(test: &str) -> Folder {
+        let path = std::env::temp_dir().join(format!("station-watch-{}-{test}", process::id()));
+        fs::create_dir(&path).unwrap();
+        Folder(path)
+    }
+
+    /// A file with these bytes.
+    fn file(&self, name: &str, bytes: &[u8]) -> String {
+        let path = self.path(name);
+        fs::write(&path, bytes).unwrap();
+        path
+    }
+
+    fn path(&self, name: &str) -> String {
+        self.0.join(name).display().to_string()
+    }
+
+    /// A sheet of these bodies.
+    fn sheet(&self, bodies: &[&str]) -> String {
+        let out = self.path("watch.sheet");
+        assert_eq!(ask(&[&["sheet", &out], bodies].concat()).2, 0);
+        out
+    }
+}
+
+impl Drop for Folder {
+    fn drop(&mut self) {
+        let _ = fs::remove_dir_all(&self.0);
+    }
+}
+
+fn command(words: &[&str]) -> Command {
+    let mut command = Command::new(env!("CARGO_BIN_EXE_station-watch"));
+    command.args(words);
+    command
+}
+
+/// Standard output, standard error and exit status.
+type Said = (String, String, i32);
+
+fn said(output: Output) -> Said {
+    let text = |bytes| String::from_utf8(bytes).unwrap();
+    (text(output.stdout), text(output.stderr), output.status.code().unwrap())
+}
+
+/// What is said with no input.
+fn ask(words: &[&str]) -> Said {
+    said(command(words).stdin(Stdio::null()).output().unwrap())
+}
+
+fn out(text: &str, status: i32) -> Said {
+    (text.to_string(), String::new(), status)
+}
+
+fn failed(text: &str) -> Said {
+    (String::new(), text.to_string(), 2)
+}
+
+/// Starts it with pipes at all three ends.
+fn start(words: &[&str]) -> Child {
+    let mut command = command(words);
+    command.stdin(Stdio::piped()).stdout(Stdio::piped()).stderr(Stdio::piped());
+    command.spawn().unwrap()
+}
+
+fn ask_with_input(words: &[&str], input: &[u8]) -> Said {
+    let mut child = start(words);
+    child.stdin.take().unwrap().write_all(input).unwrap();
+    said(child.wait_with_output().unwrap())
+}
+
+#[test]
+fn figures_of_the_example() {
+    let folder = Folder::new("figures_of_the_example");
+    let sheet = folder.sheet(&[EXAMPLE]);
+    assert_eq!(ask(&["figures", &sheet]), out("rule 0 history 1 delay 2 cells 21\n", 0));
+}
+
+#[test]
+fn figures_with_refusals() {
+    let folder = Folder::new("figures_with_refusals");
+    let sheet = folder.sheet(&[EXAMPLE, WIDE, "010000", ALWAYS, "010008"]);
+    let due = "rule 0 history 1 delay 2 cells 21\n\
+               rule 1 refused 15: more than 4,096 cells\n\
+               rule 2 history 0 delay 0 cells 1\n\
+               rule 3 refused 11: the delay is infinite\n\
+               rule 4 refused 7: a flag above 7\n";
+    assert_eq!(ask(&["figures", &sheet]), out(due, 1));
+}
+
+#[test]
+fn figures_of_no_sheet() {
+    let folder = Folder::new("figures_of_no_sheet");
+    let first =
+        "refused 1: sheet empty, not 1 to 32 rules, or its table of contents is cut short\n";
+    let second = "refused 2: an entry of the sheet breaks the layout\n";
+    let empty = folder.file("empty", &[]);
+    assert_eq!(ask(&["figures", &empty]), out(first, 1));
+    let whole = fs::read(folder.sheet(&[EXAMPLE])).unwrap();
+    let short = folder.file("short", &whole[..21]);
+    assert_eq!(ask(&["figures", &short]), out(second, 1));
+    // Longer than any sheet, also by far.
+    let largest = "00".repeat(512);
+    let mut bytes = fs::read(folder.sheet(&[largest.as_str(); 32])).unwrap();
+    assert_eq!(bytes.len(), 16_513);
+    bytes.push(0);
+    assert_eq!(ask(&["figures", &folder.file("long", &bytes)]), out(second, 1));
+    bytes.extend([0; 100_000]);
+    assert_eq!(ask(&["figures", &folder.file("long", &bytes)]), out(second, 1));
+}
+
+#[test]
+fn outcomes_of_the_example() {
+    let folder = Folder::new("outcomes_of_the_example");
+    let (sheet, flags) = (folder.sheet(&[EXAMPLE]), folder.file("flags", &FLAGS));
+    let due = ["true at 0", "true at 1", "true at 3", "true at 3", "true at 4"];
+    let due = [&due[..], &["false at 7", "true at 8", "true at 8", "true at 8"]].concat();
+    for (tick, due) in due.iter().enumerate() {
+        let said = ask(&["outcome", &sheet, "0", &flags, &tick.to_string()]);
+        assert_eq!(said, out(&format!("tick {tick} {due}\n"), 0));
+    }
+    let said = ask_with_input(&["outcome", &sheet, "0", "-", "5"], &FLAGS);
+    assert_eq!(said, out("tick 5 false at 7\n", 0));
+    let said = ask_with_input(&["outcome", &sheet, "0", "-", "5"], &FLAGS[..7]);
+    assert_eq!(said, out("tick 5 open\n", 0));
+}
+
+#[test]
+fn outcomes_of_a_rule_without_figures() {
+    let folder = Folder::new("outcomes_of_a_rule_without_figures");
+    let sheet = folder.sheet(&[ALWAYS]);
+    let at_0 = ["outcome", &sheet, "0", "-", "0"];
+    assert_eq!(ask_with_input(&at_0, &[1, 1, 0]), out("tick 0 false at 2\n", 0));
+    assert_eq!(ask_with_input(&at_0, &[1, 1, 1]), out("tick 0 open\n", 0));
+}
+
+/// Rule k of `outcome` is line k of `figures`.
+#[test]
+fn rules_are_numbered_alike() {
+    let folder = Folder::new("rules_are_numbered_alike");
+    // Flag 0 at X; for all Y from X to X + k, flag k at Y, for k = 1 and 2.
+    let sheet =
+        folder.sheet(&["010000", "05 02000000 02000100 010101", "05 02000000 02000200 010102"]);
+    let due = "rule 0 history 0 delay 0 cells 1\n\
+               rule 1 history 0 delay 1 cells 8\n\
+               rule 2 history 0 delay 2 cells 15\n";
+    assert_eq!(ask(&["figures", &sheet]), out(due, 0));
+    for (rule, due) in ["true at 0", "true at 1", "true at 2"].iter().enumerate() {
+        let said = ask_with_input(&["outcome", &sheet, &rule.to_string(), "-", "0"], &[7, 6, 4]);
+        assert_eq!(said, out(&format!("tick 0 {due}\n"), 0));
+    }
+}
+
+#[test]
+fn refused_outcomes() {
+    let folder = Folder::new("refused_outcomes");
+    let sheet = folder.sheet(&[EXAMPLE, "010008"]);
+    let third = "refused 3: no such rule\n";
+    let sixteenth = "refused 16: the recording is too long, or the tick is not in it\n";
+    let asked =
+        |rule, tick, flags: &[u8]| ask_with_input(&["outcome", &sheet, rule, "-", tick], flags);
+    assert_eq!(asked("1", "0", &FLAGS), out("refused 7: a flag above 7\n", 1));
+    assert_eq!(asked("2", "0", &FLAGS), out(third, 1));
+    assert_eq!(asked("0", "10", &FLAGS), out(sixteenth, 1));
+    // Numbers that no machine word holds.
+    let huge = "9".repeat(40);
+    assert_eq!(asked(&huge, "0", &FLAGS), out(third, 1));
+    assert_eq!(asked("0", &huge, &FLAGS), out(sixteenth, 1));
+    assert_eq!(asked("0", "65534", &[0; 65_535]), out("tick 65534 true at 65534\n", 0));
+    let long = folder.file("long", &[0; 65_536]);
+    assert_eq!(ask(&["outcome", &sheet, "0", &long, "0"]), out(sixteenth, 1));
+    assert_eq!(ask(&["outcome", &sheet, "0", "/dev/zero", "0"]), out(sixteenth, 1));
+}
+
+#[test]
+fn sheets_are_written() {
+    let folder = Folder::new("sheets_are_written");
+    let path = folder.file("two", &[0xEE; 100]); // what was there before is gone
+    let said = ask(&["sheet", &path, " 01 00\t07 ", "0201 0006"]);
+    assert_eq!(said, out(&format!("sheet {path} rules 2 bytes 16\n"), 0));
+    let due = [2, 9, 0, 3, 0, 12, 0, 4, 0, 1, 0, 7, 2, 1, 0, 6];
+    assert_eq!(fs::read(&path).unwrap(), due);
+    let said = ask(&["sheet", &path, "aBcDeF"]);
+    assert_eq!(said, out(&format!("sheet {path} rules 1 bytes 8\n"), 0));
+    assert_eq!(fs::read(&path).unwrap(), [1, 5, 0, 3, 0, 0xAB, 0xCD, 0xEF]);
+}
+
+#[test]
+fn the_example_sheet_of_the_repository() {
+    let folder = Folder::new("the_example_sheet_of_the_repository");
+    let stored = Path::new(env!("CARGO_MANIFEST_DIR")).join("../examples/detector/watch.sheet");
+    assert_eq!(fs::read(folder.sheet(&[EXAMPLE])).unwrap(), fs::read(stored).unwrap());
+}
+
+#[test]
+fn refused_sheets() {
+    let folder = Folder::new("refused_sheets");
+    let path = folder.path("none");
+    let first =
+        "refused 1: sheet empty, not 1 to 32 rules, or its table of contents is cut short\n";
+    let second = "refused 2: an entry of the sheet breaks the layout\n";
+    assert_eq!(ask(&["sheet", &path]), out(first, 1));
+    assert_eq!(ask(&[&["sheet", &path], &["010000"; 33][..]].concat()), out(first, 1));
+    assert_eq!(ask(&["sheet", &path, "010000", ""]), out(second, 1));
+    assert_eq!(ask(&["sheet", &path, &"00".repeat(513)]), out(second, 1));
+    assert!(!Path::new(&path).exists());
+}
+
+#[test]
+fn bodies_that_are_no_bytes() {
+    let folder = Folder::new("bodies_that_are_no_bytes");
+    let path = folder.path("none");
+    let wrong = |body: &str, said: &str| {
+        let usage = "usage: station-watch sheet OUT BODY..";
+        let due = format!("station-watch: body of rule 1: {said}\n{usage}\n");
+        assert_eq!(ask(&["sheet", &path, "010000", body]), failed(&due));
+    };
+    wrong("01 00 0g", "'g' is no hexadecimal digit");
+    wrong("01,00,00", "',' is no hexadecimal digit");
+    wrong("0x010000", "'x' is no hexadecimal digit");
+    wrong("01 0000 é", "'é' is no hexadecimal digit");
+    wrong("01000", "an odd number of digits in '01000'");
+    wrong("01 0 0 00", "an odd number of digits in '0'");
+    assert!(!Path::new(&path).exists());
+}
+
+#[test]
+fn wrong_arguments() {
+    let wrong = |words: &[&str], said: &str| {
+        assert_eq!(ask(words), failed(&format!("station-watch: {said}\n{USAGE_LINE}")));
+    };
+    wrong(&["outcome"], "outcome: wrong number of arguments (0)");
+    wrong(&["outcome", "a", "0", "b"], "outcome: wrong number of arguments (3)");
+    wrong(&["outcome", "a", "0", "b", "0", "c"], "outcome: wrong number of arguments (5)");
+    wrong(&["outcome", "a", "x", "b", "0"], "RULE is no number: 'x'");
+    wrong(&["outcome", "a", "+1", "b", "0"], "RULE is no number: '+1'");
+    wrong(&["outcome", "a", "0", "b", "-1"], "TICK is no number: '-1'");
+    wrong(&["outcome", "a", "0", "b", "1.5"], "TICK is no number: '1.5'");
+    wrong(&["outcome", "a", "0", "b", ""], "TICK is no number: ''");
+    let due = "station-watch: figures: wrong number of arguments (2)\n\
+               usage: station-watch figures SHEET\n";
+    assert_eq!(ask(&["figures", "a", "b"]), failed(due));
+    let due = "station-watch: sheet: wrong number of arguments (0)\n\
+               usage: station-watch sheet OUT BODY..\n";
+    assert_eq!(ask(&["sheet"]), failed(due));
+}
+
+#[test]
+fn usage() {
+    let (all, nothing, status) = ask(&["--help"]);
+    assert_eq!((nothing.as_str(), status), ("", 0));
+    assert!(all.starts_with("usage: station-watch COMMAND ARGUMENT..\n"));
+    for command in ["figures SHEET", "outcome SHEET RULE FLAGS TICK", "sheet OUT BODY.."] {
+        assert!(all.contains(&format!("\n  {command} ")), "{command}");
+        let name = command.split(' ').next().unwrap();
+        let (own, nothing, status) = ask(&["help", name]);
+        assert!(own.starts_with(&format!("usage: station-watch {command}\n\n")), "{own}");
+        assert_eq!((nothing.as_str(), status), ("", 0));
+        assert_eq!(ask(&[name, "--help"]), out(&own, 0));
+        assert_eq!(ask(&[name, "-h"]), out(&own, 0));
+    }
+    assert_eq!(ask(&["help"]), out(&all, 0));
+    assert_eq!(ask(&["-h"]), out(&all, 0));
+    assert_eq!(ask(&[]), failed(&format!("station-watch: no command\n{all}")));
+    let due = failed(&format!("station-watch: no command 'figure'\n{all}"));
+    assert_eq!(ask(&["figure", "a"]), due);
+    assert_eq!(ask(&["help", "figure"]), due);
+    assert_eq!(ask(&["--quiet"]), failed(&format!("station-watch: no command '--quiet'\n{all}")));
+}
+
+/// The line that `help sheet` shows is what the command prints.
+#[test]
+fn the_example_of_the_usage() {
+    let folder = Folder::new("the_example_of_the_usage");
+    let shown = ask(&["help", "sheet"]).0;
+    assert!(shown.contains(&format!("station-watch sheet watch.sheet '{EXAMPLE}'\n")));
+    let mut command = command(&["sheet", "watch.sheet", EXAMPLE]);
+    let (line, _, status) = said(command.current_dir(&folder.0).output().unwrap());
+    assert!(status == 0 && shown.ends_with(&format!("  {line}")), "{line}");
+}
+
+#[test]
+fn version() {
+    assert_eq!(ask(&["--version"]), out("station-watch 0.2.0\n", 0));
+    assert_eq!(ask(&["-V"]), out("station-watch 0.2.0\n", 0));
+}
+
+#[test]
+fn files_that_cannot_be_read() {
+    let folder = Folder::new("files_that_cannot_be_read");
+    let (sheet, none) = (folder.sheet(&[EXAMPLE]), folder.path("none"));
+    let missing = format!("cannot read {none}: No such file or directory (os error 2)");
+    let missing = failed(&format!("station-watch: {missing}\n"));
+    assert_eq!(ask(&["figures", &none]), missing);
+    assert_eq!(ask(&["outcome", &none, "0", &sheet, "0"]), missing);
+    assert_eq!(ask(&["outcome", &sheet, "0", &none, "0"]), missing);
+    let inside = format!("{sheet}/a"); // its folder is a file
+    let due = format!("station-watch: cannot read {inside}: Not a directory (os error 20)\n");
+    assert_eq!(ask(&["figures", &inside]), failed(&due));
+    let folder = folder.path("");
+    let due = format!("station-watch: cannot read {folder}: Is a directory (os error 21)\n");
+    assert_eq!(ask(&["figures", &folder]), failed(&due));
+}
+
+#[test]
+fn input_that_cannot_be_read() {
+    let folder = Folder::new("input_that_cannot_be_read");
+    let mut command = command(&["outcome", &folder.sheet(&[EXAMPLE]), "0", "-", "0"]);
+    let said = said(command.stdin(File::open("/").unwrap()).output().unwrap());
+    let due = "station-watch: cannot read standard input: Is a directory (os error 21)\n";
+    assert_eq!(said, failed(due));
+}
+
+#[test]
+fn files_that_cannot_be_written() {
+    let folder = Folder::new("files_that_cannot_be_written");
+    let inside = folder.path("none/out");
+    let due = format!("cannot write {inside}: No such file or directory (os error 2)");
+    assert_eq!(ask(&["sheet", &inside, "010000"]), failed(&format!("station-watch: {due}\n")));
+    let due = "station-watch: cannot write /dev/full: No space left on device (os error 28)\n";
+    assert_eq!(ask(&["sheet", "/dev/full", "010000"]), failed(due));
+}
+
+#[test]
+fn output_on_a_full_device() {
+    let folder = Folder::new("output_on_a_full_device");
+    let sheet = folder.sheet(&[EXAMPLE]);
+    let due =
+        "station-watch: cannot write standard output: No space left on device (os error 28)\n";
+    for words in [&["figures", &sheet][..], &["figures", "/dev/null"], &["help"], &["--version"]] {
+        let mut command = command(words);
+        let full = File::options().write(true).open("/dev/full").unwrap();
+        assert_eq!(said(command.stdout(full).output().unwrap()), failed(due), "{words:?}");
+    }
+}
+
+#[test]
+fn output_into_a_closed_pipe() {
+    let folder = Folder::new("output_into_a_closed_pipe");
+    let mut child = start(&["outcome", &folder.sheet(&[EXAMPLE]), "0", "-", "5"]);
+    drop(child.stdout.take()); // it waits for its input until here
+    child.stdin.take().unwrap().write_all(&FLAGS).unwrap();
+    let due = "station-watch: cannot write standard output: Broken pipe (os error 32)\n";
+    assert_eq!(said(child.wait_with_output().unwrap()), failed(due));
+}
+
+/// Standard error on a full device too: only the status is left.
+#[test]
+fn nothing_can_be_said() {
+    let full = || File::options().write(true).open("/dev/full").unwrap();
+    for words in [&["--version"][..], &["figures"], &[]] {
+        let status = command(words).stdout(full()).stderr(full()).status().unwrap();
+        assert_eq!(status.code(), Some(2), "{words:?}");
+    }
+}
+
+/// A stream whose own end does not wait, and the other, which does.
+fn stream() -> (UnixStream, UnixStream) {
+    let (own, other) = UnixStream::pair().unwrap();
+    own.set_nonblocking(true).unwrap();
+    (own, other)
+}
+
+const A_WHILE: Duration = Duration::from_millis(100);
+
+#[test]
+fn output_that_would_block_is_waited_for() {
+    let folder = Folder::new("output_that_would_block_is_waited_for");
+    let (mut own, mut other) = stream();
+    let mut filled = 0;
+    let full = loop {
+        match own.write(&[b'x'; 64]) {
+            Ok(some) => filled += some,
+            Err(error) => break error.kind(),
+        }
+    };
+    assert_eq!(full, ErrorKind::WouldBlock);
+    let mut command = command(&["figures", &folder.sheet(&[EXAMPLE])]);
+    let child = command.stdout(OwnedFd::from(own)).stderr(Stdio::piped()).spawn().unwrap();
+    drop(command); // and with it this side's copy of the stream
+    sleep(A_WHILE);
+    let mut read = String::new();
+    other.read_to_string(&mut read).unwrap();
+    assert_eq!(read, "x".repeat(filled) + "rule 0 history 1 delay 2 cells 21\n");
+    assert_eq!(said(child.wait_with_output().unwrap()), out("", 0));
+}
+
+#[test]
+fn input_that_would_block_is_waited_for() {
+    let folder = Folder::new("input_that_would_block_is_waited_for");
+    let (own, mut other) = stream();
+    let mut command = command(&["outcome", &folder.sheet(&[EXAMPLE]), "0", "-", "5"]);
+    command.stdin(OwnedFd::from(own)).stdout(Stdio::piped()).stderr(Stdio::piped());
+    let child = command.spawn().unwrap();
+    for part in FLAGS.chunks(4) {
+        sleep(A_WHILE);
+        other.write_all(part).unwrap();
+    }
+    other.shutdown(Shutdown::Write).unwrap();
+    assert_eq!(said(child.wait_with_output().unwrap()), out("tick 5 false at 7\n", 0));
+}

@@ -1,0 +1,121 @@
+//! The Rust wrapper (feature `library`) against the paper: its safe functions, and
+//! `Watch`, which keeps its memory.
+
+use rust_tests::paper;
+use rust_tests::random::{self, Random};
+use station_watch::{bodies, figures, outcome, rule_body, sheet_of, Figures, Outcome};
+use station_watch::{Pair, Refusal, Verdict, Watch};
+
+const RULES: usize = 1_000;
+const STEPS: usize = 80;
+const BODIES: usize = 20_000;
+const SHEETS: usize = 4_000;
+
+fn numbered<T>(answer: Result<T, Refusal>) -> Result<T, u32> {
+    answer.map_err(Refusal::number)
+}
+
+/// A stream, taken in single steps and in batches of random length.
+#[test]
+fn watches() {
+    let mut random = Random::new(3_001);
+    let mut late = 0;
+    for _ in 0..RULES {
+        let rule = random::accepted_rule(&mut random);
+        let (sheet, number) = random::sheet_with(&mut random, &rule.body);
+        let mut due = paper::Watch::new(rule.formula.clone());
+        let mut watch = Watch::open(&sheet, number).unwrap();
+        let stream = random::stream(&mut random, STEPS);
+        let mut rest = &stream[..];
+        while !rest.is_empty() {
+            let (now, later) = rest.split_at(random.size(1, 9).min(rest.len()));
+            let seen = take(&mut watch, now, random.one_in(2));
+            assert_eq!(seen, due_pairs(&mut due, now), "{:?}", rule.formula);
+            assert_eq!((watch.live(), watch.next_tick()), (due.live() as u64, due.tick() as u64));
+            late += seen.iter().filter(|pair| pair.step > pair.tick).count();
+            rest = later;
+        }
+    }
+    assert!(late > RULES, "{late} violations decided late");
+}
+
+fn take(watch: &mut Watch, flags: &[u8], at_once: bool) -> Vec<Pair> {
+    let mut pairs = Vec::new();
+    if at_once {
+        watch.steps(flags, |pair| pairs.push(pair)).unwrap();
+        return pairs;
+    }
+    for &flag in flags {
+        pairs.extend(watch.step(flag).unwrap().pairs());
+    }
+    pairs
+}
+
+fn due_pairs(due: &mut paper::Watch, flags: &[u8]) -> Vec<Pair> {
+    let mut pairs = Vec::new();
+    for &flag in flags {
+        let step = due.tick() as u32;
+        pairs.extend(due.step(flag).report.into_iter().map(|tick| Pair { tick, step }));
+    }
+    pairs
+}
+
+/// Figures, outcomes at every tick of a short recording, and openings.
+#[test]
+fn any_bodies() {
+    let mut random = Random::new(3_002);
+    let mut opened = 0;
+    for _ in 0..BODIES {
+        let body = random::any_body(&mut random);
+        let due = paper::figures(&body);
+        assert_eq!(numbered(figures(&body)), due.map(wrapped_figures), "{body:?}");
+        let recording = random.bytes(3);
+        for tick in 0..=3 {
+            let due = paper::evaluate(&body, &recording, tick).map(wrapped_outcome);
+            assert_eq!(numbered(outcome(&body, &recording, tick)), due, "{body:?}");
+        }
+        if let Ok(sheet) = sheet_of(&[&body]) {
+            let answer = Watch::open(&sheet, 0).map(|watch| watch.figures());
+            assert_eq!(numbered(answer), due.map(wrapped_figures), "{body:?}");
+            opened += 1;
+        }
+    }
+    assert!(opened > BODIES / 2, "{opened} openings");
+}
+
+fn wrapped_figures(due: paper::Figures) -> Figures {
+    let paper::Figures { history, delay, cells } = due;
+    Figures { history: history as usize, delay: delay as usize, cells: cells as usize }
+}
+
+fn wrapped_outcome(due: paper::Outcome) -> Outcome {
+    match due {
+        paper::Outcome::Open => Outcome::Open,
+        paper::Outcome::Decided(paper::Verdict::True, at) => {
+            Outcome::Decided(Verdict::True, at as u64)
+        }
+        paper::Outcome::Decided(paper::Verdict::False, at) => {
+            Outcome::Decided(Verdict::False, at as u64)
+        }
+    }
+}
+
+/// Sheets written and read, and damaged ones.
+#[test]
+fn sheets() {
+    let mut random = Random::new(3_003);
+    for _ in 0..SHEETS {
+        let all = random::sheet_bodies(&mut random);
+        let parts: Vec<&[u8]> = all.iter().map(Vec::as_slice).collect();
+        let sheet = sheet_of(&parts).unwrap();
+        assert_eq!(sheet, random::sheet_of(&all));
+        assert_eq!(bodies(&sheet).unwrap().collect::<Vec<_>>(), parts);
+        let damaged = random::damaged_sheet(&mut random);
+        for rule in [0, 1, 31, 32, usize::MAX] {
+            let due = paper::rule_body(&damaged, rule);
+            assert_eq!(numbered(rule_body(&damaged, rule)), due, "{damaged:?}, {rule}");
+        }
+        let due = paper::rule_body(&damaged, 0).err();
+        assert_eq!(numbered(bodies(&damaged)).err(), due, "{damaged:?}");
+    }
+}
