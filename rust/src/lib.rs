@@ -52,6 +52,8 @@ mod report;
 mod sheet;
 mod state;
 #[cfg(feature = "alloc")]
+mod stored;
+#[cfg(feature = "alloc")]
 mod watch;
 
 pub use figures::{figures, Figures};

@@ -64,7 +64,11 @@ pub enum Refusal {
     /// 22: the buffer is too short.
     BufferTooShort,
     /// A number that this version has no name for: the library that was linked is a
-    /// later one. Only `from_number` makes it, so that no refusal has two forms.
+    /// later one. Only `from_number` makes it, so that no refusal has two forms:
+    ///
+    /// ```compile_fail,E0639
+    /// let fifteen = station_watch::Refusal::Other { number: 15 };
+    /// ```
     #[non_exhaustive]
     Other {
         /// The number that the library answered.

@@ -141,8 +141,7 @@ impl Watch {
         self.state.live()
     }
 
-    /// State, history and cells, to be stored. The report is not part of it: each step
-    /// writes it anew.
+    /// State, history and cells. The report is not part of it: each step writes it anew.
     ///
     /// ```
     /// use station_watch::{sheet_of, Refusal, Watch};

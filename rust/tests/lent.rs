@@ -178,6 +178,9 @@ fn the_body_of_any_state() {
         assert_eq!(State::from_bytes(bytes).body(), []);
     }
     assert_eq!(State::from_bytes([0; STATE_BYTES]).body(), []);
+    let mut longest = [1; STATE_BYTES];
+    longest[512..520].copy_from_slice(&512u64.to_le_bytes());
+    assert_eq!(State::from_bytes(longest).body(), [1; 512]);
 }
 
 /// The sizes that document 01 states.

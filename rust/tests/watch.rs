@@ -127,6 +127,39 @@ fn stored_and_restored_at_every_step() {
 }
 
 #[test]
+fn stored_as_bytes() {
+    let mut watch = open(&BODY);
+    all_pairs(&mut watch, &FLAGS[..7]);
+    let bytes = watch.to_bytes();
+    let (state, history, cells) = watch.parts();
+    assert_eq!(bytes.len(), STATE_BYTES + 1 + 4 * 84);
+    assert_eq!(bytes[..STATE_BYTES], state.as_bytes()[..]);
+    assert_eq!(bytes[STATE_BYTES..][..1], *history);
+    assert_eq!(bytes[STATE_BYTES + 1..][..4], cells[0].to_le_bytes());
+    assert_eq!(bytes[bytes.len() - 4..], cells[83].to_le_bytes());
+    let mut again = Watch::from_bytes(&bytes).unwrap();
+    assert_eq!((again.parts(), again.figures()), (watch.parts(), watch.figures()));
+    assert_eq!(all_pairs(&mut again, &FLAGS[7..]), [Pair { tick: 5, step: 7 }]);
+}
+
+/// Bytes that are cut short are refused wherever the cut is.
+#[test]
+fn stored_bytes_cut_short() {
+    let bytes = open(&BODY).to_bytes();
+    for length in 0..bytes.len() {
+        let due = match length {
+            0..STATE_BYTES => Refusal::StateNotOpened,
+            STATE_BYTES => Refusal::HistoryLength,
+            _ => Refusal::CellTableTooShort,
+        };
+        assert_eq!(Watch::from_bytes(&bytes[..length]).unwrap_err(), due, "{length} bytes");
+    }
+    let mut long = [0; STATE_BYTES];
+    long[520..528].copy_from_slice(&u64::MAX.to_le_bytes());
+    assert_eq!(Watch::from_bytes(&long).unwrap_err(), Refusal::StateNotOpened);
+}
+
+#[test]
 fn a_copy_goes_on_by_itself() {
     let mut watch = open(&BODY);
     all_pairs(&mut watch, &FLAGS[..7]);
