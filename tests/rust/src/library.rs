@@ -91,6 +91,7 @@ mod linked {
             start: &mut usize,
             size: &mut usize,
         ) -> u32 {
+            // SAFETY: what slices cover, and what is written is borrowed alone.
             unsafe { sw_rule_place(sheet.as_ptr(), sheet.len(), rule, start, size) }
         }
 
@@ -101,6 +102,7 @@ mod linked {
             out: &mut [u8],
             written: &mut usize,
         ) -> u32 {
+            // SAFETY: what slices cover, and what is written is borrowed alone.
             unsafe {
                 sw_write_sheet(
                     lengths.as_ptr(),
@@ -115,6 +117,7 @@ mod linked {
         }
 
         fn figures(&self, body: &[u8], history: &mut u64, delay: &mut u64, cells: &mut u64) -> u32 {
+            // SAFETY: what slices cover, and what is written is borrowed alone.
             unsafe { sw_figures(body.as_ptr(), body.len(), history, delay, cells) }
         }
 
@@ -126,6 +129,7 @@ mod linked {
             verdict: &mut u32,
             step: &mut u64,
         ) -> u32 {
+            // SAFETY: what slices cover, and what is written is borrowed alone.
             unsafe {
                 sw_outcome(
                     body.as_ptr(),
@@ -147,6 +151,7 @@ mod linked {
             cells: &[u32],
             state: &mut State,
         ) -> u32 {
+            // SAFETY: what slices cover, and what is written is borrowed alone.
             unsafe {
                 sw_open(
                     sheet.as_ptr(),
@@ -162,6 +167,7 @@ mod linked {
         }
 
         fn step(&self, state: &mut State, flag: u8, lent: StepLent, answer: StepAnswer) -> u32 {
+            // SAFETY: what slices cover, and what is written is borrowed alone.
             unsafe {
                 sw_step(
                     state.as_mut_ptr(),
@@ -185,6 +191,7 @@ mod linked {
             lent: StepLent,
             answer: StepsAnswer,
         ) -> u32 {
+            // SAFETY: what slices cover, and what is written is borrowed alone.
             unsafe {
                 sw_steps(
                     state.as_mut_ptr(),
