@@ -50,6 +50,15 @@ fn names_numbers_and_sentences() {
     assert_eq!(ALL.iter().map(|(refusal, ..)| refusal).collect::<HashSet<_>>().len(), 22);
 }
 
+/// The docs of the enum say the same.
+#[test]
+fn documented_sentences() {
+    let source = include_str!("../src/refusal.rs");
+    for (refusal, number, sentence) in ALL {
+        assert!(source.contains(&format!("    /// {number}: {sentence}.\n    {refusal:?},\n")));
+    }
+}
+
 #[test]
 fn a_number_without_a_name_is_kept() {
     for number in [23, 24, 128, 4_294_967_295] {
