@@ -20,18 +20,26 @@ impl Answer {
     pub fn given(text: String) -> Answer {
         Answer { text, refused: false }
     }
+
+    fn refusal(refusal: Refusal) -> Answer {
+        Answer { text: format!("{refusal}\n"), refused: true }
+    }
 }
 
-/// Why there is no answer.
-pub enum Stop {
-    /// The library refused the call.
-    Refused(Refusal),
-    /// The arguments are wrong: what is wrong, and the usage that it is told with.
+/// What went wrong before the library was asked, or after it answered.
+pub enum Failure {
+    /// The arguments: what is wrong with them, and the usage that it is told with.
     Usage(String, &'static str),
     /// A file, by name, cannot be read.
     Read(String, io::Error),
     /// A file, by name, cannot be written.
     Write(String, io::Error),
+}
+
+/// Why a command stopped early.
+pub enum Stop {
+    Refused(Refusal),
+    Failed(Failure),
 }
 
 impl From<Refusal> for Stop {
@@ -40,33 +48,36 @@ impl From<Refusal> for Stop {
     }
 }
 
+impl From<Failure> for Stop {
+    fn from(failure: Failure) -> Stop {
+        Stop::Failed(failure)
+    }
+}
+
 /// Says how a command ended, and gives its exit status.
 pub fn finish(ended: Result<Answer, Stop>) -> ExitCode {
-    let ended = match ended {
+    let printed = match ended {
         Ok(answer) => print(answer),
-        Err(Stop::Refused(refusal)) => {
-            print(Answer { text: format!("{refusal}\n"), refused: true })
-        }
-        Err(stop) => Err(stop),
+        Err(Stop::Refused(refusal)) => print(Answer::refusal(refusal)),
+        Err(Stop::Failed(failure)) => Err(failure),
     };
-    ExitCode::from(ended.unwrap_or_else(|stop| {
-        complain(&stop);
+    ExitCode::from(printed.unwrap_or_else(|failure| {
+        complain(&failure);
         FAILED
     }))
 }
 
-fn print(answer: Answer) -> Result<u8, Stop> {
+fn print(answer: Answer) -> Result<u8, Failure> {
     files::write_output(answer.text.as_bytes())?;
     Ok(if answer.refused { REFUSED } else { ANSWERED })
 }
 
 /// What went wrong, on standard error. Where even that fails, the exit status tells.
-fn complain(stop: &Stop) {
-    let text = match stop {
-        Stop::Refused(refusal) => refusal.to_string(),
-        Stop::Usage(said, usage) => format!("{said}\n{}", usage.trim_end()),
-        Stop::Read(name, error) => format!("cannot read {name}: {error}"),
-        Stop::Write(name, error) => format!("cannot write {name}: {error}"),
+fn complain(failure: &Failure) {
+    let text = match failure {
+        Failure::Usage(said, usage) => format!("{said}\n{}", usage.trim_end()),
+        Failure::Read(name, error) => format!("cannot read {name}: {error}"),
+        Failure::Write(name, error) => format!("cannot write {name}: {error}"),
     };
     let _ = writeln!(io::stderr(), "station-watch: {text}");
 }

@@ -1,6 +1,6 @@
 //! The arguments, read.
 
-use crate::answer::Stop;
+use crate::answer::Failure;
 use crate::hexadecimal;
 use crate::usage;
 use std::ffi::OsString;
@@ -15,9 +15,9 @@ pub enum Command {
     Version,
 }
 
-pub fn read(words: &[OsString]) -> Result<Command, Stop> {
+pub fn read(words: &[OsString]) -> Result<Command, Failure> {
     let Some((first, rest)) = words.split_first() else {
-        return Err(Stop::Usage("no command".to_string(), usage::ALL));
+        return Err(Failure::Usage("no command".to_string(), usage::ALL));
     };
     match &*first.to_string_lossy() {
         "--help" | "-h" => Ok(Command::Help(usage::ALL)),
@@ -28,18 +28,18 @@ pub fn read(words: &[OsString]) -> Result<Command, Stop> {
 }
 
 /// `help`, or `help COMMAND`.
-fn help(rest: &[OsString]) -> Result<Command, Stop> {
+fn help(rest: &[OsString]) -> Result<Command, Failure> {
     match rest.first() {
         None => Ok(Command::Help(usage::ALL)),
         Some(name) => usage_of(&name.to_string_lossy()).map(Command::Help),
     }
 }
 
-fn usage_of(name: &str) -> Result<&'static str, Stop> {
-    usage::of(name).ok_or_else(|| Stop::Usage(format!("no command '{name}'"), usage::ALL))
+fn usage_of(name: &str) -> Result<&'static str, Failure> {
+    usage::of(name).ok_or_else(|| Failure::Usage(format!("no command '{name}'"), usage::ALL))
 }
 
-fn command(name: &str, rest: &[OsString]) -> Result<Command, Stop> {
+fn command(name: &str, rest: &[OsString]) -> Result<Command, Failure> {
     let usage = usage_of(name)?;
     if rest.first().is_some_and(|word| word == "--help" || word == "-h") {
         return Ok(Command::Help(usage));
@@ -57,26 +57,27 @@ fn command(name: &str, rest: &[OsString]) -> Result<Command, Stop> {
         }
         _ => {
             let said = format!("{name}: wrong number of arguments ({})", rest.len());
-            Err(Stop::Usage(said, usage::line(usage)))
+            Err(Failure::Usage(said, usage::line(usage)))
         }
     }
 }
 
 /// A number in decimal digits. One too large for the machine is as large as can be,
 /// which no rule and no tick has.
-fn number(what: &str, word: &OsString, usage: &'static str) -> Result<usize, Stop> {
+fn number(what: &str, word: &OsString, usage: &'static str) -> Result<usize, Failure> {
     let text = word.to_string_lossy();
     if text.is_empty() || !text.bytes().all(|byte| byte.is_ascii_digit()) {
-        return Err(Stop::Usage(format!("{what} is no number: '{text}'"), usage::line(usage)));
+        return Err(Failure::Usage(format!("{what} is no number: '{text}'"), usage::line(usage)));
     }
     Ok(text.parse().unwrap_or(usize::MAX))
 }
 
 /// The bytes of each BODY.
-fn all_bytes(bodies: &[OsString], usage: &'static str) -> Result<Vec<Vec<u8>>, Stop> {
+fn all_bytes(bodies: &[OsString], usage: &'static str) -> Result<Vec<Vec<u8>>, Failure> {
     let mut all = Vec::new();
     for (rule, body) in bodies.iter().enumerate() {
-        let wrong = |said| Stop::Usage(format!("body of rule {rule}: {said}"), usage::line(usage));
+        let wrong =
+            |said| Failure::Usage(format!("body of rule {rule}: {said}"), usage::line(usage));
         all.push(hexadecimal::bytes(&body.to_string_lossy()).map_err(wrong)?);
     }
     Ok(all)

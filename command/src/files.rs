@@ -1,7 +1,7 @@
 //! Files, standard input and standard output. A read or a write that is interrupted, or
 //! would block, is tried again.
 
-use crate::answer::Stop;
+use crate::answer::Failure;
 use std::fs::File;
 use std::io::{self, ErrorKind, Read, Write};
 use std::os::fd::AsFd;
@@ -13,29 +13,29 @@ use std::time::Duration;
 const WAIT: Duration = Duration::from_millis(5);
 
 /// The bytes of a file, but no more than `most`.
-pub fn read(path: &Path, most: usize) -> Result<Vec<u8>, Stop> {
-    let stop = |error| Stop::Read(path.display().to_string(), error);
+pub fn read(path: &Path, most: usize) -> Result<Vec<u8>, Failure> {
+    let stop = |error| Failure::Read(path.display().to_string(), error);
     File::open(path).and_then(|file| read_up_to(file, most)).map_err(stop)
 }
 
 /// The same of a file, or of standard input where it is named -.
-pub fn read_or_input(path: &Path, most: usize) -> Result<Vec<u8>, Stop> {
+pub fn read_or_input(path: &Path, most: usize) -> Result<Vec<u8>, Failure> {
     if path != Path::new("-") {
         return read(path, most);
     }
-    let stop = |error| Stop::Read("standard input".to_string(), error);
+    let stop = |error| Failure::Read("standard input".to_string(), error);
     own(io::stdin()).and_then(|input| read_up_to(input, most)).map_err(stop)
 }
 
 /// Writes a file whole.
-pub fn write(path: &Path, bytes: &[u8]) -> Result<(), Stop> {
-    let stop = |error| Stop::Write(path.display().to_string(), error);
+pub fn write(path: &Path, bytes: &[u8]) -> Result<(), Failure> {
+    let stop = |error| Failure::Write(path.display().to_string(), error);
     File::create(path).and_then(|file| write_whole(file, bytes)).map_err(stop)
 }
 
 /// Writes to standard output.
-pub fn write_output(bytes: &[u8]) -> Result<(), Stop> {
-    let stop = |error| Stop::Write("standard output".to_string(), error);
+pub fn write_output(bytes: &[u8]) -> Result<(), Failure> {
+    let stop = |error| Failure::Write("standard output".to_string(), error);
     own(io::stdout()).and_then(|output| write_whole(output, bytes)).map_err(stop)
 }
 

@@ -19,7 +19,8 @@ use std::process::ExitCode;
 
 fn main() -> ExitCode {
     let words: Vec<OsString> = env::args_os().skip(1).collect();
-    answer::finish(arguments::read(&words).and_then(run))
+    let command = arguments::read(&words).map_err(Stop::from);
+    answer::finish(command.and_then(run))
 }
 
 fn run(command: Command) -> Result<Answer, Stop> {
