@@ -28,6 +28,8 @@ fn wrapped() -> HashMap<String, String> {
         ("SW_MAX_DELAY", station_watch::MAX_DELAY),
         ("SW_MAX_CELLS", station_watch::MAX_CELLS),
         ("SW_MAX_CELL_WORDS", station_watch::MAX_CELL_WORDS),
+        ("SW_MAX_REPORT", station_watch::MAX_REPORT),
+        ("SW_MAX_BATCH_REPORT", 2 * station_watch::MAX_REPORT), // pairs in Rust, words in C
         ("SW_MAX_SENTENCE", station_watch::MAX_SENTENCE),
         ("SW_OPEN", raw::OPEN as usize),
         ("SW_TRUE", raw::TRUE as usize),
