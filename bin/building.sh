@@ -2,9 +2,9 @@
 # For the commands of this folder, which source it: proving and building, only where something changed, with a short line for each crate. They set
 # `root`, the repository, and `set -o pipefail`. Everything that is said goes to standard error, and standard input is not touched.
 
-# Whether something of crates/ changed since the stamp was set, or one of the other files, or there is no stamp.
+# Whether something of crates/ changed since the stamp was set, or one of the other files, or there is no stamp. Must-fail edits are not built.
 changed_since() { # STAMP [FILE..]
-    [ ! -e "$1" ] || [ -n "$(find "$root/crates" "$root/crates.txt" "${@:2}" -newer "$1" -print -quit)" ]
+    [ ! -e "$1" ] || [ -n "$(find "$root/crates" "$root/crates.txt" "${@:2}" -name must-fail -prune -o -newer "$1" -print -quit)" ]
 }
 
 # Waits until no other command builds here. What it builds may be what this one wants: look again. Holds descriptor 9 until end_building.

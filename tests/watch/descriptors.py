@@ -5,7 +5,7 @@ import subprocess
 import threading
 import time
 
-from station import CELLS_4160, COMMAND, FLAG_UP, Station, lines
+from station import CELLS_4160, COMMAND, FLAG_UP, REFUSED_1, REFUSED_15, Station, lines
 
 FIGURES = lines(FLAG_UP, b"").splitlines(True)[0]
 MANY = bytes(100_000)  # as many violations
@@ -43,7 +43,7 @@ class Output(Station):
 
     def test_closed_with_a_refusal(self):
         self.write("watch.sheet", CELLS_4160)
-        said = "watch: refused 15\nwatch: standard output: Bad file descriptor\n"
+        said = REFUSED_15 + "watch: standard output: Bad file descriptor\n"
         self.ends(2, b"", said, stdout=None, preexec_fn=closed(1))
 
     def test_pipe_closed_early(self):
@@ -123,21 +123,21 @@ class Input(Station):
 class Sheet(Station):
     def test_missing(self):
         os.remove(self.path("watch.sheet"))
-        said = "watch: no file watch.sheet in the current folder: it counts as empty\nwatch: refused 1\n"
+        said = "watch: no file watch.sheet in the current folder: it counts as empty\n" + REFUSED_1
         self.ends(1, b"refused 1\n", said)
 
     def test_empty(self):
         self.write("watch.sheet", b"")
-        self.ends(1, b"refused 1\n", "watch: refused 1\n")
+        self.ends(1, b"refused 1\n", REFUSED_1)
 
     def test_refused(self):
         self.write("watch.sheet", CELLS_4160)
-        self.ends(1, b"refused 15\n", "watch: refused 15\n", flags=b"\0")
+        self.ends(1, b"refused 15\n", REFUSED_15, flags=b"\0")
 
     def test_directory(self):
         os.remove(self.path("watch.sheet"))
         os.mkdir(self.path("watch.sheet"))
-        self.ends(2, b"refused 1\n", "watch: watch.sheet: Is a directory\nwatch: refused 1\n")
+        self.ends(2, b"refused 1\n", "watch: watch.sheet: Is a directory\n" + REFUSED_1)
 
     def test_not_allowed(self):
         """Root may read every file: it gives up that power first."""
@@ -145,7 +145,7 @@ class Sheet(Station):
         words = [COMMAND]
         if os.geteuid() == 0:
             words = ["setpriv", "--bounding-set=-dac_override,-dac_read_search", *words]
-        self.ends(2, b"refused 1\n", "watch: watch.sheet: Permission denied\nwatch: refused 1\n", words)
+        self.ends(2, b"refused 1\n", "watch: watch.sheet: Permission denied\n" + REFUSED_1, words)
 
 
 class StandardError(Station):

@@ -4,7 +4,7 @@ import subprocess
 import tempfile
 import unittest
 
-from station import FLAG_UP, PROGRAM, Station, lines
+from station import FLAG_UP, PROGRAM, REFUSED_1, Station, lines
 
 LIBRARY = None
 
@@ -40,4 +40,4 @@ class Faults(Station):
     def test_sheet_fails_in_the_middle(self):
         """What was read so far is a legal sheet, and is not run."""
         self.write("watch.sheet", FLAG_UP + b"\0")
-        self.ends_with("sheet", b"refused 1\n", "watch: watch.sheet: Input/output error\nwatch: refused 1\n")
+        self.ends_with("sheet", b"refused 1\n", "watch: watch.sheet: Input/output error\n" + REFUSED_1)

@@ -6,13 +6,23 @@ use libc::STDOUT_FILENO;
 use refusal::Refusal;
 use rule::Figures;
 
-// The line of a refusal, with its number. Standard error has it too, behind the program's name: there stands each ending that is not the end of the
-// input.
+// Says a refusal in words on standard error, behind the program's name: there stands each ending that is not the end of the input.
+fn say_refusal(number: u32) {
+    let mut sentence = [0u8; 128];
+    let n = refusal_text::sentence(number, &mut sentence);
+    io::write_all(STDERR_FILENO, b"watch: refused ");
+    io::print_decimal(STDERR_FILENO, number as u64);
+    io::write_all(STDERR_FILENO, b": ");
+    io::write_all(STDERR_FILENO, &sentence[..n]);
+    io::write_all(STDERR_FILENO, b"\n");
+}
+
+// The line of a refusal, with its number.
 pub(crate) fn print_refusal(x: Refusal) -> bool {
+    let number = refusal::number(x);
+    say_refusal(number);
     let mut line = [0u8; 128];
-    let n = watch_lines::refused_line(refusal::number(x) as u64, &mut line);
-    io::write_all(STDERR_FILENO, b"watch: ");
-    io::write_all(STDERR_FILENO, &line[..n]);
+    let n = watch_lines::refused_line(number as u64, &mut line);
     write_line(&line[..n])
 }
 

@@ -7,7 +7,7 @@ use std::collections::HashMap;
 const HEADER: &str = include_str!("../../../include/station_watch.h");
 
 /// Names that the header has from its first version on: those of a state and a verdict.
-const AT_LEAST: usize = 5;
+const AT_LEAST: usize = 37;
 
 /// What the header defines.
 fn defined() -> HashMap<&'static str, &'static str> {
