@@ -217,10 +217,11 @@ KINDS = {
 }
 
 
-def sessions_run(blocks, folder, work):
-    """What is typed, in one shell from the first session to the last, in a folder that has bin/ as the repository has. A line after `$ ` is typed,
-    the lines below are what is printed."""
-    os.symlink(folder, os.path.join(work, "bin"))
+def sessions_run(blocks, links, work):
+    """What is typed, in one shell from the first session to the last, in a folder that has these of the repository's folders. A line after `$ ` is
+    typed, the lines below are what is printed."""
+    for name, folder in links.items():
+        os.symlink(folder, os.path.join(work, name))
     ended = "end of what this command printed"
     typed = [line[2:] for block in blocks for line in block if line.startswith("$ ")]
     script = "\n".join("{ %s\n} 2>&1; status=$?; echo '%s'; (exit $status)" % (line, ended) for line in typed)
@@ -273,7 +274,7 @@ def check(path, folder, with_programs):
                 failed += attempt("%s:%d" % (path, start), tried)
         failed += attempt(path, lambda: refusals_told(path))
         typed = [block for kind, _, block in found if kind == "console"]
-        failed += attempt("%s, what is typed" % path, lambda: sessions_run(typed, folder, sessions))
+        failed += attempt("%s, what is typed" % path, lambda: sessions_run(typed, {"bin": folder}, sessions))
         runs = tools.runs
     print("%d examples, %d failed%s" % (len(found), failed, ", %d runs" % runs if with_programs else ""))
     return 1 if failed else 0
