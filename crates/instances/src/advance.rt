@@ -3,6 +3,7 @@ ghost use mathlib.Core.Path.{_≡_};
 ghost use Prim.Native.Nat.{_+_, _<_};
 ghost use lib.ListN.{length, getD};
 ghost use Rattle.nodes.specs.Table.{bound-at};
+ghost use Rattle.nodes.specs.Nots.{NoNot};
 ghost use Rattle.instances.specs.Tree.{then-node, beside-node, range-node, tree-at};
 ghost use Rattle.instances.specs.Calls.{Fit, SlotFit, WalkFit, PartFit, Advanced, PositionAdvanced, PositionsWalked, PartAdvanced};
 use crate::cells::load_outcome;
@@ -21,6 +22,7 @@ use nodes::SECOND_PART;
 use nodes::SLOT_WORDS;
 use nodes::VARIABLE;
 use nodes::node_word;
+use nodes::skip_nots;
 use rule::Outcome;
 use rule::Verdict;
 
@@ -224,8 +226,8 @@ fn advance_beside(
     outcomes::both(x, y)
 }
 
-// Moves the formula at word i, started at s, to tick t.
-fn advance(
+// Moves the formula at word i, which is no not, started at s, to tick t.
+fn advance_operand(
     nodes: &[u32],
     left: usize,
     i: usize,
@@ -236,16 +238,13 @@ fn advance(
     s: u64,
     t: u64,
 ) -> Outcome
-    requires { ⌜ Fit (tree-at left (now nodes) i) env t (length (now run)) ⌝ }
+    requires { ⌜ NoNot left (now nodes) i × Fit (tree-at left (now nodes) i) env t (length (now run)) ⌝ }
     ensures { λ r. ⌜ Advanced (tree-at left (now (nodes .entry)) i) (now (history .entry)) flag env s t (now (run .entry)) r (now (run .exit)) ⌝ }
 {
     if left == 0 {
         return flag_at(env, 0, 0, s);
     }
     let code = node_word(nodes, i, CODE);
-    if code == 2 {
-        return outcomes::opposite(advance(nodes, left - 1, i + 12, run, history, flag, env, s, t));
-    }
     if code == 3 {
         let g = node_word(nodes, i, SECOND_PART) as usize;
         return advance_then(nodes, left - 1, i + 12, g, run, history, flag, env, s, t);
@@ -261,4 +260,24 @@ fn advance(
     let v = node_word(nodes, i, VARIABLE) as usize;
     let k = node_word(nodes, i, FLAG);
     flag_at(env, v, k, s)
+}
+
+// Moves the formula at word i, started at s, to tick t. A run of nots has the run of what stands under it, and takes no call of its own.
+fn advance(
+    nodes: &[u32],
+    left: usize,
+    i: usize,
+    run: &mut [u32],
+    history: &[u8],
+    flag: u8,
+    env: Env,
+    s: u64,
+    t: u64,
+) -> Outcome
+    requires { ⌜ Fit (tree-at left (now nodes) i) env t (length (now run)) ⌝ }
+    ensures { λ r. ⌜ Advanced (tree-at left (now (nodes .entry)) i) (now (history .entry)) flag env s t (now (run .entry)) r (now (run .exit)) ⌝ }
+{
+    let u = skip_nots(nodes, left, i);
+    let o = advance_operand(nodes, u.left, u.i, run, history, flag, env, s, t);
+    outcomes::opposite_if(u.odd, o)
 }
