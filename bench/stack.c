@@ -16,28 +16,41 @@
 
 /* MARGIN: what is not painted, since the painter itself stands there. */
 enum { STACK = 1 << 20, PAINT = 0xA5, MARGIN = 128 };
-enum { HISTORY = 4096, CELL_WORDS = 16384, REPORT = 512, FLAGS = 4, RULES = 32 };
+enum { HISTORY = 4096, CELL_WORDS = 16384, REPORT = 512, FLAGS = 4, RULES = 32, NAME = 96 };
 
 /* ---- bodies: a way down to the deepest formula, one letter a formula
  *   ~  not
  *   t  then, b  beside: on in the second part, the first is a flag
  *   T  then, B  beside: on in the first part, the second is a flag
- *   r  for all Y from the variable outside to itself: one position
- * `ranges` come first, at the end or spread; the rest is `pattern` again and again. */
-enum place { NONE, FRONT, BACK, SPREAD };
+ *   r  for all Y from the variable outside to itself: one position */
 
-struct shape {
-    const char *pattern;
-    enum place ranges;
+static const struct pattern {
+    const char *letters; /* again and again, as long as formulas are left */
+    const char *name;
+} patterns[] = {
+    { "~", "nots" },
+    { "t", "then in second parts" },
+    { "T", "then in first parts" },
+    { "b", "beside in second parts" },
+    { "B", "beside in first parts" },
+    { "tb", "then and beside in second parts" },
+    { "TB", "then and beside in first parts" },
+    { "tB", "then in second, beside in first parts" },
+    { "Tb", "then in first, beside in second parts" },
+    { "~t", "not and then in second parts" },
+    { "~T", "not and then in first parts" },
+    { "~b", "not and beside in second parts" },
+    { "~B", "not and beside in first parts" },
+    { "~~t", "two nots and then in second parts" },
+    { "~t~b", "not, then, not, beside in second parts" },
 };
 
-static const char *const patterns[] = {
-    "~", "t", "T", "b", "B", "tb", "TB", "tB", "Tb", "~t", "~T", "~b", "~B", "~~t", "~t~b",
-};
+/* Where the four ranges stand that a body may nest. */
+enum place { NONE, FRONT, BACK, SPREAD, PLACES };
 
-static const char *const places[] = { "", "ranges, then ", "before ranges: ", "between ranges: " };
+static const char *const place_names[PLACES] = { "", ", under ranges", ", over ranges", ", between ranges" };
 
-/* Puts the formulas of `way` from letter k on. `nested` is how many ranges are outside. */
+/* Puts the formulas of a way. `nested` is how many ranges stand outside. */
 static void put_way(struct body *b, const char *way, int nested)
 {
     if (*way == 0) {
@@ -64,38 +77,32 @@ static int formulas_of(char letter)
     return letter == '~' || letter == 'r' ? 1 : 2;
 }
 
-/* Whether a range stands at this step of the way: `left` formulas are left for the others. */
-static bool range_here(enum place place, int step, int ranges, int left)
+/* Whether a range comes next, before the letter; a letter that no longer `fits` ends the way. */
+static bool range_next(enum place place, int step, int ranges, bool fits)
 {
     if (ranges == 0)
         return false;
-    return place == FRONT || (place == BACK && left < 2) || (place == SPREAD && step % 4 == 3);
+    return place == FRONT || !fits || (place == SPREAD && step % 4 == 3);
 }
 
-/* The longest way of a shape: 64 formulas, one of them the flag at its end. */
-static void make_way(const struct shape *shape, char way[MAX_FORMULAS])
+/* The longest way of a pattern: 64 formulas, one of them the flag at its end. */
+static void make_way(const char *letters, enum place place, char way[MAX_FORMULAS])
 {
-    const char *next = shape->pattern;
-    int ranges = shape->ranges == NONE ? 0 : MAX_NESTED;
+    const char *next = letters;
+    int ranges = place == NONE ? 0 : MAX_NESTED;
     int left = MAX_FORMULAS - 1 - ranges;
     int step = 0;
 
-    while (true) {
-        char letter = *next;
-        bool range = range_here(shape->ranges, step, ranges, left - formulas_of(letter) + 2);
-        if (range) {
-            letter = 'r';
+    while (ranges > 0 || formulas_of(*next) <= left) {
+        if (range_next(place, step, ranges, formulas_of(*next) <= left)) {
+            way[step++] = 'r';
             ranges--;
-        } else if (formulas_of(letter) <= left) {
-            left -= formulas_of(letter);
-            next = next[1] == 0 ? shape->pattern : next + 1;
         } else {
-            break;
+            way[step++] = *next;
+            left -= formulas_of(*next);
+            next = next[1] == 0 ? letters : next + 1;
         }
-        way[step++] = letter;
     }
-    while (ranges-- > 0)
-        way[step++] = 'r';
     way[step] = 0;
 }
 
@@ -179,7 +186,7 @@ static struct function {
     const char *name;
     uint32_t (*call)(void);
     size_t deepest;
-    char body[96];
+    char body[NAME];
 } functions[] = {
     { "sw_rule_place", call_place, 0, "" },
     { "sw_write_sheet", call_write, 0, "" },
@@ -289,13 +296,12 @@ static void measure_all(const char *way, const char *name)
 static void measure_shapes(void)
 {
     for (size_t k = 0; k < sizeof patterns / sizeof patterns[0]; k++)
-        for (enum place place = NONE; place <= SPREAD; place++) {
-            const struct shape shape = { patterns[k], place };
+        for (enum place place = NONE; place < PLACES; place++) {
             char way[MAX_FORMULAS];
-            char name[96];
+            char name[NAME];
 
-            make_way(&shape, way);
-            snprintf(name, sizeof name, "%s%s..", places[place], patterns[k]);
+            make_way(patterns[k].letters, place, way);
+            snprintf(name, sizeof name, "%s%s", patterns[k].name, place_names[place]);
             measure_all(way, name);
         }
 }

@@ -3,7 +3,6 @@ ghost use mathlib.Core.Path.{_≡_};
 ghost use Prim.Native.Nat.{_+_, _<_};
 ghost use lib.ListN.{length, getD};
 ghost use Rattle.nodes.specs.Table.{bound-at};
-ghost use Rattle.nodes.specs.Nots.{NoNot};
 ghost use Rattle.instances.specs.Tree.{then-node, beside-node, range-node, tree-at};
 ghost use Rattle.instances.specs.Calls.{Fit, SlotFit, WalkFit, PartFit, Advanced, PositionAdvanced, PositionsWalked, PartAdvanced};
 use crate::cells::load_outcome;
@@ -226,8 +225,8 @@ fn advance_beside(
     outcomes::both(x, y)
 }
 
-// Moves the formula at word i, which is no not, started at s, to tick t.
-fn advance_operand(
+// Moves the formula at word i, started at s, to tick t. A run of nots has the run of what stands under it, and is taken in one call.
+fn advance(
     nodes: &[u32],
     left: usize,
     i: usize,
@@ -238,13 +237,18 @@ fn advance_operand(
     s: u64,
     t: u64,
 ) -> Outcome
-    requires { ⌜ NoNot left (now nodes) i × Fit (tree-at left (now nodes) i) env t (length (now run)) ⌝ }
+    requires { ⌜ Fit (tree-at left (now nodes) i) env t (length (now run)) ⌝ }
     ensures { λ r. ⌜ Advanced (tree-at left (now (nodes .entry)) i) (now (history .entry)) flag env s t (now (run .entry)) r (now (run .exit)) ⌝ }
 {
     if left == 0 {
         return flag_at(env, 0, 0, s);
     }
     let code = node_word(nodes, i, CODE);
+    if code == 2 {
+        let u = skip_nots(nodes, left, i);
+        let o = advance(nodes, u.left, u.i, run, history, flag, env, s, t);
+        return outcomes::opposite_if(u.odd, o);
+    }
     if code == 3 {
         let g = node_word(nodes, i, SECOND_PART) as usize;
         return advance_then(nodes, left - 1, i + 12, g, run, history, flag, env, s, t);
@@ -260,24 +264,4 @@ fn advance_operand(
     let v = node_word(nodes, i, VARIABLE) as usize;
     let k = node_word(nodes, i, FLAG);
     flag_at(env, v, k, s)
-}
-
-// Moves the formula at word i, started at s, to tick t. A run of nots has the run of what stands under it, and takes no call of its own.
-fn advance(
-    nodes: &[u32],
-    left: usize,
-    i: usize,
-    run: &mut [u32],
-    history: &[u8],
-    flag: u8,
-    env: Env,
-    s: u64,
-    t: u64,
-) -> Outcome
-    requires { ⌜ Fit (tree-at left (now nodes) i) env t (length (now run)) ⌝ }
-    ensures { λ r. ⌜ Advanced (tree-at left (now (nodes .entry)) i) (now (history .entry)) flag env s t (now (run .entry)) r (now (run .exit)) ⌝ }
-{
-    let u = skip_nots(nodes, left, i);
-    let o = advance_operand(nodes, u.left, u.i, run, history, flag, env, s, t);
-    outcomes::opposite_if(u.odd, o)
 }

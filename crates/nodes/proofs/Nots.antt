@@ -1,5 +1,5 @@
 -- Laws of a run of nots.
-use Prim.Native.Nat.{ℕ, zero, suc, _+_, _≤_}
+use Prim.Native.Nat.{ℕ, zero, suc, _+_, _≤_, _<_}
 use mathlib.Core.Path.{_≡_, refl, sym, ap, _∙_, subst}
 use mathlib.Core.Bool.{Bool, not}
 use mathlib.Core.List.{List}
@@ -33,9 +33,13 @@ module _ (ns : List ℕ) where
     | no c ↦ subst (λ (x : Operand). P (x .odd) (x .left) (x .i)) (e ∙ at-other left i odd c)
   ]
 
-  -- Under the nots no more formulas are left than above, and no not stands there.
+  -- Under the nots no more formulas are left than above, fewer where a not stands; and no not stands there.
   pub nots-left : (left i : ℕ) (odd : Bool) (u : Operand) → u ≡ past-nots left ns i odd → u .left ≤ left
   nots-left left i odd u e = over-nots (λ o n j. u .left ≤ n) (λ o n j c h. omega arith) left i odd u e (omega arith)
+
+  pub nots-less : (left i : ℕ) (odd : Bool) (u : Operand) → u ≡ past-nots left ns i odd → (left ≡ 0 → ⊥) → getD ns (i + 0) 0 ≡ 2 → u .left < left
+  nots-less zero i odd u e h c = absurd (h refl)
+  nots-less (suc left) i odd u e h c = omega (arith, nots-left left (i + 12) (not odd) u (e ∙ at-not left i odd c))
 
   pub nots-end : (left i : ℕ) (odd : Bool) (u : Operand) → u ≡ past-nots left ns i odd → NoNot (u .left) ns (u .i)
   nots-end zero i odd u e h = absurd (h (ap (λ (x : Operand). x .left) (e ∙ at-end i odd)))

@@ -9,7 +9,7 @@ use borrow.Rule.Slice.PartMut.{same-len-mid, putMid}
 use borrow.Author.Needs.{needs}
 use Rattle.nodes.specs.Table.{bound-at}
 use Rattle.nodes.proofs.Nodes.{word-in}
-use Rattle.nodes.proofs.Nots.{nots-left, nots-end}
+use Rattle.nodes.proofs.Nots.{nots-less}
 use Rattle.ranges.specs.Spans.{positions-of}
 use Rattle.instances.specs.Tree.{Tree, then-node, beside-node, tree-at}
 use Rattle.instances.specs.Run.{own-tick}
@@ -30,28 +30,25 @@ use borrow.Fn.Kinds.{In}
 use borrow.Fn.PlainCycle.{Measures, is, falls, and}
 use Rattle.instances.proofs.advance.advance.Reads as advance
 use Rattle.instances.proofs.advance.advance.Kinds as advance-kinds
-use Rattle.instances.proofs.advance.+advance+advance_beside+advance_operand+advance_part+advance_position+advance_range+advance_then+walk_positions.Lts-advance as advance-lts
+use Rattle.instances.proofs.advance.+advance+advance_beside+advance_part+advance_position+advance_range+advance_then+walk_positions.Lts-advance as advance-lts
 use Rattle.instances.proofs.advance.advance_beside.Reads as advance-beside
 use Rattle.instances.proofs.advance.advance_beside.Kinds as advance-beside-kinds
-use Rattle.instances.proofs.advance.+advance+advance_beside+advance_operand+advance_part+advance_position+advance_range+advance_then+walk_positions.Lts-advance_beside as advance-beside-lts
-use Rattle.instances.proofs.advance.advance_operand.Reads as advance-operand
-use Rattle.instances.proofs.advance.advance_operand.Kinds as advance-operand-kinds
-use Rattle.instances.proofs.advance.+advance+advance_beside+advance_operand+advance_part+advance_position+advance_range+advance_then+walk_positions.Lts-advance_operand as advance-operand-lts
+use Rattle.instances.proofs.advance.+advance+advance_beside+advance_part+advance_position+advance_range+advance_then+walk_positions.Lts-advance_beside as advance-beside-lts
 use Rattle.instances.proofs.advance.advance_part.Reads as advance-part
 use Rattle.instances.proofs.advance.advance_part.Kinds as advance-part-kinds
-use Rattle.instances.proofs.advance.+advance+advance_beside+advance_operand+advance_part+advance_position+advance_range+advance_then+walk_positions.Lts-advance_part as advance-part-lts
+use Rattle.instances.proofs.advance.+advance+advance_beside+advance_part+advance_position+advance_range+advance_then+walk_positions.Lts-advance_part as advance-part-lts
 use Rattle.instances.proofs.advance.advance_position.Reads as advance-position
 use Rattle.instances.proofs.advance.advance_position.Kinds as advance-position-kinds
-use Rattle.instances.proofs.advance.+advance+advance_beside+advance_operand+advance_part+advance_position+advance_range+advance_then+walk_positions.Lts-advance_position as advance-position-lts
+use Rattle.instances.proofs.advance.+advance+advance_beside+advance_part+advance_position+advance_range+advance_then+walk_positions.Lts-advance_position as advance-position-lts
 use Rattle.instances.proofs.advance.advance_range.Reads as advance-range
 use Rattle.instances.proofs.advance.advance_range.Kinds as advance-range-kinds
-use Rattle.instances.proofs.advance.+advance+advance_beside+advance_operand+advance_part+advance_position+advance_range+advance_then+walk_positions.Lts-advance_range as advance-range-lts
+use Rattle.instances.proofs.advance.+advance+advance_beside+advance_part+advance_position+advance_range+advance_then+walk_positions.Lts-advance_range as advance-range-lts
 use Rattle.instances.proofs.advance.advance_then.Reads as advance-then
 use Rattle.instances.proofs.advance.advance_then.Kinds as advance-then-kinds
-use Rattle.instances.proofs.advance.+advance+advance_beside+advance_operand+advance_part+advance_position+advance_range+advance_then+walk_positions.Lts-advance_then as advance-then-lts
+use Rattle.instances.proofs.advance.+advance+advance_beside+advance_part+advance_position+advance_range+advance_then+walk_positions.Lts-advance_then as advance-then-lts
 use Rattle.instances.proofs.advance.walk_positions.Reads as walk-positions
 use Rattle.instances.proofs.advance.walk_positions.Kinds as walk-positions-kinds
-use Rattle.instances.proofs.advance.+advance+advance_beside+advance_operand+advance_part+advance_position+advance_range+advance_then+walk_positions.Lts-walk_positions as walk-positions-lts
+use Rattle.instances.proofs.advance.+advance+advance_beside+advance_part+advance_position+advance_range+advance_then+walk_positions.Lts-walk_positions as walk-positions-lts
 use Rattle.instances.proofs.advance.wide.Reads as wide-reads
 use Rattle.instances.proofs.cells.load_outcome.Reads as load-outcome-reads
 use Rattle.instances.proofs.cells.store_outcome.Reads as store-outcome-reads
@@ -68,32 +65,29 @@ use Rattle.outcomes.proofs.later.Reads as later-reads
 use Rattle.outcomes.proofs.opposite_if.Reads as opposite-if-reads
 use Rattle.ranges.proofs.plan_up_to.Reads as plan-up-to-reads
 use Rattle.ranges.proofs.range_at.Reads as range-at-reads
-use Rattle.instances.proofs.advance.+advance+advance_beside+advance_operand+advance_part+advance_position+advance_range+advance_then+walk_positions.{statement}
-use Rattle.instances.proofs.advance.+advance+advance_beside+advance_operand+advance_part+advance_position+advance_range+advance_then+walk_positions.Tie.{close}
+use Rattle.instances.proofs.advance.+advance+advance_beside+advance_part+advance_position+advance_range+advance_then+walk_positions.{statement}
+use Rattle.instances.proofs.advance.+advance+advance_beside+advance_part+advance_position+advance_range+advance_then+walk_positions.Tie.{close}
 
 abbrev μ-advance : Measures 3 advance-kinds.ps ℕ
-μ-advance κs a = 8 * (a .1 .0) + 1
+μ-advance κs a = 8 * (a .1 .0)
 
 abbrev μ-advance-beside : Measures 3 advance-beside-kinds.ps ℕ
-μ-advance-beside κs a = 8 * (a .1 .0) + 4
-
-abbrev μ-advance-operand : Measures 3 advance-operand-kinds.ps ℕ
-μ-advance-operand κs a = 8 * (a .1 .0)
+μ-advance-beside κs a = 8 * (a .1 .0) + 3
 
 abbrev μ-advance-part : Measures 3 advance-part-kinds.ps ℕ
-μ-advance-part κs a = 8 * (a .1 .0) + 2
+μ-advance-part κs a = 8 * (a .1 .0) + 1
 
 abbrev μ-advance-position : Measures 3 advance-position-kinds.ps ℕ
-μ-advance-position κs a = 8 * (a .1 .0) + 3
+μ-advance-position κs a = 8 * (a .1 .0) + 2
 
 abbrev μ-advance-range : Measures 3 advance-range-kinds.ps ℕ
-μ-advance-range κs a = 8 * (a .1 .0) + 5
+μ-advance-range κs a = 8 * (a .1 .0) + 4
 
 abbrev μ-advance-then : Measures 3 advance-then-kinds.ps ℕ
-μ-advance-then κs a = 8 * (a .1 .0) + 4
+μ-advance-then κs a = 8 * (a .1 .0) + 3
 
 abbrev μ-walk-positions : Measures 3 walk-positions-kinds.ps ℕ
-μ-walk-positions κs a = 8 * (a .1 .0) + 4
+μ-walk-positions κs a = 8 * (a .1 .0) + 3
 
 abbrev advance-at : ℕ → In 3 advance-kinds.ps
 advance-at t = and 3 advance-kinds.ps (is 3 advance-kinds.ps μ-advance t) advance.Pre
@@ -116,22 +110,6 @@ advance-beside-below t =
     advance-beside-kinds.ps
     (falls 3 advance-beside-kinds.ps _<_ μ-advance-beside t)
     advance-beside.Pre
-
-abbrev advance-operand-at : ℕ → In 3 advance-operand-kinds.ps
-advance-operand-at t =
-    and
-    3
-    advance-operand-kinds.ps
-    (is 3 advance-operand-kinds.ps μ-advance-operand t)
-    advance-operand.Pre
-
-abbrev advance-operand-below : ℕ → In 3 advance-operand-kinds.ps
-advance-operand-below t =
-    and
-    3
-    advance-operand-kinds.ps
-    (falls 3 advance-operand-kinds.ps _<_ μ-advance-operand t)
-    advance-operand.Pre
 
 abbrev advance-part-at : ℕ → In 3 advance-part-kinds.ps
 advance-part-at t =
@@ -202,13 +180,10 @@ walk-positions-below t =
     walk-positions.Pre
 
 abbrev advance-claims : ℕ → advance-lts.Claims
-advance-claims t = (skip-nots-reads.Asked, skip-nots-reads.Learnt, advance-operand-below t, advance-operand.Post, opposite-if-reads.Asked, opposite-if-reads.Learnt)
+advance-claims t = (flag-at-reads.Asked, flag-at-reads.Learnt, node-word-reads.Asked, node-word-reads.Learnt, skip-nots-reads.Asked, skip-nots-reads.Learnt, advance-below t, advance.Post, opposite-if-reads.Asked, opposite-if-reads.Learnt, advance-then-below t, advance-then.Post, advance-beside-below t, advance-beside.Post, advance-range-below t, advance-range.Post)
 
 abbrev advance-beside-claims : ℕ → advance-beside-lts.Claims
 advance-beside-claims t = (advance-part-below t, advance-part.Post, both-reads.Asked, both-reads.Learnt)
-
-abbrev advance-operand-claims : ℕ → advance-operand-lts.Claims
-advance-operand-claims t = (flag-at-reads.Asked, flag-at-reads.Learnt, node-word-reads.Asked, node-word-reads.Learnt, advance-then-below t, advance-then.Post, advance-beside-below t, advance-beside.Post, advance-range-below t, advance-range.Post)
 
 abbrev advance-part-claims : ℕ → advance-part-lts.Claims
 advance-part-claims t = (own-tick-reads.Asked, own-tick-reads.Learnt, load-outcome-reads.Asked, load-outcome-reads.Learnt, advance-below t, advance.Post, store-outcome-reads.Asked, store-outcome-reads.Learnt)
@@ -225,19 +200,45 @@ advance-then-claims t = (advance-part-below t, advance-part.Post, advance-below 
 abbrev walk-positions-claims : ℕ → walk-positions-lts.Claims
 walk-positions-claims t = (advance-position-below t, advance-position.Post, both-reads.Asked, both-reads.Learnt)
 
+advance-flag-at-requires : (t : ℕ) → advance-lts.Need-flag-at-requires (advance-claims t) (advance-at t) advance.Post
+advance-flag-at-requires t c κs = omega arith
+
+advance-returns : (t : ℕ) → advance-lts.Need-returns (advance-claims t) (advance-at t) advance.Post
+advance-returns measure c =
+    let s₀ = c .before .before .before .before .before in
+    let nodes = s₀ .args .nodes .now in
+    let run = s₀ .args .run .now in
+    let hist = s₀ .args .history .now in
+    let left = s₀ .args .left in
+    let i = s₀ .args .i in
+    let b = s₀ .args .flag in
+    let env = s₀ .args .env in
+    let s = s₀ .args .s in
+    let t = s₀ .args .t in
+    let at-if1 = c .before .if1 in
+    let at-flag-at = c .flag-at in
+    let is = is-none nodes i left (at-if1 .taken) in
+    let fit = subst (λ (G : Tree). Fit G env t (length run)) is (s₀ .pre .1) in
+    subst (λ (G : Tree). Advanced G hist b env s t run (at-flag-at .result) run) (sym is) (flag-of 0 0 (at-flag-at .result) (fit-flag fit) (at-flag-at .ensures))
+
+advance-node-word-requires : (t : ℕ) → advance-lts.Need-node-word-requires (advance-claims t) (advance-at t) advance.Post
+advance-node-word-requires t c κs = search needs
+
 advance-skip-nots-requires : (t : ℕ) → advance-lts.Need-skip-nots-requires (advance-claims t) (advance-at t) advance.Post
 advance-skip-nots-requires t c κs = search needs
 
-advance-advance-operand-requires : (t : ℕ) → advance-lts.Need-advance-operand-requires (advance-claims t) (advance-at t) advance.Post
-advance-advance-operand-requires measure c κs =
-    let s₀ = c .before .before .before .before .before in
+advance-advance-requires : (t : ℕ) → advance-lts.Need-advance-requires (advance-claims t) (advance-at t) advance.Post
+advance-advance-requires measure c κs =
+    let s₀ = c .before .before .before .before .before .before .before .before in
     let nodes = s₀ .args .nodes .now in
     let left = s₀ .args .left in
     let i = s₀ .args .i in
+    let at-if1 = c .before .before .before .before .if1 in
+    let at-node-word = c .before .before .before .node-word in
+    let at-if2 = c .before .before .if2 in
     let at-skip-nots = c .before .skip-nots in
     let u = at-skip-nots .result in
-    let is = at-skip-nots .ensures in
-    (omega (arith, s₀ .pre .0, nots-left nodes left i false u is), (nots-end nodes left i false u is, fit-nots nodes left i u is (s₀ .pre .1)))
+    (omega (arith, s₀ .pre .0, nots-less nodes left i false u (at-skip-nots .ensures) (at-if1 .left) (sym (at-node-word .ensures) ∙ at-if2 .taken)), fit-nots nodes left i u (at-skip-nots .ensures) (s₀ .pre .1))
 
 advance-opposite-if-requires : (t : ℕ) → advance-lts.Need-opposite-if-requires (advance-claims t) (advance-at t) advance.Post
 advance-opposite-if-requires t c κs = search needs
@@ -245,13 +246,253 @@ advance-opposite-if-requires t c κs = search needs
 advance-same-length : (t : ℕ) → advance-lts.Need-same-length (advance-claims t) (advance-at t) advance.Post
 advance-same-length t c = search needs
 
-advance-returns : (t : ℕ) → advance-lts.Need-returns (advance-claims t) (advance-at t) advance.Post
-advance-returns measure c =
-    let s₀ = c .before .before .before .before .before .before .before .before .before in
+advance-returns-2 : (t : ℕ) → advance-lts.Need-returns-2 (advance-claims t) (advance-at t) advance.Post
+advance-returns-2 measure c =
+    let s₀ = c .before .before .before .before .before .before .before .before .before .before .before .before in
     let at-skip-nots = c .before .before .before .before .before .skip-nots in
-    let at-advance-operand = c .before .before .before .advance-operand in
+    let at-advance = c .before .before .before .advance in
     let at-opposite-if = c .opposite-if in
-    nots-of (s₀ .args .nodes .now) (s₀ .args .left) (s₀ .args .i) (at-skip-nots .result) (at-skip-nots .ensures) (at-advance-operand .result) (at-opposite-if .result) (at-advance-operand .last .1 .1 .1 .0) (at-advance-operand .ensures) (at-opposite-if .ensures)
+    nots-of (s₀ .args .nodes .now) (s₀ .args .left) (s₀ .args .i) (at-skip-nots .result) (at-skip-nots .ensures) (at-advance .result) (at-opposite-if .result) (at-advance .last .1 .1 .1 .0) (at-advance .ensures) (at-opposite-if .ensures)
+
+advance-node-word-requires-2 : (t : ℕ) → advance-lts.Need-node-word-requires-2 (advance-claims t) (advance-at t) advance.Post
+advance-node-word-requires-2 t c κs = search needs
+
+advance-cast-g : (t : ℕ) → advance-lts.Need-cast-g (advance-claims t) (advance-at t) advance.Post
+advance-cast-g t c = search needs
+
+advance-sub-advance-then : (t : ℕ) → advance-lts.Need-sub-advance-then (advance-claims t) (advance-at t) advance.Post
+advance-sub-advance-then t c = search needs
+
+advance-add-advance-then : (t : ℕ) → advance-lts.Need-add-advance-then (advance-claims t) (advance-at t) advance.Post
+advance-add-advance-then measure c =
+    let s₀ = c .before .before .before .before .before .before .before .before in
+    let nodes = s₀ .args .nodes .now in
+    let i = s₀ .args .i in
+    let at-node-word = c .before .before .before .node-word in
+    let at-if3 = c .before .if3 in
+    omega (arith, word-in nodes i 2 (sym (at-node-word .ensures) ∙ at-if3 .taken), s₀ .good .0)
+
+advance-advance-then-requires : (t : ℕ) → advance-lts.Need-advance-then-requires (advance-claims t) (advance-at t) advance.Post
+advance-advance-then-requires measure c κs =
+    let s₀ = c .before .before .before .before .before .before .before .before .before in
+    let nodes = s₀ .args .nodes .now in
+    let run = s₀ .args .run .now in
+    let left = s₀ .args .left in
+    let i = s₀ .args .i in
+    let env = s₀ .args .env in
+    let t = s₀ .args .t in
+    let at-if1 = c .before .before .before .before .before .if1 in
+    let at-node-word = c .before .before .before .before .node-word in
+    let at-if2 = c .before .before .before .if2 in
+    let at-if3 = c .before .before .if3 in
+    let at-node-word2 = c .before .node-word2 in
+    let is = is-then nodes i left (at-if1 .left) (λ x. at-if2 .left (at-node-word .ensures ∙ x)) (sym (at-node-word .ensures) ∙ at-if3 .taken) in
+    let fit = subst (λ (G : Tree). Fit G env t (length run)) is (s₀ .pre .1) in
+    (omega (arith, s₀ .pre .0, (at-if1 .left)), subst (λ (n : ℕ). Fit (then-node (tree-at (left - 1) nodes (i + 12)) (tree-at (left - 1) nodes n)) env t (length run)) (sym (at-node-word2 .ensures)) fit)
+
+advance-same-length-2 : (t : ℕ) → advance-lts.Need-same-length-2 (advance-claims t) (advance-at t) advance.Post
+advance-same-length-2 t c = search needs
+
+advance-returns-3 : (t : ℕ) → advance-lts.Need-returns-3 (advance-claims t) (advance-at t) advance.Post
+advance-returns-3 measure c =
+    let s₀ = c .before .before .before .before .before .before .before .before .before .before .before .before in
+    let nodes = s₀ .args .nodes .now in
+    let run = s₀ .args .run .now in
+    let hist = s₀ .args .history .now in
+    let left = s₀ .args .left in
+    let i = s₀ .args .i in
+    let b = s₀ .args .flag in
+    let env = s₀ .args .env in
+    let s = s₀ .args .s in
+    let t = s₀ .args .t in
+    let at-if1 = c .before .before .before .before .before .before .before .before .if1 in
+    let at-node-word = c .before .before .before .before .before .before .before .node-word in
+    let at-if2 = c .before .before .before .before .before .before .if2 in
+    let at-if3 = c .before .before .before .before .before .if3 in
+    let at-node-word2 = c .before .before .before .before .node-word2 in
+    let at-advance-then = c .before .before .advance-then in
+    let is = is-then nodes i left (at-if1 .left) (λ x. at-if2 .left (at-node-word .ensures ∙ x)) (sym (at-node-word .ensures) ∙ at-if3 .taken) in
+    subst (λ (G : Tree). Advanced G hist b env s t run (at-advance-then .result) (at-advance-then .last .1 .1 .1 .1 .0)) (sym is)
+    (subst (λ (n : ℕ). Advanced (then-node (tree-at (left - 1) nodes (i + 12)) (tree-at (left - 1) nodes n)) hist b env s t run (at-advance-then .result) (at-advance-then .last .1 .1 .1 .1 .0)) (at-node-word2 .ensures) (at-advance-then .ensures))
+
+advance-node-word-requires-3 : (t : ℕ) → advance-lts.Need-node-word-requires-3 (advance-claims t) (advance-at t) advance.Post
+advance-node-word-requires-3 t c κs = search needs
+
+advance-cast-g-2 : (t : ℕ) → advance-lts.Need-cast-g-2 (advance-claims t) (advance-at t) advance.Post
+advance-cast-g-2 t c = search needs
+
+advance-node-word-requires-4 : (t : ℕ) → advance-lts.Need-node-word-requires-4 (advance-claims t) (advance-at t) advance.Post
+advance-node-word-requires-4 t c κs = search needs
+
+advance-cast-w : (t : ℕ) → advance-lts.Need-cast-w (advance-claims t) (advance-at t) advance.Post
+advance-cast-w t c = search needs
+
+advance-sub-advance-beside : (t : ℕ) → advance-lts.Need-sub-advance-beside (advance-claims t) (advance-at t) advance.Post
+advance-sub-advance-beside t c = search needs
+
+advance-add-advance-beside : (t : ℕ) → advance-lts.Need-add-advance-beside (advance-claims t) (advance-at t) advance.Post
+advance-add-advance-beside measure c =
+    let s₀ = c .before .before .before .before .before .before .before .before .before .before in
+    let nodes = s₀ .args .nodes .now in
+    let i = s₀ .args .i in
+    let at-node-word = c .before .before .before .before .before .node-word in
+    let at-if4 = c .before .before .if4 in
+    omega (arith, word-in nodes i 3 (sym (at-node-word .ensures) ∙ at-if4 .taken), s₀ .good .0)
+
+advance-advance-beside-requires : (t : ℕ) → advance-lts.Need-advance-beside-requires (advance-claims t) (advance-at t) advance.Post
+advance-advance-beside-requires measure c κs =
+    let s₀ = c .before .before .before .before .before .before .before .before .before .before .before in
+    let nodes = s₀ .args .nodes .now in
+    let run = s₀ .args .run .now in
+    let left = s₀ .args .left in
+    let i = s₀ .args .i in
+    let env = s₀ .args .env in
+    let t = s₀ .args .t in
+    let at-if1 = c .before .before .before .before .before .before .before .if1 in
+    let at-node-word = c .before .before .before .before .before .before .node-word in
+    let at-if2 = c .before .before .before .before .before .if2 in
+    let at-if3 = c .before .before .before .before .if3 in
+    let at-if4 = c .before .before .before .if4 in
+    let at-node-word3 = c .before .before .node-word3 in
+    let at-node-word4 = c .before .node-word4 in
+    let is = is-beside nodes i left (at-if1 .left) (λ x. at-if2 .left (at-node-word .ensures ∙ x)) (λ x. at-if3 .left (at-node-word .ensures ∙ x)) (sym (at-node-word .ensures) ∙ at-if4 .taken) in
+    let fit = subst (λ (G : Tree). Fit G env t (length run)) is (s₀ .pre .1) in (
+      omega (arith, s₀ .pre .0, (at-if1 .left)),
+      subst (λ (n : ℕ). Fit (beside-node n (tree-at (left - 1) nodes (i + 12)) (tree-at (left - 1) nodes (at-node-word3 .result))) env t (length run)) (sym (at-node-word4 .ensures))
+          (subst (λ (m : ℕ). Fit (beside-node (getD nodes (i + 10) 0) (tree-at (left - 1) nodes (i + 12)) (tree-at (left - 1) nodes m)) env t (length run)) (sym (at-node-word3 .ensures)) fit),
+    )
+
+advance-same-length-3 : (t : ℕ) → advance-lts.Need-same-length-3 (advance-claims t) (advance-at t) advance.Post
+advance-same-length-3 t c = search needs
+
+advance-returns-4 : (t : ℕ) → advance-lts.Need-returns-4 (advance-claims t) (advance-at t) advance.Post
+advance-returns-4 measure c =
+    let s₀ = c .before .before .before .before .before .before .before .before .before .before .before .before .before .before in
+    let nodes = s₀ .args .nodes .now in
+    let run = s₀ .args .run .now in
+    let hist = s₀ .args .history .now in
+    let left = s₀ .args .left in
+    let i = s₀ .args .i in
+    let b = s₀ .args .flag in
+    let env = s₀ .args .env in
+    let s = s₀ .args .s in
+    let t = s₀ .args .t in
+    let at-if1 = c .before .before .before .before .before .before .before .before .before .before .if1 in
+    let at-node-word = c .before .before .before .before .before .before .before .before .before .node-word in
+    let at-if2 = c .before .before .before .before .before .before .before .before .if2 in
+    let at-if3 = c .before .before .before .before .before .before .before .if3 in
+    let at-if4 = c .before .before .before .before .before .before .if4 in
+    let at-node-word3 = c .before .before .before .before .before .node-word3 in
+    let at-node-word4 = c .before .before .before .before .node-word4 in
+    let at-advance-beside = c .before .before .advance-beside in
+    let is = is-beside nodes i left (at-if1 .left) (λ x. at-if2 .left (at-node-word .ensures ∙ x)) (λ x. at-if3 .left (at-node-word .ensures ∙ x)) (sym (at-node-word .ensures) ∙ at-if4 .taken) in
+    subst (λ (G : Tree). Advanced G hist b env s t run (at-advance-beside .result) (at-advance-beside .last .1 .1 .1 .1 .1 .0)) (sym is)
+    (subst (λ (m : ℕ). Advanced (beside-node (getD nodes (i + 10) 0) (tree-at (left - 1) nodes (i + 12)) (tree-at (left - 1) nodes m)) hist b env s t run (at-advance-beside .result) (at-advance-beside .last .1 .1 .1 .1 .1 .0)) (at-node-word3 .ensures)
+    (subst (λ (n : ℕ). Advanced (beside-node n (tree-at (left - 1) nodes (i + 12)) (tree-at (left - 1) nodes (at-node-word3 .result))) hist b env s t run (at-advance-beside .result) (at-advance-beside .last .1 .1 .1 .1 .1 .0)) (at-node-word4 .ensures) (at-advance-beside .ensures)))
+
+advance-sub-advance-range : (t : ℕ) → advance-lts.Need-sub-advance-range (advance-claims t) (advance-at t) advance.Post
+advance-sub-advance-range t c = search needs
+
+advance-advance-range-requires : (t : ℕ) → advance-lts.Need-advance-range-requires (advance-claims t) (advance-at t) advance.Post
+advance-advance-range-requires measure c κs =
+    let s₀ = c .before .before .before .before .before .before .before .before .before .before in
+    let nodes = s₀ .args .nodes .now in
+    let run = s₀ .args .run .now in
+    let left = s₀ .args .left in
+    let i = s₀ .args .i in
+    let env = s₀ .args .env in
+    let t = s₀ .args .t in
+    let at-if1 = c .before .before .before .before .before .before .if1 in
+    let at-node-word = c .before .before .before .before .before .node-word in
+    let at-if2 = c .before .before .before .before .if2 in
+    let at-if3 = c .before .before .before .if3 in
+    let at-if4 = c .before .before .if4 in
+    let at-if5 = c .before .if5 in
+    let is = is-range nodes i left (at-if1 .left) (λ x. at-if2 .left (at-node-word .ensures ∙ x)) (λ x. at-if3 .left (at-node-word .ensures ∙ x)) (λ x. at-if4 .left (at-node-word .ensures ∙ x)) (sym (at-node-word .ensures) ∙ at-if5 .taken) in
+    let fit = subst (λ (G : Tree). Fit G env t (length run)) is (s₀ .pre .1) in
+    (omega (arith, s₀ .pre .0, (at-if1 .left)), (word-in nodes i 4 (sym (at-node-word .ensures) ∙ at-if5 .taken), fit))
+
+advance-same-length-4 : (t : ℕ) → advance-lts.Need-same-length-4 (advance-claims t) (advance-at t) advance.Post
+advance-same-length-4 t c = search needs
+
+advance-returns-5 : (t : ℕ) → advance-lts.Need-returns-5 (advance-claims t) (advance-at t) advance.Post
+advance-returns-5 measure c =
+    let s₀ = c .before .before .before .before .before .before .before .before .before .before .before .before .before in
+    let nodes = s₀ .args .nodes .now in
+    let run = s₀ .args .run .now in
+    let hist = s₀ .args .history .now in
+    let left = s₀ .args .left in
+    let i = s₀ .args .i in
+    let b = s₀ .args .flag in
+    let env = s₀ .args .env in
+    let s = s₀ .args .s in
+    let t = s₀ .args .t in
+    let at-if1 = c .before .before .before .before .before .before .before .before .before .if1 in
+    let at-node-word = c .before .before .before .before .before .before .before .before .node-word in
+    let at-if2 = c .before .before .before .before .before .before .before .if2 in
+    let at-if3 = c .before .before .before .before .before .before .if3 in
+    let at-if4 = c .before .before .before .before .before .if4 in
+    let at-if5 = c .before .before .before .before .if5 in
+    let at-advance-range = c .before .before .advance-range in
+    let is = is-range nodes i left (at-if1 .left) (λ x. at-if2 .left (at-node-word .ensures ∙ x)) (λ x. at-if3 .left (at-node-word .ensures ∙ x)) (λ x. at-if4 .left (at-node-word .ensures ∙ x)) (sym (at-node-word .ensures) ∙ at-if5 .taken) in
+    subst (λ (G : Tree). Advanced G hist b env s t run (at-advance-range .result) (at-advance-range .last .1 .1 .1 .0)) (sym is)
+    (at-advance-range .ensures)
+
+advance-node-word-requires-5 : (t : ℕ) → advance-lts.Need-node-word-requires-5 (advance-claims t) (advance-at t) advance.Post
+advance-node-word-requires-5 t c κs = search needs
+
+advance-cast-v : (t : ℕ) → advance-lts.Need-cast-v (advance-claims t) (advance-at t) advance.Post
+advance-cast-v t c = search needs
+
+advance-node-word-requires-6 : (t : ℕ) → advance-lts.Need-node-word-requires-6 (advance-claims t) (advance-at t) advance.Post
+advance-node-word-requires-6 t c κs = search needs
+
+advance-flag-at-requires-2 : (t : ℕ) → advance-lts.Need-flag-at-requires-2 (advance-claims t) (advance-at t) advance.Post
+advance-flag-at-requires-2 measure c κs =
+    let s₀ = c .before .before .before .before .before .before .before .before .before .before .before in
+    let nodes = s₀ .args .nodes .now in
+    let run = s₀ .args .run .now in
+    let left = s₀ .args .left in
+    let i = s₀ .args .i in
+    let env = s₀ .args .env in
+    let t = s₀ .args .t in
+    let at-if1 = c .before .before .before .before .before .before .before .if1 in
+    let at-node-word = c .before .before .before .before .before .before .node-word in
+    let at-if2 = c .before .before .before .before .before .if2 in
+    let at-if3 = c .before .before .before .before .if3 in
+    let at-if4 = c .before .before .before .if4 in
+    let at-if5 = c .before .before .if5 in
+    let at-node-word5 = c .before .node-word5 in
+    let is = is-flag nodes i left (at-if1 .left) (λ x. at-if2 .left (at-node-word .ensures ∙ x)) (λ x. at-if3 .left (at-node-word .ensures ∙ x)) (λ x. at-if4 .left (at-node-word .ensures ∙ x)) (λ x. at-if5 .left (at-node-word .ensures ∙ x)) in
+    let fit = subst (λ (G : Tree). Fit G env t (length run)) is (s₀ .pre .1) in
+    omega (arith, fit-flag fit, s₀ .pre .1 .depth, at-node-word5 .ensures)
+
+advance-returns-6 : (t : ℕ) → advance-lts.Need-returns-6 (advance-claims t) (advance-at t) advance.Post
+advance-returns-6 measure c =
+    let s₀ = c .before .before .before .before .before .before .before .before .before .before .before .before in
+    let nodes = s₀ .args .nodes .now in
+    let run = s₀ .args .run .now in
+    let hist = s₀ .args .history .now in
+    let left = s₀ .args .left in
+    let i = s₀ .args .i in
+    let b = s₀ .args .flag in
+    let env = s₀ .args .env in
+    let s = s₀ .args .s in
+    let t = s₀ .args .t in
+    let at-if1 = c .before .before .before .before .before .before .before .before .if1 in
+    let at-node-word = c .before .before .before .before .before .before .before .node-word in
+    let at-if2 = c .before .before .before .before .before .before .if2 in
+    let at-if3 = c .before .before .before .before .before .if3 in
+    let at-if4 = c .before .before .before .before .if4 in
+    let at-if5 = c .before .before .before .if5 in
+    let at-node-word5 = c .before .before .node-word5 in
+    let at-node-word6 = c .before .node-word6 in
+    let at-flag-at2 = c .flag-at2 in
+    let is = is-flag nodes i left (at-if1 .left) (λ x. at-if2 .left (at-node-word .ensures ∙ x)) (λ x. at-if3 .left (at-node-word .ensures ∙ x)) (λ x. at-if4 .left (at-node-word .ensures ∙ x)) (λ x. at-if5 .left (at-node-word .ensures ∙ x)) in
+    let fit = subst (λ (G : Tree). Fit G env t (length run)) is (s₀ .pre .1) in
+    subst (λ (G : Tree). Advanced G hist b env s t run (at-flag-at2 .result) run) (sym is)
+    (flag-of (getD nodes (i + 1) 0) (getD nodes (i + 2) 0) (at-flag-at2 .result) (fit-flag fit)
+    (at-flag-at2 .ensures ∙ ap (λ (n : ℕ). flagged env n (at-node-word6 .result) s) (at-node-word5 .ensures) ∙ ap (λ (n : ℕ). flagged env (getD nodes (i + 1) 0) n s) (at-node-word6 .ensures)))
 
 advance-beside-add-m : (t : ℕ) → advance-beside-lts.Need-add-m (advance-beside-claims t) (advance-beside-at t) advance-beside.Post
 advance-beside-add-m measure c =
@@ -282,262 +523,6 @@ advance-beside-returns measure c =
     let at-advance-part2 = c .before .before .before .advance-part2 in
     let at-both = c .both in
     beside-of (at-advance-part .last .1 .1 .1 .0) (at-advance-part2 .last .1 .1 .1 .0) (at-advance-part .result) (at-advance-part2 .result) (at-both .result) (fit-left (s₀ .pre .1) .end) (at-advance-part .ensures) (at-advance-part2 .ensures) (at-both .ensures)
-
-advance-operand-flag-at-requires : (t : ℕ) → advance-operand-lts.Need-flag-at-requires (advance-operand-claims t) (advance-operand-at t) advance-operand.Post
-advance-operand-flag-at-requires t c κs = omega arith
-
-advance-operand-returns : (t : ℕ) → advance-operand-lts.Need-returns (advance-operand-claims t) (advance-operand-at t) advance-operand.Post
-advance-operand-returns measure c =
-    let s₀ = c .before .before .before .before .before in
-    let nodes = s₀ .args .nodes .now in
-    let run = s₀ .args .run .now in
-    let hist = s₀ .args .history .now in
-    let left = s₀ .args .left in
-    let i = s₀ .args .i in
-    let b = s₀ .args .flag in
-    let env = s₀ .args .env in
-    let s = s₀ .args .s in
-    let t = s₀ .args .t in
-    let at-if1 = c .before .if1 in
-    let at-flag-at = c .flag-at in
-    let is = is-none nodes i left (at-if1 .taken) in
-    let fit = subst (λ (G : Tree). Fit G env t (length run)) is (s₀ .pre .1 .1) in
-    subst (λ (G : Tree). Advanced G hist b env s t run (at-flag-at .result) run) (sym is) (flag-of 0 0 (at-flag-at .result) (fit-flag fit) (at-flag-at .ensures))
-
-advance-operand-node-word-requires : (t : ℕ) → advance-operand-lts.Need-node-word-requires (advance-operand-claims t) (advance-operand-at t) advance-operand.Post
-advance-operand-node-word-requires t c κs = search needs
-
-advance-operand-node-word-requires-2 : (t : ℕ) → advance-operand-lts.Need-node-word-requires-2 (advance-operand-claims t) (advance-operand-at t) advance-operand.Post
-advance-operand-node-word-requires-2 t c κs = search needs
-
-advance-operand-cast-g : (t : ℕ) → advance-operand-lts.Need-cast-g (advance-operand-claims t) (advance-operand-at t) advance-operand.Post
-advance-operand-cast-g t c = search needs
-
-advance-operand-sub-advance-then : (t : ℕ) → advance-operand-lts.Need-sub-advance-then (advance-operand-claims t) (advance-operand-at t) advance-operand.Post
-advance-operand-sub-advance-then t c = search needs
-
-advance-operand-add-advance-then : (t : ℕ) → advance-operand-lts.Need-add-advance-then (advance-operand-claims t) (advance-operand-at t) advance-operand.Post
-advance-operand-add-advance-then measure c =
-    let s₀ = c .before .before .before .before .before .before .before in
-    let nodes = s₀ .args .nodes .now in
-    let i = s₀ .args .i in
-    let at-node-word = c .before .before .node-word in
-    let at-if2 = c .before .if2 in
-    omega (arith, word-in nodes i 2 (sym (at-node-word .ensures) ∙ at-if2 .taken), s₀ .good .0)
-
-advance-operand-advance-then-requires : (t : ℕ) → advance-operand-lts.Need-advance-then-requires (advance-operand-claims t) (advance-operand-at t) advance-operand.Post
-advance-operand-advance-then-requires measure c κs =
-    let s₀ = c .before .before .before .before .before .before .before .before in
-    let nodes = s₀ .args .nodes .now in
-    let run = s₀ .args .run .now in
-    let left = s₀ .args .left in
-    let i = s₀ .args .i in
-    let env = s₀ .args .env in
-    let t = s₀ .args .t in
-    let at-if1 = c .before .before .before .before .if1 in
-    let at-node-word = c .before .before .before .node-word in
-    let at-if2 = c .before .before .if2 in
-    let at-node-word2 = c .before .node-word2 in
-    let is = is-then nodes i left (at-if1 .left) (s₀ .pre .1 .0 (at-if1 .left)) (sym (at-node-word .ensures) ∙ at-if2 .taken) in
-    let fit = subst (λ (G : Tree). Fit G env t (length run)) is (s₀ .pre .1 .1) in
-    (omega (arith, s₀ .pre .0, (at-if1 .left)), subst (λ (n : ℕ). Fit (then-node (tree-at (left - 1) nodes (i + 12)) (tree-at (left - 1) nodes n)) env t (length run)) (sym (at-node-word2 .ensures)) fit)
-
-advance-operand-same-length : (t : ℕ) → advance-operand-lts.Need-same-length (advance-operand-claims t) (advance-operand-at t) advance-operand.Post
-advance-operand-same-length t c = search needs
-
-advance-operand-returns-2 : (t : ℕ) → advance-operand-lts.Need-returns-2 (advance-operand-claims t) (advance-operand-at t) advance-operand.Post
-advance-operand-returns-2 measure c =
-    let s₀ = c .before .before .before .before .before .before .before .before .before .before .before in
-    let nodes = s₀ .args .nodes .now in
-    let run = s₀ .args .run .now in
-    let hist = s₀ .args .history .now in
-    let left = s₀ .args .left in
-    let i = s₀ .args .i in
-    let b = s₀ .args .flag in
-    let env = s₀ .args .env in
-    let s = s₀ .args .s in
-    let t = s₀ .args .t in
-    let at-if1 = c .before .before .before .before .before .before .before .if1 in
-    let at-node-word = c .before .before .before .before .before .before .node-word in
-    let at-if2 = c .before .before .before .before .before .if2 in
-    let at-node-word2 = c .before .before .before .before .node-word2 in
-    let at-advance-then = c .before .before .advance-then in
-    let is = is-then nodes i left (at-if1 .left) (s₀ .pre .1 .0 (at-if1 .left)) (sym (at-node-word .ensures) ∙ at-if2 .taken) in
-    subst (λ (G : Tree). Advanced G hist b env s t run (at-advance-then .result) (at-advance-then .last .1 .1 .1 .1 .0)) (sym is)
-    (subst (λ (n : ℕ). Advanced (then-node (tree-at (left - 1) nodes (i + 12)) (tree-at (left - 1) nodes n)) hist b env s t run (at-advance-then .result) (at-advance-then .last .1 .1 .1 .1 .0)) (at-node-word2 .ensures) (at-advance-then .ensures))
-
-advance-operand-node-word-requires-3 : (t : ℕ) → advance-operand-lts.Need-node-word-requires-3 (advance-operand-claims t) (advance-operand-at t) advance-operand.Post
-advance-operand-node-word-requires-3 t c κs = search needs
-
-advance-operand-cast-g-2 : (t : ℕ) → advance-operand-lts.Need-cast-g-2 (advance-operand-claims t) (advance-operand-at t) advance-operand.Post
-advance-operand-cast-g-2 t c = search needs
-
-advance-operand-node-word-requires-4 : (t : ℕ) → advance-operand-lts.Need-node-word-requires-4 (advance-operand-claims t) (advance-operand-at t) advance-operand.Post
-advance-operand-node-word-requires-4 t c κs = search needs
-
-advance-operand-cast-w : (t : ℕ) → advance-operand-lts.Need-cast-w (advance-operand-claims t) (advance-operand-at t) advance-operand.Post
-advance-operand-cast-w t c = search needs
-
-advance-operand-sub-advance-beside : (t : ℕ) → advance-operand-lts.Need-sub-advance-beside (advance-operand-claims t) (advance-operand-at t) advance-operand.Post
-advance-operand-sub-advance-beside t c = search needs
-
-advance-operand-add-advance-beside : (t : ℕ) → advance-operand-lts.Need-add-advance-beside (advance-operand-claims t) (advance-operand-at t) advance-operand.Post
-advance-operand-add-advance-beside measure c =
-    let s₀ = c .before .before .before .before .before .before .before .before .before in
-    let nodes = s₀ .args .nodes .now in
-    let i = s₀ .args .i in
-    let at-node-word = c .before .before .before .before .node-word in
-    let at-if3 = c .before .before .if3 in
-    omega (arith, word-in nodes i 3 (sym (at-node-word .ensures) ∙ at-if3 .taken), s₀ .good .0)
-
-advance-operand-advance-beside-requires : (t : ℕ) → advance-operand-lts.Need-advance-beside-requires (advance-operand-claims t) (advance-operand-at t) advance-operand.Post
-advance-operand-advance-beside-requires measure c κs =
-    let s₀ = c .before .before .before .before .before .before .before .before .before .before in
-    let nodes = s₀ .args .nodes .now in
-    let run = s₀ .args .run .now in
-    let left = s₀ .args .left in
-    let i = s₀ .args .i in
-    let env = s₀ .args .env in
-    let t = s₀ .args .t in
-    let at-if1 = c .before .before .before .before .before .before .if1 in
-    let at-node-word = c .before .before .before .before .before .node-word in
-    let at-if2 = c .before .before .before .before .if2 in
-    let at-if3 = c .before .before .before .if3 in
-    let at-node-word3 = c .before .before .node-word3 in
-    let at-node-word4 = c .before .node-word4 in
-    let is = is-beside nodes i left (at-if1 .left) (s₀ .pre .1 .0 (at-if1 .left)) (λ x. at-if2 .left (at-node-word .ensures ∙ x)) (sym (at-node-word .ensures) ∙ at-if3 .taken) in
-    let fit = subst (λ (G : Tree). Fit G env t (length run)) is (s₀ .pre .1 .1) in (
-      omega (arith, s₀ .pre .0, (at-if1 .left)),
-      subst (λ (n : ℕ). Fit (beside-node n (tree-at (left - 1) nodes (i + 12)) (tree-at (left - 1) nodes (at-node-word3 .result))) env t (length run)) (sym (at-node-word4 .ensures))
-          (subst (λ (m : ℕ). Fit (beside-node (getD nodes (i + 10) 0) (tree-at (left - 1) nodes (i + 12)) (tree-at (left - 1) nodes m)) env t (length run)) (sym (at-node-word3 .ensures)) fit),
-    )
-
-advance-operand-same-length-2 : (t : ℕ) → advance-operand-lts.Need-same-length-2 (advance-operand-claims t) (advance-operand-at t) advance-operand.Post
-advance-operand-same-length-2 t c = search needs
-
-advance-operand-returns-3 : (t : ℕ) → advance-operand-lts.Need-returns-3 (advance-operand-claims t) (advance-operand-at t) advance-operand.Post
-advance-operand-returns-3 measure c =
-    let s₀ = c .before .before .before .before .before .before .before .before .before .before .before .before .before in
-    let nodes = s₀ .args .nodes .now in
-    let run = s₀ .args .run .now in
-    let hist = s₀ .args .history .now in
-    let left = s₀ .args .left in
-    let i = s₀ .args .i in
-    let b = s₀ .args .flag in
-    let env = s₀ .args .env in
-    let s = s₀ .args .s in
-    let t = s₀ .args .t in
-    let at-if1 = c .before .before .before .before .before .before .before .before .before .if1 in
-    let at-node-word = c .before .before .before .before .before .before .before .before .node-word in
-    let at-if2 = c .before .before .before .before .before .before .before .if2 in
-    let at-if3 = c .before .before .before .before .before .before .if3 in
-    let at-node-word3 = c .before .before .before .before .before .node-word3 in
-    let at-node-word4 = c .before .before .before .before .node-word4 in
-    let at-advance-beside = c .before .before .advance-beside in
-    let is = is-beside nodes i left (at-if1 .left) (s₀ .pre .1 .0 (at-if1 .left)) (λ x. at-if2 .left (at-node-word .ensures ∙ x)) (sym (at-node-word .ensures) ∙ at-if3 .taken) in
-    subst (λ (G : Tree). Advanced G hist b env s t run (at-advance-beside .result) (at-advance-beside .last .1 .1 .1 .1 .1 .0)) (sym is)
-    (subst (λ (m : ℕ). Advanced (beside-node (getD nodes (i + 10) 0) (tree-at (left - 1) nodes (i + 12)) (tree-at (left - 1) nodes m)) hist b env s t run (at-advance-beside .result) (at-advance-beside .last .1 .1 .1 .1 .1 .0)) (at-node-word3 .ensures)
-    (subst (λ (n : ℕ). Advanced (beside-node n (tree-at (left - 1) nodes (i + 12)) (tree-at (left - 1) nodes (at-node-word3 .result))) hist b env s t run (at-advance-beside .result) (at-advance-beside .last .1 .1 .1 .1 .1 .0)) (at-node-word4 .ensures) (at-advance-beside .ensures)))
-
-advance-operand-sub-advance-range : (t : ℕ) → advance-operand-lts.Need-sub-advance-range (advance-operand-claims t) (advance-operand-at t) advance-operand.Post
-advance-operand-sub-advance-range t c = search needs
-
-advance-operand-advance-range-requires : (t : ℕ) → advance-operand-lts.Need-advance-range-requires (advance-operand-claims t) (advance-operand-at t) advance-operand.Post
-advance-operand-advance-range-requires measure c κs =
-    let s₀ = c .before .before .before .before .before .before .before .before .before in
-    let nodes = s₀ .args .nodes .now in
-    let run = s₀ .args .run .now in
-    let left = s₀ .args .left in
-    let i = s₀ .args .i in
-    let env = s₀ .args .env in
-    let t = s₀ .args .t in
-    let at-if1 = c .before .before .before .before .before .if1 in
-    let at-node-word = c .before .before .before .before .node-word in
-    let at-if2 = c .before .before .before .if2 in
-    let at-if3 = c .before .before .if3 in
-    let at-if4 = c .before .if4 in
-    let is = is-range nodes i left (at-if1 .left) (s₀ .pre .1 .0 (at-if1 .left)) (λ x. at-if2 .left (at-node-word .ensures ∙ x)) (λ x. at-if3 .left (at-node-word .ensures ∙ x)) (sym (at-node-word .ensures) ∙ at-if4 .taken) in
-    let fit = subst (λ (G : Tree). Fit G env t (length run)) is (s₀ .pre .1 .1) in
-    (omega (arith, s₀ .pre .0, (at-if1 .left)), (word-in nodes i 4 (sym (at-node-word .ensures) ∙ at-if4 .taken), fit))
-
-advance-operand-same-length-3 : (t : ℕ) → advance-operand-lts.Need-same-length-3 (advance-operand-claims t) (advance-operand-at t) advance-operand.Post
-advance-operand-same-length-3 t c = search needs
-
-advance-operand-returns-4 : (t : ℕ) → advance-operand-lts.Need-returns-4 (advance-operand-claims t) (advance-operand-at t) advance-operand.Post
-advance-operand-returns-4 measure c =
-    let s₀ = c .before .before .before .before .before .before .before .before .before .before .before .before in
-    let nodes = s₀ .args .nodes .now in
-    let run = s₀ .args .run .now in
-    let hist = s₀ .args .history .now in
-    let left = s₀ .args .left in
-    let i = s₀ .args .i in
-    let b = s₀ .args .flag in
-    let env = s₀ .args .env in
-    let s = s₀ .args .s in
-    let t = s₀ .args .t in
-    let at-if1 = c .before .before .before .before .before .before .before .before .if1 in
-    let at-node-word = c .before .before .before .before .before .before .before .node-word in
-    let at-if2 = c .before .before .before .before .before .before .if2 in
-    let at-if3 = c .before .before .before .before .before .if3 in
-    let at-if4 = c .before .before .before .before .if4 in
-    let at-advance-range = c .before .before .advance-range in
-    let is = is-range nodes i left (at-if1 .left) (s₀ .pre .1 .0 (at-if1 .left)) (λ x. at-if2 .left (at-node-word .ensures ∙ x)) (λ x. at-if3 .left (at-node-word .ensures ∙ x)) (sym (at-node-word .ensures) ∙ at-if4 .taken) in
-    subst (λ (G : Tree). Advanced G hist b env s t run (at-advance-range .result) (at-advance-range .last .1 .1 .1 .0)) (sym is)
-    (at-advance-range .ensures)
-
-advance-operand-node-word-requires-5 : (t : ℕ) → advance-operand-lts.Need-node-word-requires-5 (advance-operand-claims t) (advance-operand-at t) advance-operand.Post
-advance-operand-node-word-requires-5 t c κs = search needs
-
-advance-operand-cast-v : (t : ℕ) → advance-operand-lts.Need-cast-v (advance-operand-claims t) (advance-operand-at t) advance-operand.Post
-advance-operand-cast-v t c = search needs
-
-advance-operand-node-word-requires-6 : (t : ℕ) → advance-operand-lts.Need-node-word-requires-6 (advance-operand-claims t) (advance-operand-at t) advance-operand.Post
-advance-operand-node-word-requires-6 t c κs = search needs
-
-advance-operand-flag-at-requires-2 : (t : ℕ) → advance-operand-lts.Need-flag-at-requires-2 (advance-operand-claims t) (advance-operand-at t) advance-operand.Post
-advance-operand-flag-at-requires-2 measure c κs =
-    let s₀ = c .before .before .before .before .before .before .before .before .before .before in
-    let nodes = s₀ .args .nodes .now in
-    let run = s₀ .args .run .now in
-    let left = s₀ .args .left in
-    let i = s₀ .args .i in
-    let env = s₀ .args .env in
-    let t = s₀ .args .t in
-    let at-if1 = c .before .before .before .before .before .before .if1 in
-    let at-node-word = c .before .before .before .before .before .node-word in
-    let at-if2 = c .before .before .before .before .if2 in
-    let at-if3 = c .before .before .before .if3 in
-    let at-if4 = c .before .before .if4 in
-    let at-node-word5 = c .before .node-word5 in
-    let is = is-flag nodes i left (at-if1 .left) (s₀ .pre .1 .0 (at-if1 .left)) (λ x. at-if2 .left (at-node-word .ensures ∙ x)) (λ x. at-if3 .left (at-node-word .ensures ∙ x)) (λ x. at-if4 .left (at-node-word .ensures ∙ x)) in
-    let fit = subst (λ (G : Tree). Fit G env t (length run)) is (s₀ .pre .1 .1) in
-    omega (arith, fit-flag fit, s₀ .pre .1 .1 .depth, at-node-word5 .ensures)
-
-advance-operand-returns-5 : (t : ℕ) → advance-operand-lts.Need-returns-5 (advance-operand-claims t) (advance-operand-at t) advance-operand.Post
-advance-operand-returns-5 measure c =
-    let s₀ = c .before .before .before .before .before .before .before .before .before .before .before in
-    let nodes = s₀ .args .nodes .now in
-    let run = s₀ .args .run .now in
-    let hist = s₀ .args .history .now in
-    let left = s₀ .args .left in
-    let i = s₀ .args .i in
-    let b = s₀ .args .flag in
-    let env = s₀ .args .env in
-    let s = s₀ .args .s in
-    let t = s₀ .args .t in
-    let at-if1 = c .before .before .before .before .before .before .before .if1 in
-    let at-node-word = c .before .before .before .before .before .before .node-word in
-    let at-if2 = c .before .before .before .before .before .if2 in
-    let at-if3 = c .before .before .before .before .if3 in
-    let at-if4 = c .before .before .before .if4 in
-    let at-node-word5 = c .before .before .node-word5 in
-    let at-node-word6 = c .before .node-word6 in
-    let at-flag-at2 = c .flag-at2 in
-    let is = is-flag nodes i left (at-if1 .left) (s₀ .pre .1 .0 (at-if1 .left)) (λ x. at-if2 .left (at-node-word .ensures ∙ x)) (λ x. at-if3 .left (at-node-word .ensures ∙ x)) (λ x. at-if4 .left (at-node-word .ensures ∙ x)) in
-    let fit = subst (λ (G : Tree). Fit G env t (length run)) is (s₀ .pre .1 .1) in
-    subst (λ (G : Tree). Advanced G hist b env s t run (at-flag-at2 .result) run) (sym is)
-    (flag-of (getD nodes (i + 1) 0) (getD nodes (i + 2) 0) (at-flag-at2 .result) (fit-flag fit)
-    (at-flag-at2 .ensures ∙ ap (λ (n : ℕ). flagged env n (at-node-word6 .result) s) (at-node-word5 .ensures) ∙ ap (λ (n : ℕ). flagged env (getD nodes (i + 1) 0) n s) (at-node-word6 .ensures)))
 
 advance-part-own-tick-requires : (t : ℕ) → advance-part-lts.Need-own-tick-requires (advance-part-claims t) (advance-part-at t) advance-part.Post
 advance-part-own-tick-requires t c κs = search needs
@@ -1062,13 +1047,12 @@ walk-positions-returns measure c =
     let at-loop-test = c .loop-test in
     walk-done (at-loop .j) (at-loop .acc) (at-loop .run) (at-loop .inv .1 .0) (λ x. omega (arith, x, at-loop-test .left)) (at-loop .inv .1 .1 .1)
 
-pub +advance+advance-beside+advance-operand+advance-part+advance-position+advance-range+advance-then+walk-positions-spec :
+pub +advance+advance-beside+advance-part+advance-position+advance-range+advance-then+walk-positions-spec :
     {M : Type 1} → statement M
-+advance+advance-beside+advance-operand+advance-part+advance-position+advance-range+advance-then+walk-positions-spec =
++advance+advance-beside+advance-part+advance-position+advance-range+advance-then+walk-positions-spec =
     close
     μ-advance
     μ-advance-beside
-    μ-advance-operand
     μ-advance-part
     μ-advance-position
     μ-advance-range
@@ -1077,11 +1061,39 @@ pub +advance+advance-beside+advance-operand+advance-part+advance-position+advanc
     (λ t. advance-lts.spec (advance-claims t)
     (advance-at t)
     advance.Post
+    (advance-flag-at-requires t)
+    (advance-returns t)
+    (advance-node-word-requires t)
     (advance-skip-nots-requires t)
-    (advance-advance-operand-requires t)
+    (advance-advance-requires t)
     (advance-opposite-if-requires t)
     (advance-same-length t)
-    (advance-returns t))
+    (advance-returns-2 t)
+    (advance-node-word-requires-2 t)
+    (advance-cast-g t)
+    (advance-sub-advance-then t)
+    (advance-add-advance-then t)
+    (advance-advance-then-requires t)
+    (advance-same-length-2 t)
+    (advance-returns-3 t)
+    (advance-node-word-requires-3 t)
+    (advance-cast-g-2 t)
+    (advance-node-word-requires-4 t)
+    (advance-cast-w t)
+    (advance-sub-advance-beside t)
+    (advance-add-advance-beside t)
+    (advance-advance-beside-requires t)
+    (advance-same-length-3 t)
+    (advance-returns-4 t)
+    (advance-sub-advance-range t)
+    (advance-advance-range-requires t)
+    (advance-same-length-4 t)
+    (advance-returns-5 t)
+    (advance-node-word-requires-5 t)
+    (advance-cast-v t)
+    (advance-node-word-requires-6 t)
+    (advance-flag-at-requires-2 t)
+    (advance-returns-6 t))
     (λ t. advance-beside-lts.spec (advance-beside-claims t)
     (advance-beside-at t)
     advance-beside.Post
@@ -1091,37 +1103,6 @@ pub +advance+advance-beside+advance-operand+advance-part+advance-position+advanc
     (advance-beside-both-requires t)
     (advance-beside-same-length t)
     (advance-beside-returns t))
-    (λ t. advance-operand-lts.spec (advance-operand-claims t)
-    (advance-operand-at t)
-    advance-operand.Post
-    (advance-operand-flag-at-requires t)
-    (advance-operand-returns t)
-    (advance-operand-node-word-requires t)
-    (advance-operand-node-word-requires-2 t)
-    (advance-operand-cast-g t)
-    (advance-operand-sub-advance-then t)
-    (advance-operand-add-advance-then t)
-    (advance-operand-advance-then-requires t)
-    (advance-operand-same-length t)
-    (advance-operand-returns-2 t)
-    (advance-operand-node-word-requires-3 t)
-    (advance-operand-cast-g-2 t)
-    (advance-operand-node-word-requires-4 t)
-    (advance-operand-cast-w t)
-    (advance-operand-sub-advance-beside t)
-    (advance-operand-add-advance-beside t)
-    (advance-operand-advance-beside-requires t)
-    (advance-operand-same-length-2 t)
-    (advance-operand-returns-3 t)
-    (advance-operand-sub-advance-range t)
-    (advance-operand-advance-range-requires t)
-    (advance-operand-same-length-3 t)
-    (advance-operand-returns-4 t)
-    (advance-operand-node-word-requires-5 t)
-    (advance-operand-cast-v t)
-    (advance-operand-node-word-requires-6 t)
-    (advance-operand-flag-at-requires-2 t)
-    (advance-operand-returns-5 t))
     (λ t. advance-part-lts.spec (advance-part-claims t)
     (advance-part-at t)
     advance-part.Post
