@@ -1,12 +1,11 @@
 -- A run of nots: it has the run of what stands under it, and turns the outcome where it is odd in number.
 use Prim.Native.Nat.{ℕ, _+_}
-use mathlib.Core.Path.{_≡_, refl, sym, ap, _∙_, subst}
-use mathlib.Core.Bool.{Bool, true, false, cond, not}
+use mathlib.Core.Path.{_≡_, sym, subst}
+use mathlib.Core.Bool.{false, cond, not}
 use mathlib.Core.List.{List}
 use Rattle.rule.specs.declared.Outcome.{Outcome}
-use Rattle.rule.specs.declared.Outcome.the-variants.{Decided, Open}
-use Rattle.rule.specs.declared.Verdict.the-variants.{True, False}
 use Rattle.rule.specs.Meaning.{opposite}
+use Rattle.outcomes.proofs.Opposites.{one-more, turned-back}
 use Rattle.nodes.specs.declared.operand.Operand.{Operand}
 use Rattle.nodes.specs.Nots.{past-nots}
 use Rattle.nodes.proofs.Nots.{over-nots}
@@ -15,21 +14,6 @@ use Rattle.instances.specs.Tree.{Tree, tree-at}
 use Rattle.instances.specs.Calls.{Fit, Advanced}
 use Rattle.instances.proofs.Formulas.{is-not, not-of}
 use Rattle.instances.proofs.Fits.{fit-not}
-
-twice : (o : Outcome) → opposite (opposite o) ≡ o
-unfolding opposite
-twice (Decided True d) = refl
-twice (Decided False d) = refl
-twice Open = refl
-
--- one not more, and all of them taken back
-one-more : (odd : Bool) (r : Outcome) → cond odd (opposite r) r ≡ opposite (cond (not odd) (opposite r) r)
-one-more true r = refl
-one-more false r = sym (twice r)
-
-back : (odd : Bool) (o r : Outcome) → r ≡ cond odd (opposite o) o → o ≡ cond odd (opposite r) r
-back true o r e = sym (ap opposite e ∙ twice o)
-back false o r e = sym e
 
 module _ (ns : List ℕ) (left i : ℕ) (u : Operand) (e : u ≡ past-nots left ns i false) where
   pub fit-nots : {env : Env} {t len : ℕ} → Fit (tree-at left ns i) env t len → Fit (tree-at (u .left) ns (u .i)) env t len
@@ -44,4 +28,4 @@ module _ (ns : List ℕ) (left i : ℕ) (u : Operand) (e : u ≡ past-nots left 
       (λ odd n j c below.
       subst (λ (F : Tree). Advanced F hist b env s t run (cond odd (opposite r) r) run′) (sym (is-not ns j n c))
       (not-of (tree-at n ns (j + 12)) (cond (not odd) (opposite r) r) (cond odd (opposite r) r) run′ below (one-more odd r)))
-      left i false u e (subst (λ (x : Outcome). Advanced (tree-at (u .left) ns (u .i)) hist b env s t run x run′) (back (u .odd) o r er) adv)
+      left i false u e (subst (λ (x : Outcome). Advanced (tree-at (u .left) ns (u .i)) hist b env s t run x run′) (turned-back (u .odd) o r er) adv)

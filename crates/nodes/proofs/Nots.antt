@@ -8,7 +8,7 @@ use native.Mathlib.Decide.{ℕ-discrete}
 use lib.ListN.{getD}
 use borrow.Author.Tests.{eq-eqb, ne-eqb}
 use Rattle.nodes.specs.declared.operand.Operand.{Operand}
-use Rattle.nodes.specs.Nots.{past-nots, NoNot}
+use Rattle.nodes.specs.Nots.{past-nots}
 
 module _ (ns : List ℕ) where
   -- a not; another formula; none left
@@ -41,7 +41,7 @@ module _ (ns : List ℕ) where
   nots-less zero i odd u e h c = absurd (h refl)
   nots-less (suc left) i odd u e h c = omega (arith, nots-left left (i + 12) (not odd) u (e ∙ at-not left i odd c))
 
-  pub nots-end : (left i : ℕ) (odd : Bool) (u : Operand) → u ≡ past-nots left ns i odd → NoNot (u .left) ns (u .i)
+  pub nots-end : (left i : ℕ) (odd : Bool) (u : Operand) → u ≡ past-nots left ns i odd → (u .left ≡ 0 → ⊥) → getD ns (u .i + 0) 0 ≡ 2 → ⊥
   nots-end zero i odd u e h = absurd (h (ap (λ (x : Operand). x .left) (e ∙ at-end i odd)))
   nots-end (suc left) i odd u e h = elim (ℕ-discrete (getD ns (i + 0) 0) 2) [
     | yes c ↦ nots-end left (i + 12) (not odd) u (e ∙ at-not left i odd c) h

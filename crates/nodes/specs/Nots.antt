@@ -1,6 +1,5 @@
 -- A run of nots: what stands under it.
 use Prim.Native.Nat.{ℕ, zero, suc, _+_}
-use mathlib.Core.Path.{_≡_}
 use mathlib.Core.Bool.{Bool, cond, not}
 use mathlib.Core.List.{List}
 use lib.Dec.{eqb}
@@ -11,7 +10,3 @@ use Rattle.nodes.specs.declared.operand.Operand.{Operand}
 unfoldable pub past-nots : ℕ → List ℕ → ℕ → Bool → Operand
 past-nots zero ns i odd = record { left = zero; i = i; odd = odd }
 past-nots (suc left) ns i odd = cond (eqb (getD ns (i + 0) 0) 2) (past-nots left ns (i + 12) (not odd)) (record { left = suc left; i = i; odd = odd })
-
--- No not stands at word i.
-abbrev pub NoNot : ℕ → List ℕ → ℕ → Type 0
-NoNot left ns i = (left ≡ 0 → ⊥) → getD ns (i + 0) 0 ≡ 2 → ⊥
