@@ -1,7 +1,8 @@
 -- What each arm of `measure_at` answers and writes.
-use Prim.Native.Nat.{ℕ, _+_, _*_, _-_, _≤_, _<_}
+use Prim.Native.Nat.{ℕ, suc, _+_, _*_, _-_, _≤_, _<_}
 use mathlib.Core.Path.{_≡_, refl, sym, ap, _∙_, subst}
 use mathlib.Core.Logic.{_⊎_, inl, inr}
+use mathlib.Core.Bool.{false}
 use mathlib.Core.List.{List, [], _∷_, _++_}
 use native.Mathlib.Omega.{arith}
 use lib.ListN.{length, getD, set, length-set}
@@ -11,10 +12,14 @@ use Rattle.rule.specs.Figures.{larger, range-pair, N, width}
 use Rattle.rule.specs.declared.Size.{Size}
 use Rattle.rule.specs.declared.Pair.{Pair}
 use Rattle.nodes.specs.Table.{bound-at, Holds}
+use Rattle.nodes.specs.declared.operand.Operand.{Operand}
+use Rattle.nodes.specs.Nots.{past-nots}
 use Rattle.nodes.proofs.Nodes.{ends, Same, same-bound, frame}
+use Rattle.nodes.proofs.Nots.{over-nots}
+use Rattle.figures.specs.declared.scope.Scope.{Scope}
 use Rattle.figures.specs.declared.measure.Figure.{Figure}
-use Rattle.figures.specs.Capped.{cap, Near, Modest, flag-figure, then-figure, beside-figure, range-figure, FigureOf}
-use Rattle.figures.specs.Measured.{SizesAt, Measured, Promise}
+use Rattle.figures.specs.Capped.{cap, inside, Near, Modest, flag-figure, then-figure, beside-figure, range-figure, FigureOf}
+use Rattle.figures.specs.Measured.{SizesAt, Measured, Promise, Measures}
 use Rattle.figures.proofs.Distances.{modest-larger, modest-delay}
 use Rattle.figures.proofs.Parts.{flag-of, negate-of, then-of, beside-of, forall-of}
 
@@ -73,13 +78,13 @@ module _ (ns : List ℕ) (left m i w : ℕ) (ps : List Pair) (start : Size) (q :
   flag-arm r a b c d f (beside F G) e h l n = absurd (c (omega arith))
   flag-arm r a b c d f (forall B C F) e h l n = absurd (d (omega arith))
 
--- ---- the arms with parts
+-- ---- nots: the figures and the sizes of what stands under them
 
-module _ (old : List ℕ) (left m i w : ℕ) (ps : List Pair) (start : Size) (q : w ≡ getD old (i + 0) 0) (z : left ≡ 0 → ⊥) where
-  pub negate-arm : (n₁ : List ℕ) (f : Figure) → w ≡ 2 → Promise (left - 1) m (i + 12) ps start old n₁ f → Promise left m i ps start old n₁ f
+module _ (old new : List ℕ) (m : ℕ) (ps : List Pair) (start : Size) (f : Figure) where
+  negate-arm : (left i : ℕ) → getD old (i + 0) 0 ≡ 2 → Promise left m (i + 12) ps start old new f → Promise (suc left) m i ps start old new f
   unfolding Holds SizesAt
-  negate-arm n₁ f c p (negate F) e h l n =
-      let x : Measured F ps start m (i + 12) e old n₁ f = p F e (h .1) (omega arith) n in
+  negate-arm left i c p (negate F) e h l n =
+      let x : Measured F ps start m (i + 12) e old new f = p F e (h .1) (omega arith) n in
       record {
         figure = negate-of F ps start f (x .figure);
         holds = (x .outside (i + 0) (inl (omega arith)) ∙ h .0, x .holds);
@@ -90,11 +95,23 @@ module _ (old : List ℕ) (left m i w : ℕ) (ps : List Pair) (start : Size) (q 
       farther : (k : ℕ) → (k < i) ⊎ (e ≤ k) → (k < i + 12) ⊎ (e ≤ k)
       farther k (inl a) = inl (omega arith)
       farther k (inr a) = inr a
-  negate-arm n₁ f c p (flag v k) e h l n = absurd (omega arith)
-  negate-arm n₁ f c p (then F G) e h l n = absurd (omega arith)
-  negate-arm n₁ f c p (beside F G) e h l n = absurd (omega arith)
-  negate-arm n₁ f c p (forall B C F) e h l n = absurd (omega arith)
+  negate-arm left i c p (flag v k) e h l n = absurd (omega arith)
+  negate-arm left i c p (then F G) e h l n = absurd (omega arith)
+  negate-arm left i c p (beside F G) e h l n = absurd (omega arith)
+  negate-arm left i c p (forall B C F) e h l n = absurd (omega arith)
 
+pub above-nots : (old new : List ℕ) (left m i : ℕ) (sc : Scope) (start : Size) (f : Figure) (u : Operand) → u ≡ past-nots left old i false
+    → Measures (u .left) m (u .i) sc start old new f → Measures left m i sc start old new f
+above-nots old new left m i sc start f u e x =
+    record {
+      small = x .small;
+      modest = x .modest;
+      promise = over-nots old (λ odd n j. Promise n m j (inside sc m) start old new f) (λ odd n j. negate-arm old new m (inside sc m) start f n j) left i false u e (x .promise);
+    }
+
+-- ---- the arms with parts
+
+module _ (old : List ℕ) (left m i w : ℕ) (ps : List Pair) (start : Size) (q : w ≡ getD old (i + 0) 0) (z : left ≡ 0 → ⊥) where
   -- two parts: what holds after both
   record Both (F G : Formula) (e : ℕ) (k : Size) (n₂ : List ℕ) (f g : Figure) : Type 0 where
     first : FigureOf F ps start f

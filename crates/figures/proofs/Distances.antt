@@ -6,7 +6,7 @@ use mathlib.Core.Bool.{Bool, true, false, cond}
 use mathlib.Core.List.{List, [], _∷_, _++_}
 use native.Mathlib.Omega.{arith}
 use lib.Dec.{ltb, eqb}
-use lib.ListN.{length, getD, List·getD-eq-default}
+use lib.ListN.{getD}
 use lib.IntN.{ℤ, pos, negsuc, natAbs}
 use borrow.Author.Tests.{le-ltb, lt-ltb}
 use Rattle.rule.specs.Formula.{Bound, origin, infinity, variable}
@@ -95,14 +95,6 @@ unfolding N
 modest-delay Lowest h = omega arith
 modest-delay (At z) h = omega (arith, abs-parts z)
 modest-delay Highest h = tt
-
--- a word that is not 0 lies in the nodes
-pub word-in : (ns : List ℕ) (i w c : ℕ) → w ≡ getD ns (i + 0) 0 → w ≡ suc c → i < length ns
-word-in ns i w c e h = go (by-order (length ns) i)
-  where
-    go : (length ns ≤ i) ⊎ (i < length ns) → i < length ns
-    go (inl l) = let z : getD ns (i + 0) 0 ≡ 0 = List·getD-eq-default ns 0 (omega arith) in absurd (omega arith)
-    go (inr l) = l
 
 -- a quantifier's pair lies near the tick
 module _ (ns : List ℕ) (m i : ℕ) (ps : List Pair) (d : m < 4) (w : Within (32768 * m) ps) (R : Pair) (e : R ≡ range-pair (bound-at ns (i + 1)) (bound-at ns (i + 4)) ps) where

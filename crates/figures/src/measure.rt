@@ -23,6 +23,7 @@ use nodes::SECOND_PART;
 use nodes::SLOT_WORDS;
 use nodes::WIDTH;
 use nodes::node_word;
+use nodes::skip_nots;
 use rule::Limit;
 use rule::Pair;
 use rule::Size;
@@ -124,6 +125,7 @@ fn store_range(nodes: &mut [u32], i: usize, r: Pair, c: u64)
 }
 
 // The figures of the formula at word i, inside m quantifiers and started at `start` at the latest, with the sizes of its nodes stored.
+// A not has its part's figures and no sizes: a run of nots is skipped.
 fn measure_at(
     nodes: &mut [u32],
     left: usize,
@@ -135,35 +137,40 @@ fn measure_at(
     requires { ⌜ Ready m scope start ⌝ }
     ensures { λ r. ⌜ Measures left m i scope start (now (nodes .entry)) (now (nodes .exit)) r ⌝ }
 {
-    if left == 0 {
+    let u = skip_nots(nodes, left, i);
+    if u.left == 0 {
         return flag_figure();
     }
-    let code = node_word(nodes, i, CODE);
-    if code == 2 {
-        return measure_at(nodes, left - 1, m, i + 12, scope, start);
-    }
+    let code = node_word(nodes, u.i, CODE);
     if code == 3 {
-        let j = node_word(nodes, i, SECOND_PART) as usize;
-        let f = measure_at(nodes, left - 1, m, i + 12, scope, start);
+        let j = node_word(nodes, u.i, SECOND_PART) as usize;
+        let f = measure_at(nodes, u.left - 1, m, u.i + 12, scope, start);
         let d = f.delay;
-        let g = measure_at(nodes, left - 1, m, j, scope, larger_size(start, d));
+        let g = measure_at(nodes, u.left - 1, m, j, scope, larger_size(start, d));
         return then_figure(f, g);
     }
     if code == 4 {
-        let j = node_word(nodes, i, SECOND_PART) as usize;
-        let f = measure_at(nodes, left - 1, m, i + 12, scope, start);
-        let g = measure_at(nodes, left - 1, m, j, scope, start);
-        store(nodes, i, FIRST_WORDS, 4 * f.cells);
+        let j = node_word(nodes, u.i, SECOND_PART) as usize;
+        let f = measure_at(nodes, u.left - 1, m, u.i + 12, scope, start);
+        let g = measure_at(nodes, u.left - 1, m, j, scope, start);
+        store(nodes, u.i, FIRST_WORDS, 4 * f.cells);
         return beside_figure(f, g);
     }
     if code == 5 {
         if 4 <= m {
             return flag_figure();
         }
-        let r = range_pair(nodes, i, scope, m);
+        let r = range_pair(nodes, u.i, scope, m);
         let k = body_start(r, start);
-        let f = measure_at(nodes, left - 1, m + 1, i + 12, with_pair(scope, m, r), k);
-        store_range(nodes, i, r, f.cells);
+        let f = measure_at(
+            nodes,
+            u.left - 1,
+            m + 1,
+            u.i + 12,
+            with_pair(scope, m, r),
+            k,
+        );
+        store_range(nodes, u.i, r, f.cells);
         return range_figure(r, start, f);
     }
     flag_figure()

@@ -7,7 +7,7 @@ use native.Mathlib.Omega.{arith}
 use native.Mathlib.Numerals.{add-one}
 use native.Mathlib.Nat.{add-sub-cancel-left, mul-le-mul-right}
 use native.Mathlib.Decide.{decLt}
-use lib.ListN.{length, getD, take, drop, set, length-set, length-drop, length-append, List·getD-eq-default, List·getD-append}
+use lib.ListN.{length, getD, take, drop, set, length-set, length-drop, length-append, List·getD-append}
 use lib.Seq.{length-take-le, getD-set-same, getD-set-other}
 use Rattle.rule.specs.Formula.{Bound}
 use Rattle.rule.specs.Meaning.{range}
@@ -212,10 +212,3 @@ fit-flag {v} {k} {e} {t} {len} f = subst (λ (n : ℕ). v < n) (f .size) (f .for
 -- the rule's tick has come
 pub fit-come : {F : Tree} {e : Env} {t len : ℕ} → Fit F e t len → own-tick (places e) ≤ t
 fit-come {F} {e} {t} {len} f = subst (λ (n : ℕ). n ≤ t) (tick-is e (f .some)) (f .past 0)
-
--- a word that is not 0 lies in the nodes
-pub word-in : (ns : List ℕ) (i c : ℕ) → getD ns (i + 0) 0 ≡ suc c → i < length ns
-word-in ns i c h = elim (decLt i (length ns)) [
-  | yes l ↦ l
-  | no l ↦ let z : getD ns (i + 0) 0 ≡ 0 = List·getD-eq-default ns 0 (omega arith) in absurd (omega arith)
-]

@@ -1,5 +1,5 @@
 -- Flags and "not"; and what the words of a node say of its tree.
-use Prim.Native.Nat.{ℕ, _+_, _-_, _<_}
+use Prim.Native.Nat.{ℕ, suc, _+_, _-_, _<_}
 use mathlib.Core.Path.{_≡_, refl, sym, ap, _∙_}
 use mathlib.Core.Logic.{inl, inr, ⊎-elim}
 use mathlib.Core.List.{List}
@@ -45,9 +45,9 @@ module _ (ns : List ℕ) (i : ℕ) where
   unfolding tree-at
   is-none left h = rw h refl
 
-  pub is-not : (left : ℕ) → (left ≡ 0 → ⊥) → getD ns (i + 0) 0 ≡ 2 → tree-at left ns i ≡ not-node (tree-at (left - 1) ns (i + 12))
+  pub is-not : (left : ℕ) → getD ns (i + 0) 0 ≡ 2 → tree-at (suc left) ns i ≡ not-node (tree-at left ns (i + 12))
   unfolding tree-at
-  is-not left h c = ap (λ (n : ℕ). tree-at n ns i) (some-left h) ∙ simp (eq-eqb (getD ns (i + 0) 0) 2 c)
+  is-not left c = simp (eq-eqb (getD ns (i + 0) 0) 2 c)
 
   pub is-then : (left : ℕ) → (left ≡ 0 → ⊥) → (getD ns (i + 0) 0 ≡ 2 → ⊥) → getD ns (i + 0) 0 ≡ 3
       → tree-at left ns i ≡ then-node (tree-at (left - 1) ns (i + 12)) (tree-at (left - 1) ns (getD ns (i + 7) 0))

@@ -9,6 +9,7 @@ mod Walks
 mod Foralls
 mod Formulas
 mod Fits
+mod Nots
 mod Reports
 mod OneInstance
 mod Ticks

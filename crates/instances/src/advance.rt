@@ -21,6 +21,7 @@ use nodes::SECOND_PART;
 use nodes::SLOT_WORDS;
 use nodes::VARIABLE;
 use nodes::node_word;
+use nodes::skip_nots;
 use rule::Outcome;
 use rule::Verdict;
 
@@ -224,7 +225,7 @@ fn advance_beside(
     outcomes::both(x, y)
 }
 
-// Moves the formula at word i, started at s, to tick t.
+// Moves the formula at word i, started at s, to tick t. A run of nots has the run of what stands under it, and is taken in one call.
 fn advance(
     nodes: &[u32],
     left: usize,
@@ -244,7 +245,9 @@ fn advance(
     }
     let code = node_word(nodes, i, CODE);
     if code == 2 {
-        return outcomes::opposite(advance(nodes, left - 1, i + 12, run, history, flag, env, s, t));
+        let u = skip_nots(nodes, left, i);
+        let o = advance(nodes, u.left, u.i, run, history, flag, env, s, t);
+        return outcomes::opposite_if(u.odd, o);
     }
     if code == 3 {
         let g = node_word(nodes, i, SECOND_PART) as usize;

@@ -1,5 +1,6 @@
 -- The cycle of calls that moves one formula by one tick. Each answer is one lemma about plain lists, outcomes and numbers.
 use Prim.Native.Nat.{ℕ, _<_, _≤_, _+_, _*_, _-_, _%_}
+use mathlib.Core.Bool.{false}
 use mathlib.Core.Logic.{inl, inr, ⊎-elim}
 use mathlib.Core.Path.{_≡_, refl, sym, ap, subst, _∙_}
 use lib.ListN.{length, length-set, getD, take, drop}
@@ -7,6 +8,8 @@ use native.Mathlib.Omega.{arith}
 use borrow.Rule.Slice.PartMut.{same-len-mid, putMid}
 use borrow.Author.Needs.{needs}
 use Rattle.nodes.specs.Table.{bound-at}
+use Rattle.nodes.proofs.Nodes.{word-in}
+use Rattle.nodes.proofs.Nots.{nots-less}
 use Rattle.ranges.specs.Spans.{positions-of}
 use Rattle.instances.specs.Tree.{Tree, then-node, beside-node, tree-at}
 use Rattle.instances.specs.Run.{own-tick}
@@ -20,8 +23,9 @@ use Rattle.instances.proofs.Positions.{position-of}
 use Rattle.instances.proofs.Thens.{then-open, then-false, then-true}
 use Rattle.instances.proofs.Besides.{beside-of}
 use Rattle.instances.proofs.Foralls.{plan-here, range-of}
-use Rattle.instances.proofs.Formulas.{flag-of, not-of, is-none, is-not, is-then, is-beside, is-range, is-flag}
-use Rattle.instances.proofs.Fits.{tail-length, window-length, slot-length, fit-entered, fit-head, fit-few, fit-long, fit-walk, fit-store, fit-first, fit-second, fit-left, fit-right, fit-not, fit-flag, fit-come, word-in}
+use Rattle.instances.proofs.Formulas.{flag-of, is-none, is-then, is-beside, is-range, is-flag}
+use Rattle.instances.proofs.Nots.{fit-nots, nots-of}
+use Rattle.instances.proofs.Fits.{tail-length, window-length, slot-length, fit-entered, fit-head, fit-few, fit-long, fit-walk, fit-store, fit-first, fit-second, fit-left, fit-right, fit-flag, fit-come}
 use borrow.Fn.Kinds.{In}
 use borrow.Fn.PlainCycle.{Measures, is, falls, and}
 use Rattle.instances.proofs.advance.advance.Reads as advance
@@ -55,9 +59,10 @@ use Rattle.instances.proofs.head.load_head.Reads as load-head-reads
 use Rattle.instances.proofs.head.store_head.Reads as store-head-reads
 use Rattle.instances.proofs.ring.byte_of.Reads as byte-of-reads
 use Rattle.nodes.proofs.node_word.Reads as node-word-reads
+use Rattle.nodes.proofs.skip_nots.Reads as skip-nots-reads
 use Rattle.outcomes.proofs.both.Reads as both-reads
 use Rattle.outcomes.proofs.later.Reads as later-reads
-use Rattle.outcomes.proofs.opposite.Reads as opposite-reads
+use Rattle.outcomes.proofs.opposite_if.Reads as opposite-if-reads
 use Rattle.ranges.proofs.plan_up_to.Reads as plan-up-to-reads
 use Rattle.ranges.proofs.range_at.Reads as range-at-reads
 use Rattle.instances.proofs.advance.+advance+advance_beside+advance_part+advance_position+advance_range+advance_then+walk_positions.{statement}
@@ -175,7 +180,7 @@ walk-positions-below t =
     walk-positions.Pre
 
 abbrev advance-claims : ℕ → advance-lts.Claims
-advance-claims t = (flag-at-reads.Asked, flag-at-reads.Learnt, node-word-reads.Asked, node-word-reads.Learnt, advance-below t, advance.Post, opposite-reads.Asked, opposite-reads.Learnt, advance-then-below t, advance-then.Post, advance-beside-below t, advance-beside.Post, advance-range-below t, advance-range.Post)
+advance-claims t = (flag-at-reads.Asked, flag-at-reads.Learnt, node-word-reads.Asked, node-word-reads.Learnt, skip-nots-reads.Asked, skip-nots-reads.Learnt, advance-below t, advance.Post, opposite-if-reads.Asked, opposite-if-reads.Learnt, advance-then-below t, advance-then.Post, advance-beside-below t, advance-beside.Post, advance-range-below t, advance-range.Post)
 
 abbrev advance-beside-claims : ℕ → advance-beside-lts.Claims
 advance-beside-claims t = (advance-part-below t, advance-part.Post, both-reads.Asked, both-reads.Learnt)
@@ -219,60 +224,35 @@ advance-returns measure c =
 advance-node-word-requires : (t : ℕ) → advance-lts.Need-node-word-requires (advance-claims t) (advance-at t) advance.Post
 advance-node-word-requires t c κs = search needs
 
-advance-sub-advance : (t : ℕ) → advance-lts.Need-sub-advance (advance-claims t) (advance-at t) advance.Post
-advance-sub-advance t c = search needs
-
-advance-add-advance : (t : ℕ) → advance-lts.Need-add-advance (advance-claims t) (advance-at t) advance.Post
-advance-add-advance measure c =
-    let s₀ = c .before .before .before .before .before .before in
-    let nodes = s₀ .args .nodes .now in
-    let i = s₀ .args .i in
-    let at-node-word = c .before .node-word in
-    let at-if2 = c .if2 in
-    omega (arith, word-in nodes i 1 (sym (at-node-word .ensures) ∙ at-if2 .taken), s₀ .good .0)
+advance-skip-nots-requires : (t : ℕ) → advance-lts.Need-skip-nots-requires (advance-claims t) (advance-at t) advance.Post
+advance-skip-nots-requires t c κs = search needs
 
 advance-advance-requires : (t : ℕ) → advance-lts.Need-advance-requires (advance-claims t) (advance-at t) advance.Post
 advance-advance-requires measure c κs =
-    let s₀ = c .before .before .before .before .before .before .before in
+    let s₀ = c .before .before .before .before .before .before .before .before in
     let nodes = s₀ .args .nodes .now in
-    let run = s₀ .args .run .now in
     let left = s₀ .args .left in
     let i = s₀ .args .i in
-    let env = s₀ .args .env in
-    let t = s₀ .args .t in
-    let at-if1 = c .before .before .before .if1 in
-    let at-node-word = c .before .before .node-word in
-    let at-if2 = c .before .if2 in
-    let is = is-not nodes i left (at-if1 .left) (sym (at-node-word .ensures) ∙ at-if2 .taken) in
-    let fit = subst (λ (G : Tree). Fit G env t (length run)) is (s₀ .pre .1) in
-    (omega (arith, s₀ .pre .0, (at-if1 .left)), fit-not fit)
+    let at-if1 = c .before .before .before .before .if1 in
+    let at-node-word = c .before .before .before .node-word in
+    let at-if2 = c .before .before .if2 in
+    let at-skip-nots = c .before .skip-nots in
+    let u = at-skip-nots .result in
+    (omega (arith, s₀ .pre .0, nots-less nodes left i false u (at-skip-nots .ensures) (at-if1 .left) (sym (at-node-word .ensures) ∙ at-if2 .taken)), fit-nots nodes left i u (at-skip-nots .ensures) (s₀ .pre .1))
 
-advance-opposite-requires : (t : ℕ) → advance-lts.Need-opposite-requires (advance-claims t) (advance-at t) advance.Post
-advance-opposite-requires t c κs = search needs
+advance-opposite-if-requires : (t : ℕ) → advance-lts.Need-opposite-if-requires (advance-claims t) (advance-at t) advance.Post
+advance-opposite-if-requires t c κs = search needs
 
 advance-same-length : (t : ℕ) → advance-lts.Need-same-length (advance-claims t) (advance-at t) advance.Post
 advance-same-length t c = search needs
 
 advance-returns-2 : (t : ℕ) → advance-lts.Need-returns-2 (advance-claims t) (advance-at t) advance.Post
 advance-returns-2 measure c =
-    let s₀ = c .before .before .before .before .before .before .before .before .before .before .before in
-    let nodes = s₀ .args .nodes .now in
-    let run = s₀ .args .run .now in
-    let hist = s₀ .args .history .now in
-    let left = s₀ .args .left in
-    let i = s₀ .args .i in
-    let b = s₀ .args .flag in
-    let env = s₀ .args .env in
-    let s = s₀ .args .s in
-    let t = s₀ .args .t in
-    let at-if1 = c .before .before .before .before .before .before .before .if1 in
-    let at-node-word = c .before .before .before .before .before .before .node-word in
-    let at-if2 = c .before .before .before .before .before .if2 in
+    let s₀ = c .before .before .before .before .before .before .before .before .before .before .before .before in
+    let at-skip-nots = c .before .before .before .before .before .skip-nots in
     let at-advance = c .before .before .before .advance in
-    let at-opposite = c .opposite in
-    let is = is-not nodes i left (at-if1 .left) (sym (at-node-word .ensures) ∙ at-if2 .taken) in
-    subst (λ (G : Tree). Advanced G hist b env s t run (at-opposite .result) (at-advance .last .1 .1 .1 .0)) (sym is)
-    (not-of (tree-at (left - 1) nodes (i + 12)) (at-advance .result) (at-opposite .result) (at-advance .last .1 .1 .1 .0) (at-advance .ensures) (at-opposite .ensures))
+    let at-opposite-if = c .opposite-if in
+    nots-of (s₀ .args .nodes .now) (s₀ .args .left) (s₀ .args .i) (at-skip-nots .result) (at-skip-nots .ensures) (at-advance .result) (at-opposite-if .result) (at-advance .last .1 .1 .1 .0) (at-advance .ensures) (at-opposite-if .ensures)
 
 advance-node-word-requires-2 : (t : ℕ) → advance-lts.Need-node-word-requires-2 (advance-claims t) (advance-at t) advance.Post
 advance-node-word-requires-2 t c κs = search needs
@@ -1084,10 +1064,9 @@ pub +advance+advance-beside+advance-part+advance-position+advance-range+advance-
     (advance-flag-at-requires t)
     (advance-returns t)
     (advance-node-word-requires t)
-    (advance-sub-advance t)
-    (advance-add-advance t)
+    (advance-skip-nots-requires t)
     (advance-advance-requires t)
-    (advance-opposite-requires t)
+    (advance-opposite-if-requires t)
     (advance-same-length t)
     (advance-returns-2 t)
     (advance-node-word-requires-2 t)

@@ -1,0 +1,336 @@
+/* The deepest stack of each function of the library, over bodies that nest as deep
+ * as a body can. Prints for each function the bytes and the body that took them;
+ * with a limit as its argument it fails if a function takes more.
+ *
+ * Each call runs on a thread with a stack of its own, which is painted below the
+ * caller's frame before the call. The lowest byte that the call changed says how
+ * deep it went; the bytes are counted from the caller's frame. */
+#define _POSIX_C_SOURCE 200809L
+
+#include <pthread.h>
+#include <stdbool.h>
+#include <string.h>
+
+#include "bodies.h"
+#include "station_watch.h"
+
+/* MARGIN: what is not painted, since the painter itself stands there. */
+enum { STACK = 1 << 20, PAINT = 0xA5, MARGIN = 128 };
+enum { HISTORY = 4096, CELL_WORDS = 16384, REPORT = 512, FLAGS = 4, RULES = 32, NAME = 96 };
+
+/* ---- bodies: a way down to the deepest formula, one letter a formula
+ *   ~  not
+ *   t  then, b  beside: on in the second part, the first is a flag
+ *   T  then, B  beside: on in the first part, the second is a flag
+ *   r  for all Y from the variable outside to itself: one position */
+
+static const struct pattern {
+    const char *letters; /* again and again, as long as formulas are left */
+    const char *name;
+} patterns[] = {
+    { "~", "nots" },
+    { "t", "then in second parts" },
+    { "T", "then in first parts" },
+    { "b", "beside in second parts" },
+    { "B", "beside in first parts" },
+    { "tb", "then and beside in second parts" },
+    { "TB", "then and beside in first parts" },
+    { "tB", "then in second, beside in first parts" },
+    { "Tb", "then in first, beside in second parts" },
+    { "~t", "not and then in second parts" },
+    { "~T", "not and then in first parts" },
+    { "~b", "not and beside in second parts" },
+    { "~B", "not and beside in first parts" },
+    { "~~t", "two nots and then in second parts" },
+    { "~t~b", "not, then, not, beside in second parts" },
+};
+
+/* Where the four ranges stand that a body may nest. */
+enum place { NONE, FRONT, BACK, SPREAD, PLACES };
+
+static const char *const place_names[PLACES] = { "", ", under ranges", ", over ranges", ", between ranges" };
+
+/* Puts the formulas of a way. `nested` is how many ranges stand outside. */
+static void put_way(struct body *b, const char *way, int nested)
+{
+    if (*way == 0) {
+        put_flag(b, nested);
+    } else if (*way == '~') {
+        put_nots(b, 1);
+        put_way(b, way + 1, nested);
+    } else if (*way == 'r') {
+        put_range(b, nested, 0, 0);
+        put_way(b, way + 1, nested + 1);
+    } else if (*way == 't' || *way == 'b') {
+        put_code(b, *way == 't' ? THEN : BESIDE);
+        put_flag(b, nested);
+        put_way(b, way + 1, nested);
+    } else {
+        put_code(b, *way == 'T' ? THEN : BESIDE);
+        put_way(b, way + 1, nested);
+        put_flag(b, nested);
+    }
+}
+
+static int formulas_of(char letter)
+{
+    return letter == '~' || letter == 'r' ? 1 : 2;
+}
+
+/* Whether a range comes next, before the letter; a letter that no longer `fits` ends the way. */
+static bool range_next(enum place place, int step, int ranges, bool fits)
+{
+    if (ranges == 0)
+        return false;
+    return place == FRONT || !fits || (place == SPREAD && step % 4 == 3);
+}
+
+/* The longest way of a pattern: 64 formulas, one of them the flag at its end. */
+static void make_way(const char *letters, enum place place, char way[MAX_FORMULAS])
+{
+    const char *next = letters;
+    int ranges = place == NONE ? 0 : MAX_NESTED;
+    int left = MAX_FORMULAS - 1 - ranges;
+    int step = 0;
+
+    while (ranges > 0 || formulas_of(*next) <= left) {
+        if (range_next(place, step, ranges, formulas_of(*next) <= left)) {
+            way[step++] = 'r';
+            ranges--;
+        } else {
+            way[step++] = *next;
+            left -= formulas_of(*next);
+            next = next[1] == 0 ? letters : next + 1;
+        }
+    }
+    way[step] = 0;
+}
+
+/* ---- what is lent to the functions, none of it on the thread's stack */
+
+static struct body body;
+static uint8_t sheet[MAX_SHEET];
+static size_t sheet_size;
+static uint8_t state[SW_STATE_BYTES];
+static uint8_t history[HISTORY];
+static uint32_t cells[CELL_WORDS];
+static uint32_t report[REPORT];
+static const uint8_t flags[FLAGS] = { 0xFF, 0xFF, 0x00, 0xFF };
+static size_t numbers[4];
+static uint64_t figures[3];
+static uint32_t verdict;
+
+static uint32_t call_nothing(void)
+{
+    return 0;
+}
+
+static uint32_t call_place(void)
+{
+    return sw_rule_place(sheet, sheet_size, 0, &numbers[0], &numbers[1]);
+}
+
+/* A sheet of 32 rules of 16 bytes. */
+static uint32_t call_write(void)
+{
+    static const uint8_t bodies[16 * RULES];
+    static uint16_t lengths[RULES];
+    static uint8_t out[1 + 4 * RULES + sizeof bodies];
+
+    for (int k = 0; k < RULES; k++)
+        lengths[k] = 16;
+    return sw_write_sheet(lengths, RULES, bodies, sizeof bodies, out, sizeof out, &numbers[0]);
+}
+
+static uint32_t call_figures(void)
+{
+    return sw_figures(body.bytes, body.size, &figures[0], &figures[1], &figures[2]);
+}
+
+static uint32_t call_outcome(void)
+{
+    return sw_outcome(body.bytes, body.size, flags, FLAGS, 0, &verdict, &figures[0]);
+}
+
+static uint32_t call_open(void)
+{
+    return sw_open(sheet, sheet_size, 0, history, HISTORY, cells, CELL_WORDS, state);
+}
+
+static uint32_t call_step(void)
+{
+    uint32_t refusal = 0;
+
+    for (int k = 0; k < FLAGS && refusal == 0; k++)
+        refusal = sw_step(state, flags[k], history, HISTORY, cells, CELL_WORDS, report, REPORT,
+                          &numbers[0], &numbers[1]);
+    return refusal;
+}
+
+static uint32_t call_steps(void)
+{
+    return sw_steps(state, flags, FLAGS, history, HISTORY, cells, CELL_WORDS, report, REPORT,
+                    &numbers[0], &numbers[1], &numbers[2]);
+}
+
+#ifdef SW_MAX_SENTENCE
+static uint32_t call_sentence(void)
+{
+    static uint8_t out[SW_MAX_SENTENCE];
+
+    return sw_sentence(21, out, sizeof out, &numbers[0]);
+}
+#endif
+
+static struct function {
+    const char *name;
+    uint32_t (*call)(void);
+    size_t deepest;
+    char body[NAME];
+} functions[] = {
+    { "sw_rule_place", call_place, 0, "" },
+    { "sw_write_sheet", call_write, 0, "" },
+    { "sw_figures", call_figures, 0, "" },
+    { "sw_outcome", call_outcome, 0, "" },
+    { "sw_open", call_open, 0, "" },
+    { "sw_step", call_step, 0, "" },
+    { "sw_steps", call_steps, 0, "" },
+#ifdef SW_MAX_SENTENCE
+    { "sw_sentence", call_sentence, 0, "" },
+#endif
+};
+
+enum { FUNCTIONS = sizeof functions / sizeof functions[0] };
+
+/* ---- a call on a painted stack */
+
+static _Alignas(4096) uint8_t stack[STACK];
+static uint32_t (*called)(void);
+static uint32_t answered;
+static size_t deepest;
+
+static void fail(const char *what)
+{
+    fprintf(stderr, "stack: %s\n", what);
+    exit(2);
+}
+
+/* Byte by byte: a call of memset would itself stand below. */
+static void paint(size_t count)
+{
+    volatile uint8_t *at = stack;
+
+    for (size_t k = 0; k < count; k++)
+        at[k] = PAINT;
+}
+
+static size_t lowest_changed(size_t count)
+{
+    size_t k = 0;
+
+    while (k < count && stack[k] == PAINT)
+        k++;
+    return k;
+}
+
+static void *run_call(void *unused)
+{
+    volatile uint8_t here = 0;
+    size_t top = (size_t)((uintptr_t)&here - (uintptr_t)stack);
+
+    (void)unused;
+    paint(top - MARGIN);
+    answered = called();
+    deepest = top - lowest_changed(top - MARGIN);
+    return NULL;
+}
+
+/* How far below its caller one call goes, at least MARGIN. */
+static size_t depth_of(uint32_t (*call)(void))
+{
+    pthread_attr_t attributes;
+    pthread_t thread;
+
+    called = call;
+    if (pthread_attr_init(&attributes) != 0 || pthread_attr_setstack(&attributes, stack, STACK) != 0)
+        fail("no stack for a thread");
+    if (pthread_create(&thread, &attributes, run_call, NULL) != 0 || pthread_join(thread, NULL) != 0)
+        fail("no thread");
+    pthread_attr_destroy(&attributes);
+    return deepest;
+}
+
+static void measure(struct function *f, const char *name)
+{
+    size_t deep = depth_of(f->call);
+
+    if (answered != 0) {
+        fprintf(stderr, "stack: %s answers %u for %s\n", f->name, (unsigned)answered, name);
+        exit(2);
+    }
+    if (deep > f->deepest) {
+        f->deepest = deep;
+        snprintf(f->body, sizeof f->body, "%s", name);
+    }
+}
+
+/* The body of one way, its sheet, and its opening. */
+static void prepare(const char *way)
+{
+    body.size = 0;
+    body.formulas = 0;
+    put_way(&body, way, 0);
+    sheet_size = sheet_of(&body, sheet);
+    if (call_open() != 0)
+        fail("a body cannot be opened");
+}
+
+static void measure_all(const char *way, const char *name)
+{
+    for (int k = 0; k < FUNCTIONS; k++) {
+        prepare(way);
+        measure(&functions[k], name);
+    }
+}
+
+static void measure_shapes(void)
+{
+    for (size_t k = 0; k < sizeof patterns / sizeof patterns[0]; k++)
+        for (enum place place = NONE; place < PLACES; place++) {
+            char way[MAX_FORMULAS];
+            char name[NAME];
+
+            make_way(patterns[k].letters, place, way);
+            snprintf(name, sizeof name, "%s%s", patterns[k].name, place_names[place]);
+            measure_all(way, name);
+        }
+}
+
+/* Calls everything once, so that the loader has bound what the library calls. */
+static void bind_calls(void)
+{
+    prepare("");
+    for (int k = 0; k < FUNCTIONS; k++)
+        if (functions[k].call() != 0)
+            fail("a flag cannot be watched");
+}
+
+int main(int count, char **arguments)
+{
+    size_t limit = count > 1 ? strtoul(arguments[1], NULL, 10) : SIZE_MAX;
+    int status = 0;
+
+    if (depth_of(call_nothing) != MARGIN)
+        fail("an empty call takes stack");
+    bind_calls();
+    measure_shapes();
+    for (int k = 0; k < FUNCTIONS; k++) {
+        const struct function *f = &functions[k];
+        printf("%-14s %6zu bytes  %s\n", f->name, f->deepest, f->body);
+        if (f->deepest > limit) {
+            printf("%s takes more than %zu bytes of stack\n", f->name, limit);
+            status = 1;
+        }
+    }
+    return status;
+}

@@ -1,0 +1,12 @@
+-- A run of nots: what stands under it.
+use Prim.Native.Nat.{ℕ, zero, suc, _+_}
+use mathlib.Core.Bool.{Bool, cond, not}
+use mathlib.Core.List.{List}
+use lib.Dec.{eqb}
+use lib.ListN.{getD}
+use Rattle.nodes.specs.declared.operand.Operand.{Operand}
+
+-- The formula under the nots at word i, with `left` formulas left; `odd` says whether those that were passed so far are odd in number.
+unfoldable pub past-nots : ℕ → List ℕ → ℕ → Bool → Operand
+past-nots zero ns i odd = record { left = zero; i = i; odd = odd }
+past-nots (suc left) ns i odd = cond (eqb (getD ns (i + 0) 0) 2) (past-nots left ns (i + 12) (not odd)) (record { left = suc left; i = i; odd = odd })

@@ -1,0 +1,39 @@
+// A run of nots, taken in one go.
+ghost use mathlib.Core.Path.{_≡_};
+ghost use mathlib.Core.Bool.{false};
+ghost use Rattle.nodes.specs.Nots.{past-nots};
+use crate::CODE;
+use crate::node_word;
+
+// The formula under a run of nots: its word, the formulas left there, and whether the nots are odd in number.
+pub struct Operand {
+    pub left: usize,
+    pub i: usize,
+    pub odd: bool,
+}
+
+// What stands at word i, with `left` formulas left, under the nots that stand there one after another (none: the formula itself).
+pub fn skip_nots(nodes: &[u32], left: usize, i: usize) -> Operand
+    ensures { λ r. ⌜ r ≡ past-nots left (now (nodes .entry)) i false ⌝ }
+{
+    let mut n = left;
+    let mut at = i;
+    let mut odd = false;
+    while 0 < n {
+        if node_word(nodes, at, CODE) != 2 {
+            return Operand {
+                left: n,
+                i: at,
+                odd,
+            };
+        }
+        n -= 1;
+        at += 12;
+        odd = !odd;
+    }
+    Operand {
+        left: n,
+        i: at,
+        odd,
+    }
+}
