@@ -1,21 +1,35 @@
 # shellcheck shell=bash disable=SC2154
-# For the commands of this folder, which source it: proving and building, only where something changed, with a short line for each crate. They set
+# For the commands of this folder, which source it: building only where something changed, with a short line for each crate that is proved. They set
 # `root`, the repository, and `set -o pipefail`. Everything that is said goes to standard error, and standard input is not touched.
 
-# Whether something of crates/ changed since the stamp was set, or one of the other files, or there is no stamp. Must-fail edits are not built.
-changed_since() { # STAMP [FILE..]
-    [ ! -e "$1" ] || [ -n "$(find "$root/crates" "$root/crates.txt" "${@:2}" -name must-fail -prune -o -newer "$1" -print -quit)" ]
+# What the caller closed stays a descriptor that cannot be read or written, and nothing else takes its number. Without /proc it is not known.
+keep_closed() {
+    [ -d "/proc/$$/fd" ] || return 0
+    [ -L "/proc/$$/fd/2" ] || exec 2> /dev/null
+    [ -L "/proc/$$/fd/0" ] || exec 0> /dev/null
+    [ -L "/proc/$$/fd/1" ] || exec 1< /dev/null
 }
 
-# Waits until no other command builds here. What it builds may be what this one wants: look again. Holds descriptor 9 until end_building.
-begin_building() { # WHO
-    mkdir -p "$root/target" || return 1
-    exec 9> "$root/target/building.lock" || return 1
-    flock -n 9 || { echo "$1: another command is building; waiting for it" >&2 || :; flock 9; }
+# Whether one of the files, or something in one of the folders, changed since the stamp was set, or there is no stamp. Must-fail edits are not built.
+changed_since() { # STAMP PATH..
+    [ ! -e "$1" ] || [ -n "$(find "${@:2}" \( -name must-fail -o -name target \) -prune -o -newer "$1" -print -quit)" ]
 }
 
-end_building() {
-    exec 9>&-
+# Calls `build` unless `fresh` says that there is nothing to do; the command defines both. One command builds at a time: what another has built meanwhile
+# may be what this one wants. The stamp is set to the beginning, so that what changes from there on is built next time.
+build_if_changed() { # WHO STAMP
+    if fresh; then return 0; fi
+    mkdir -p "$root/target" "$(dirname "$2")" || return 1
+    (
+        flock -n 9 || { echo "$1: another command is building; waiting for it" >&2 || :; flock 9; }
+        if fresh; then exit 0; fi
+        touch "$2.new" && build && mv "$2.new" "$2"
+    ) 9> "$root/target/building.lock"
+}
+
+not_built() { # WHO WHY
+    echo "$1: not built: $2" >&2
+    return 1
 }
 
 # How many crates CRATE is made of, itself among them.
@@ -50,10 +64,10 @@ count_crates() { # WHO HOW-MANY
 prove() { # WHO CRATE COMMAND..
     local who=$1 crate=$2 log=target/$1-build.log
     shift 2
-    command -v rt > /dev/null || { echo "$who: not built: the Rattle kit's command rt is not on PATH (it lies in /opt/rattle/bin)" >&2; return 1; }
+    command -v rt > /dev/null || not_built "$who" "the Rattle kit's command rt is not on PATH (it lies in /opt/rattle/bin)" || return 1
     echo "$who: building: proving what changed; all of it takes about 4 minutes on two cores" >&2 || :
     if ! (cd "$root" && "$@") 2>&1 < /dev/null | tee "$root/$log" | count_crates "$who" "$(crates_of "$crate")"; then
-        { tail -n 15 "$root/$log"; echo "$who: not built: the last lines of $root/$log stand above"; } >&2
-        return 1
+        tail -n 15 "$root/$log" >&2
+        not_built "$who" "the last lines of $root/$log stand above"
     fi
 }
