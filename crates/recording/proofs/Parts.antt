@@ -14,10 +14,11 @@ use Rattle.rule.specs.Meaning.{verdict, up, opposite, both, after, outcome}
 use Rattle.rule.specs.Recording.{recorded}
 use Rattle.rule.specs.Started.{From}
 use Rattle.rule.proofs.Horizon.{from-less, from-start}
-use Rattle.outcomes.proofs.Conjunction.{both-comm, both-settled}
+use Rattle.rule.proofs.Conjunction.{both-comm, both-settled}
 use Rattle.recording.specs.Evaluating.{settled}
 
-settled-both : (o p : Outcome) (s : ℕ) → settled o s ≡ true → From s p → o ≡ both o p
+-- what is not decided before s changes nothing beside what is false by then
+pub settled-both : (o p : Outcome) (s : ℕ) → settled o s ≡ true → From s p → o ≡ both o p
 settled-both (Decided True d) p s h k = absurd (false≢true h)
 settled-both (Decided False d) p s h k = sym (both-comm (Decided False d) p ∙ both-settled d p (from-less p (leb-true d s h) k))
 settled-both Open p s h k = absurd (false≢true h)

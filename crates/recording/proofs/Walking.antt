@@ -7,10 +7,8 @@ use native.Mathlib.Omega.{arith}
 use lib.Dec.{ltb}
 use lib.ListN.{length, getD}
 use lib.Seq.{length-take-le}
-use borrow.Author.Tests.{leb-true, lt-ltb, le-ltb}
-use Rattle.rule.specs.declared.Verdict.the-variants.{True, False}
+use borrow.Author.Tests.{lt-ltb, le-ltb}
 use Rattle.rule.specs.declared.Outcome.{Outcome}
-use Rattle.rule.specs.declared.Outcome.the-variants.{Decided, Open}
 use Rattle.rule.specs.Formula.{Formula, flag}
 use Rattle.rule.specs.Meaning.{Range, range, walk, seen, both, outcome}
 use Rattle.rule.specs.Recording.{recorded}
@@ -25,10 +23,11 @@ use Rattle.ranges.specs.Plans.{Plans}
 use Rattle.ranges.proofs.Held.{held-at-same, getD-held}
 use Rattle.ranges.proofs.Bounds.{range-same}
 use Rattle.ranges.proofs.Planning.{plans-same}
-use Rattle.outcomes.proofs.Conjunction.{both-exchange, both-settled}
+use Rattle.rule.proofs.Conjunction.{both-comm, both-exchange}
 use Rattle.recording.specs.declared.env.Env.{Env}
 use Rattle.recording.specs.Evaluating.{places, entered, settled, forall-in, Ready}
 use Rattle.recording.proofs.Environment.{place-at, places-more}
+use Rattle.recording.proofs.Parts.{settled-both}
 
 -- ---- any walk
 
@@ -45,17 +44,13 @@ walk-step f n q {o} {r} acc h e g =
     ∙ both-walk f (n - 1) (q + 1) (f q) acc
     ∙ ap (walk f (n - 1) (q + 1)) (ap (λ (x : Outcome). both x acc) (sym e) ∙ sym g)
 
--- false at step d, and no position further on is decided before d
-walk-settled : (f : ℕ → Outcome) (d : ℕ) (n q : ℕ) → ((p : ℕ) → q ≤ p → From d (f p)) → walk f n q (Decided False d) ≡ Decided False d
-unfolding walk
-walk-settled f d zero q h = refl
-walk-settled f d (suc n) q h =
-    ap (both (f q)) (walk-settled f d n (suc q) (λ p k. h p (omega arith))) ∙ both-settled d (f q) (h q (omega arith))
-
+-- settled, and no position further on is decided before the start
 walk-done : (f : ℕ → Outcome) (start n q : ℕ) (acc : Outcome) → ((p : ℕ) → q ≤ p → From start (f p)) → settled acc start ≡ true → walk f n q acc ≡ acc
-walk-done f start n q (Decided True d) h e = absurd (false≢true e)
-walk-done f start n q (Decided False d) h e = walk-settled f d n q (λ p k. from-less (f p) (leb-true d start e) (h p k))
-walk-done f start n q Open h e = absurd (false≢true e)
+unfolding walk
+walk-done f start zero q acc h e = refl
+walk-done f start (suc n) q acc h e =
+    ap (both (f q)) (walk-done f start n (suc q) acc (λ p k. h p (omega arith)) e)
+    ∙ both-comm (f q) acc ∙ sym (settled-both acc (f q) start e (h q (omega arith)))
 
 -- ---- the bodies of a "for all"
 

@@ -2,7 +2,7 @@
 use Prim.Native.Nat.{ℕ, zero, suc, _+_, _-_, _≤_, _<_, min, max}
 use mathlib.Core.Path.{_≡_, refl, sym, ap, ap₂, _∙_, fun-ext}
 use mathlib.Core.Bool.{Bool, true, false, true≢false, _||_}
-use mathlib.Core.List.{List, [], _∷_, _++_}
+use mathlib.Core.List.{List, [], _∷_, _++_, append-assoc}
 use native.Mathlib.Omega.{arith}
 use lib.ListN.{length, getD}
 use lib.IntN.{pos, _+ℤ_}
@@ -14,6 +14,7 @@ use Rattle.rule.specs.Formula.{Bound, origin, infinity, variable, Formul
 use Rattle.rule.specs.Meaning.{verdict, up, opposite, both, after, finite, place, positions, Range, range, walk, seen, every, outcome}
 use Rattle.rule.specs.Started.{raise}
 use Rattle.rule.specs.Naming.{bound-names, names}
+use Rattle.rule.proofs.Conjunction.{both-assoc, both-twice}
 use Rattle.rule.proofs.Every.{seen-in}
 use Rattle.rule.proofs.Start.{start-law, raise-twice}
 
@@ -47,10 +48,6 @@ other-range : (before behind : List ℕ) (p q : ℕ) (B₁ B₂ : Bound) → bou
 unfolding range
 other-range before behind p q B₁ B₂ h k = ap₂ positions (other-bound before behind p q B₁ h) (other-bound before behind p q B₂ k)
 
-one-more : (before behind : List ℕ) (p x : ℕ) → (before ++ (p ∷ behind)) ++ (x ∷ []) ≡ before ++ (p ∷ (behind ++ (x ∷ [])))
-one-more [] behind p x = refl
-one-more (y ∷ before) behind p x = ap (λ (l : List ℕ). y ∷ l) (one-more before behind p x)
-
 other-outcome : (F : Formula) (flags : ℕ → ℕ) (t : ℕ) (before behind : List ℕ) (p q s : ℕ) → names (length before) F ≡ false
     → outcome F flags t (before ++ (p ∷ behind)) s ≡ outcome F flags t (before ++ (q ∷ behind)) s
 unfolding outcome names
@@ -70,9 +67,9 @@ other-outcome (forall B₁ B₂ F) flags t before behind p q s h =
     (other-range before behind p q B₁ B₂ (not-first (bound-names (length before) B₁) (bound-names (length before) B₂ || names (length before) F) h)
     (not-first (bound-names (length before) B₂) (names (length before) F) k))
     (fun-ext (λ x.
-    ap (λ (e : List ℕ). seen t x (outcome F flags t e (max s x))) (one-more before behind p x)
+    ap (λ (e : List ℕ). seen t x (outcome F flags t e (max s x))) (append-assoc before (p ∷ behind) (x ∷ []))
     ∙ ap (seen t x) (other-outcome F flags t before (behind ++ (x ∷ [])) p q (max s x) (not-second (bound-names (length before) B₂) (names (length before) F) k))
-    ∙ ap (λ (e : List ℕ). seen t x (outcome F flags t e (max s x))) (sym (one-more before behind q x))))
+    ∙ ap (λ (e : List ℕ). seen t x (outcome F flags t e (max s x))) (sym (append-assoc before (q ∷ behind) (x ∷ [])))))
 
 -- ---- so a later position's body is that of an earlier one, raised
 
@@ -114,26 +111,8 @@ between q m l Open (Decided False c) h k = refl
 between q m l Open (Decided True c) h k = refl
 between q m l Open Open h k = refl
 
-least-again : (a c : ℕ) → min a c ≡ min a (min a c)
-least-again a c = omega arith
-
-least-self : (a : ℕ) → a ≡ min a a
-least-self a = omega arith
-
-largest-again : (a c : ℕ) → max a c ≡ max a (max a c)
-largest-again a c = omega arith
-
 both-again : (a end : Outcome) → both a end ≡ both a (both a end)
-unfolding both
-both-again (Decided False a) (Decided False c) = ap (Decided False) (least-again a c)
-both-again (Decided False a) (Decided True c) = ap (Decided False) (least-self a)
-both-again (Decided False a) Open = ap (Decided False) (least-self a)
-both-again (Decided True a) (Decided False c) = refl
-both-again (Decided True a) (Decided True c) = ap (Decided True) (largest-again a c)
-both-again (Decided True a) Open = refl
-both-again Open (Decided False c) = refl
-both-again Open (Decided True c) = refl
-both-again Open Open = refl
+both-again a end = ap (λ (o : Outcome). both o end) (sym (both-twice a)) ∙ both-assoc a a end
 
 walk-alike : (f : ℕ → Outcome) (o : Outcome) (n q : ℕ) (end : Outcome) → ((r : ℕ) → q ≤ r → r ≤ q + n → f r ≡ raise r o)
     → walk f (suc n) q end ≡ both (raise q o) (both (raise (q + n) o) end)

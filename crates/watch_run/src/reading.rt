@@ -1,5 +1,4 @@
 // Reading what a descriptor has now. A read that failed is told apart from the end of the input.
-ghost use mathlib.Core.Path.{_≡_};
 ghost use Rattle.io.specs.Counts.{Counts};
 use crate::waiting::is_to_be_repeated;
 
