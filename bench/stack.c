@@ -45,10 +45,21 @@ static const struct pattern {
     { "~t~b", "not, then, not, beside in second parts" },
 };
 
-/* Where the four ranges stand that a body may nest. */
-enum place { NONE, FRONT, BACK, SPREAD, PLACES };
+/* Where the four ranges stand that a body may nest: before the pattern, each under a
+ * not or not, after it, or at every fourth step of it. */
+enum place { NONE, FRONT, TURNED, BACK, SPREAD, PLACES };
 
-static const char *const place_names[PLACES] = { "", ", under ranges", ", over ranges", ", between ranges" };
+static const struct {
+    const char *before;
+    int later;
+    const char *name;
+} ranges_at[PLACES] = {
+    [NONE] = { "", 0, "" },
+    [FRONT] = { "rrrr", 0, ", under ranges" },
+    [TURNED] = { "~r~r~r~r", 0, ", under ranges under nots" },
+    [BACK] = { "", MAX_NESTED, ", over ranges" },
+    [SPREAD] = { "", MAX_NESTED, ", between ranges" },
+};
 
 /* Puts the formulas of a way. `nested` is how many ranges stand outside. */
 static void put_way(struct body *b, const char *way, int nested)
@@ -77,24 +88,16 @@ static int formulas_of(char letter)
     return letter == '~' || letter == 'r' ? 1 : 2;
 }
 
-/* Whether a range comes next, before the letter; a letter that no longer `fits` ends the way. */
-static bool range_next(enum place place, int step, int ranges, bool fits)
-{
-    if (ranges == 0)
-        return false;
-    return place == FRONT || !fits || (place == SPREAD && step % 4 == 3);
-}
-
 /* The longest way of a pattern: 64 formulas, one of them the flag at its end. */
 static void make_way(const char *letters, enum place place, char way[MAX_FORMULAS])
 {
     const char *next = letters;
-    int ranges = place == NONE ? 0 : MAX_NESTED;
-    int left = MAX_FORMULAS - 1 - ranges;
-    int step = 0;
+    int step = (int)strlen(strcpy(way, ranges_at[place].before));
+    int ranges = ranges_at[place].later;
+    int left = MAX_FORMULAS - 1 - step - ranges;
 
     while (ranges > 0 || formulas_of(*next) <= left) {
-        if (range_next(place, step, ranges, formulas_of(*next) <= left)) {
+        if (ranges > 0 && (formulas_of(*next) > left || (place == SPREAD && step % 4 == 3))) {
             way[step++] = 'r';
             ranges--;
         } else {
@@ -301,7 +304,7 @@ static void measure_shapes(void)
             char name[NAME];
 
             make_way(patterns[k].letters, place, way);
-            snprintf(name, sizeof name, "%s%s", patterns[k].name, place_names[place]);
+            snprintf(name, sizeof name, "%s%s", patterns[k].name, ranges_at[place].name);
             measure_all(way, name);
         }
 }
