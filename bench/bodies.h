@@ -1,4 +1,4 @@
-/* Rule bodies, built formula by formula in document 01's bytes. */
+/* Rule bodies, built formula by formula. */
 #ifndef BODIES_H
 #define BODIES_H
 

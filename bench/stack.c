@@ -1,6 +1,6 @@
 /* The deepest stack of each function of the library, over bodies that nest as deep
- * as a body can. Prints for each function the bytes and the body that took them;
- * with a limit as its argument it fails if a function takes more.
+ * as a body can. Prints for each function the bytes and the body that took them, and
+ * fails if one takes more than the header's SW_MAX_STACK.
  *
  * Each call runs on a thread with a stack of its own, which is painted below the
  * caller's frame before the call. The lowest byte that the call changed says how
@@ -16,7 +16,7 @@
 
 /* MARGIN: what is not painted, since the painter itself stands there. */
 enum { STACK = 1 << 20, PAINT = 0xA5, MARGIN = 128 };
-enum { HISTORY = 4096, CELL_WORDS = 16384, REPORT = 512, FLAGS = 4, RULES = 32, NAME = 96 };
+enum { FLAGS = 4, NAME = 96 };
 
 /* ---- bodies: a way down to the deepest formula, one letter a formula
  *   ~  not
@@ -115,9 +115,9 @@ static struct body body;
 static uint8_t sheet[MAX_SHEET];
 static size_t sheet_size;
 static uint8_t state[SW_STATE_BYTES];
-static uint8_t history[HISTORY];
-static uint32_t cells[CELL_WORDS];
-static uint32_t report[REPORT];
+static uint8_t history[SW_MAX_HISTORY];
+static uint32_t cells[SW_MAX_CELL_WORDS];
+static uint32_t report[SW_MAX_BATCH_REPORT];
 static const uint8_t flags[FLAGS] = { 0xFF, 0xFF, 0x00, 0xFF };
 static size_t numbers[4];
 static uint64_t figures[3];
@@ -136,13 +136,13 @@ static uint32_t call_place(void)
 /* A sheet of 32 rules of 16 bytes. */
 static uint32_t call_write(void)
 {
-    static const uint8_t bodies[16 * RULES];
-    static uint16_t lengths[RULES];
-    static uint8_t out[1 + 4 * RULES + sizeof bodies];
+    static const uint8_t bodies[16 * SW_MAX_RULES];
+    static uint16_t lengths[SW_MAX_RULES];
+    static uint8_t out[1 + 4 * SW_MAX_RULES + sizeof bodies];
 
-    for (int k = 0; k < RULES; k++)
+    for (int k = 0; k < SW_MAX_RULES; k++)
         lengths[k] = 16;
-    return sw_write_sheet(lengths, RULES, bodies, sizeof bodies, out, sizeof out, &numbers[0]);
+    return sw_write_sheet(lengths, SW_MAX_RULES, bodies, sizeof bodies, out, sizeof out, &numbers[0]);
 }
 
 static uint32_t call_figures(void)
@@ -157,7 +157,7 @@ static uint32_t call_outcome(void)
 
 static uint32_t call_open(void)
 {
-    return sw_open(sheet, sheet_size, 0, history, HISTORY, cells, CELL_WORDS, state);
+    return sw_open(sheet, sheet_size, 0, history, SW_MAX_HISTORY, cells, SW_MAX_CELL_WORDS, state);
 }
 
 static uint32_t call_step(void)
@@ -165,25 +165,23 @@ static uint32_t call_step(void)
     uint32_t refusal = 0;
 
     for (int k = 0; k < FLAGS && refusal == 0; k++)
-        refusal = sw_step(state, flags[k], history, HISTORY, cells, CELL_WORDS, report, REPORT,
-                          &numbers[0], &numbers[1]);
+        refusal = sw_step(state, flags[k], history, SW_MAX_HISTORY, cells, SW_MAX_CELL_WORDS,
+                          report, SW_MAX_BATCH_REPORT, &numbers[0], &numbers[1]);
     return refusal;
 }
 
 static uint32_t call_steps(void)
 {
-    return sw_steps(state, flags, FLAGS, history, HISTORY, cells, CELL_WORDS, report, REPORT,
-                    &numbers[0], &numbers[1], &numbers[2]);
+    return sw_steps(state, flags, FLAGS, history, SW_MAX_HISTORY, cells, SW_MAX_CELL_WORDS,
+                    report, SW_MAX_BATCH_REPORT, &numbers[0], &numbers[1], &numbers[2]);
 }
 
-#ifdef SW_MAX_SENTENCE
 static uint32_t call_sentence(void)
 {
     static uint8_t out[SW_MAX_SENTENCE];
 
-    return sw_sentence(21, out, sizeof out, &numbers[0]);
+    return sw_sentence(SW_STATE_NOT_OPENED, out, sizeof out, &numbers[0]);
 }
-#endif
 
 static struct function {
     const char *name;
@@ -198,9 +196,7 @@ static struct function {
     { "sw_open", call_open, 0, "" },
     { "sw_step", call_step, 0, "" },
     { "sw_steps", call_steps, 0, "" },
-#ifdef SW_MAX_SENTENCE
     { "sw_sentence", call_sentence, 0, "" },
-#endif
 };
 
 enum { FUNCTIONS = sizeof functions / sizeof functions[0] };
@@ -318,9 +314,8 @@ static void bind_calls(void)
             fail("a flag cannot be watched");
 }
 
-int main(int count, char **arguments)
+int main(void)
 {
-    size_t limit = count > 1 ? strtoul(arguments[1], NULL, 10) : SIZE_MAX;
     int status = 0;
 
     if (depth_of(call_nothing) != MARGIN)
@@ -330,8 +325,8 @@ int main(int count, char **arguments)
     for (int k = 0; k < FUNCTIONS; k++) {
         const struct function *f = &functions[k];
         printf("%-14s %6zu bytes  %s\n", f->name, f->deepest, f->body);
-        if (f->deepest > limit) {
-            printf("%s takes more than %zu bytes of stack\n", f->name, limit);
+        if (f->deepest > SW_MAX_STACK) {
+            printf("%s takes more than %d bytes of stack\n", f->name, SW_MAX_STACK);
             status = 1;
         }
     }

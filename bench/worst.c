@@ -1,7 +1,7 @@
 /* What the dearest steps found cost: rules that look back as far as a table of cells
- * allows, on flags that leave every part true, so that nothing ends early. Prints the median time of one
- * sw_step once the whole range lies behind the tick, and how it grows with ranges,
- * positions, nots and flags. Not part of the gate. */
+ * allows, on flags that leave every part true, so that nothing ends early. Prints the
+ * median time of one sw_step once the whole range lies behind the tick, and how it
+ * grows with ranges, positions, nots and flags. Not part of the gate. */
 #define _POSIX_C_SOURCE 200809L
 
 #include <time.h>
@@ -9,13 +9,13 @@
 #include "bodies.h"
 #include "station_watch.h"
 
-enum { HISTORY = 4096, CELL_WORDS = 16384, REPORT = 512, ROUNDS = 101 };
+enum { ROUNDS = 101 };
 
 static uint8_t sheet[MAX_SHEET];
 static uint8_t state[SW_STATE_BYTES];
-static uint8_t history[HISTORY];
-static uint32_t cells[CELL_WORDS];
-static uint32_t report[REPORT];
+static uint8_t history[SW_MAX_HISTORY];
+static uint32_t cells[SW_MAX_CELL_WORDS];
+static uint32_t report[SW_MAX_REPORT];
 
 /* ---- the rules: ranges of `width` positions up to the tick, joined by "then" so
  * that they share their cells; each over `nots` nots over a part of `flags` flags,
@@ -75,7 +75,8 @@ static void step(uint8_t flags)
 {
     size_t reported, live;
     uint32_t refusal =
-        sw_step(state, flags, history, HISTORY, cells, CELL_WORDS, report, REPORT, &reported, &live);
+        sw_step(state, flags, history, SW_MAX_HISTORY, cells, SW_MAX_CELL_WORDS,
+                report, SW_MAX_REPORT, &reported, &live);
 
     if (refusal != 0) {
         fprintf(stderr, "worst: a step answers %u\n", (unsigned)refusal);
@@ -112,7 +113,7 @@ static void measure(const struct rule *r)
 
     put_tree(&b, r->ranges, r, put_one_range);
     size = sheet_of(&b, sheet);
-    refusal = sw_open(sheet, size, 0, history, HISTORY, cells, CELL_WORDS, state);
+    refusal = sw_open(sheet, size, 0, history, SW_MAX_HISTORY, cells, SW_MAX_CELL_WORDS, state);
     if (refusal != 0) {
         fprintf(stderr, "worst: %d ranges: the opening answers %u\n", r->ranges, (unsigned)refusal);
         exit(2);

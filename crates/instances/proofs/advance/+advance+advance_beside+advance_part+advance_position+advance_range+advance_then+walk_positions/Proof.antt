@@ -1,5 +1,5 @@
 -- The cycle of calls that moves one formula by one tick. Each answer is one lemma about plain lists, outcomes and numbers.
-use Prim.Native.Nat.{ℕ, _≤_, _+_, _*_, _-_, _%_}
+use Prim.Native.Nat.{ℕ, _<_, _≤_, _+_, _*_, _-_, _%_}
 use mathlib.Core.Bool.{false}
 use mathlib.Core.Logic.{inl, inr, ⊎-elim}
 use mathlib.Core.Path.{_≡_, refl, sym, ap, subst, _∙_}
