@@ -40,9 +40,12 @@ static inline void put_flag(struct body *b, int variable)
     put(b, 0);
 }
 
-static inline void put_bound(struct body *b, int variable, int offset)
+/* Kinds of a bound. */
+enum { POSITION_0 = 0, INFINITE = 1, VARIABLE = 2 };
+
+static inline void put_bound(struct body *b, int kind, int variable, int offset)
 {
-    put(b, 2);
+    put(b, kind);
     put(b, variable);
     put(b, offset & 0xFF);
     put(b, (offset >> 8) & 0xFF);
@@ -52,8 +55,24 @@ static inline void put_bound(struct body *b, int variable, int offset)
 static inline void put_range(struct body *b, int variable, int first, int last)
 {
     put_code(b, FOR_ALL);
-    put_bound(b, variable, first);
-    put_bound(b, variable, last);
+    put_bound(b, VARIABLE, variable, first);
+    put_bound(b, VARIABLE, variable, last);
+}
+
+/* For all from position 0 to infinity. */
+static inline void put_range_from_0(struct body *b)
+{
+    put_code(b, FOR_ALL);
+    put_bound(b, POSITION_0, 0, 0);
+    put_bound(b, INFINITE, 0, 0);
+}
+
+/* For all from a variable to infinity. */
+static inline void put_range_on(struct body *b, int variable)
+{
+    put_code(b, FOR_ALL);
+    put_bound(b, VARIABLE, variable, 0);
+    put_bound(b, INFINITE, 0, 0);
 }
 
 static inline void put_nots(struct body *b, int count)
