@@ -11,7 +11,7 @@ use std::process::{self, Child, Command, Output, Stdio};
 use std::thread::sleep;
 use std::time::Duration;
 
-/// Document 01's example rule and its flag bytes.
+/// The scope document's example rule and its flag bytes.
 const EXAMPLE: &str = "02 04 010000 05 0200FFFF 02000200 010100";
 const FLAGS: [u8; 10] = [0, 1, 1, 0, 1, 1, 1, 1, 0, 0];
 /// For all Y from X to X + 63, flag 0 at Y: too many cells.
