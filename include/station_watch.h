@@ -152,10 +152,14 @@ extern "C" {
 /* A recording, in flag bytes. */
 #define SW_MAX_RECORDING 65535
 
-/* What a rule that opens can need: history bytes; cell table words (four a cell); report
- * words for sw_step (a tick each), and for sw_steps (a pair each). */
-#define SW_CELL_WORDS 4
+/* What a rule that opens can need. The figures: history bytes, delay in ticks, cells. */
 #define SW_MAX_HISTORY 4096
+#define SW_MAX_DELAY 255
+#define SW_MAX_CELLS 4096
+
+/* Words of a cell, and of a cell table; report words for sw_step (a tick each), and for
+ * sw_steps (a pair each). */
+#define SW_CELL_WORDS 4
 #define SW_MAX_CELL_WORDS 16384
 #define SW_MAX_REPORT 256
 #define SW_MAX_BATCH_REPORT 512

@@ -19,20 +19,19 @@ pub fn read(words: &[OsString]) -> Result<Command, Failure> {
     let Some((first, rest)) = words.split_first() else {
         return Err(Failure::Usage("no command".to_string(), usage::ALL));
     };
-    match &*first.to_string_lossy() {
-        "--help" | "-h" => Ok(Command::Help(usage::ALL)),
-        "--version" | "-V" => Ok(Command::Version),
-        "help" => help(rest),
-        name => command(name, rest),
+    match (&*first.to_string_lossy(), rest) {
+        ("help" | "--help" | "-h", []) => Ok(Command::Help(usage::ALL)),
+        ("help", [name]) => usage_of(&name.to_string_lossy()).map(Command::Help),
+        ("--version", []) => Ok(Command::Version),
+        (name @ ("help" | "--help" | "-h" | "--version"), _) => {
+            Err(wrong_number(name, rest, usage::ALL))
+        }
+        (name, _) => command(name, rest),
     }
 }
 
-/// `help`, or `help COMMAND`.
-fn help(rest: &[OsString]) -> Result<Command, Failure> {
-    match rest.first() {
-        None => Ok(Command::Help(usage::ALL)),
-        Some(name) => usage_of(&name.to_string_lossy()).map(Command::Help),
-    }
+fn wrong_number(name: &str, rest: &[OsString], usage: &'static str) -> Failure {
+    Failure::Usage(format!("{name}: wrong number of arguments ({})", rest.len()), usage)
 }
 
 fn usage_of(name: &str) -> Result<&'static str, Failure> {
@@ -41,10 +40,10 @@ fn usage_of(name: &str) -> Result<&'static str, Failure> {
 
 fn command(name: &str, rest: &[OsString]) -> Result<Command, Failure> {
     let usage = usage_of(name)?;
-    if rest.first().is_some_and(|word| word == "--help" || word == "-h") {
-        return Ok(Command::Help(usage));
-    }
+    let asks_help = rest.first().is_some_and(|word| word == "--help" || word == "-h");
     match (name, rest) {
+        (_, [_]) if asks_help => Ok(Command::Help(usage)),
+        _ if asks_help => Err(wrong_number(name, rest, usage::line(usage))),
         ("figures", [sheet]) => Ok(Command::Figures { sheet: sheet.into() }),
         ("outcome", [sheet, rule, flags, tick]) => Ok(Command::Outcome {
             sheet: sheet.into(),
@@ -55,10 +54,7 @@ fn command(name: &str, rest: &[OsString]) -> Result<Command, Failure> {
         ("sheet", [out, bodies @ ..]) => {
             Ok(Command::Sheet { out: out.into(), bodies: all_bytes(bodies, usage)? })
         }
-        _ => {
-            let said = format!("{name}: wrong number of arguments ({})", rest.len());
-            Err(Failure::Usage(said, usage::line(usage)))
-        }
+        _ => Err(wrong_number(name, rest, usage::line(usage))),
     }
 }
 

@@ -2,12 +2,12 @@
 
 use crate::answer::{Answer, Stop};
 use crate::files;
-use station_watch::{bodies, figures, MAX_SHEET};
+use station_watch::{bodies, figures};
 use std::path::Path;
 
 /// A line for each rule: its figures or its refusal.
 pub fn of_sheet(sheet: &Path) -> Result<Answer, Stop> {
-    let sheet = files::read(sheet, MAX_SHEET + 1)?;
+    let sheet = files::read_sheet(sheet)?;
     let mut answer = Answer::given(String::new());
     for (rule, body) in bodies(&sheet)?.enumerate() {
         match figures(body) {

@@ -1,7 +1,9 @@
 //! Files, standard input and standard output. A read or a write that is interrupted, or
-//! would block, is tried again.
+//! would block, is tried again. What was written is brought to the disk before the command
+//! ends, since a file system may say late that it could not keep it.
 
 use crate::answer::Failure;
+use station_watch::{MAX_RECORDING, MAX_SHEET};
 use std::fs::File;
 use std::io::{self, ErrorKind, Read, Write};
 use std::os::fd::AsFd;
@@ -12,19 +14,25 @@ use std::time::Duration;
 /// How long to wait before a read or a write that would block is tried again.
 const WAIT: Duration = Duration::from_millis(5);
 
-/// The bytes of a file, but no more than `most`.
-pub fn read(path: &Path, most: usize) -> Result<Vec<u8>, Failure> {
-    let stop = |error| Failure::Read(path.display().to_string(), error);
-    File::open(path).and_then(|file| read_up_to(file, most)).map_err(stop)
+/// The bytes of a sheet. Of one that is too long, a byte more than the largest has: enough
+/// for its refusal.
+pub fn read_sheet(path: &Path) -> Result<Vec<u8>, Failure> {
+    read(path, MAX_SHEET + 1)
 }
 
-/// The same of a file, or of standard input where it is named -.
-pub fn read_or_input(path: &Path, most: usize) -> Result<Vec<u8>, Failure> {
+/// The bytes of a recording, in the same way; - is standard input.
+pub fn read_recording(path: &Path) -> Result<Vec<u8>, Failure> {
+    let most = MAX_RECORDING + 1;
     if path != Path::new("-") {
         return read(path, most);
     }
     let stop = |error| Failure::Read("standard input".to_string(), error);
     own(io::stdin()).and_then(|input| read_up_to(input, most)).map_err(stop)
+}
+
+fn read(path: &Path, most: usize) -> Result<Vec<u8>, Failure> {
+    let stop = |error| Failure::Read(path.display().to_string(), error);
+    File::open(path).and_then(|file| read_up_to(file, most)).map_err(stop)
 }
 
 /// Writes a file whole.
@@ -58,7 +66,7 @@ fn read_up_to(mut from: impl Read, most: usize) -> io::Result<Vec<u8>> {
     Ok(bytes)
 }
 
-fn write_whole(mut to: impl Write, bytes: &[u8]) -> io::Result<()> {
+fn write_whole(mut to: File, bytes: &[u8]) -> io::Result<()> {
     let mut rest = bytes;
     while !rest.is_empty() {
         match again(|| to.write(rest))? {
@@ -66,7 +74,10 @@ fn write_whole(mut to: impl Write, bytes: &[u8]) -> io::Result<()> {
             some => rest = &rest[some..],
         }
     }
-    Ok(())
+    match to.sync_all() {
+        Err(error) if error.kind() == ErrorKind::InvalidInput => Ok(()), // a pipe or a device
+        ended => ended,
+    }
 }
 
 /// Tries until it is neither interrupted nor would block.

@@ -11,7 +11,7 @@ use std::process::{self, Child, Command, Output, Stdio};
 use std::thread::sleep;
 use std::time::Duration;
 
-/// Document 01's example rule and its flag bytes.
+/// The scope document's example rule and its flag bytes.
 const EXAMPLE: &str = "02 04 010000 05 0200FFFF 02000200 010100";
 const FLAGS: [u8; 10] = [0, 1, 1, 0, 1, 1, 1, 1, 0, 0];
 /// For all Y from X to X + 63, flag 0 at Y: too many cells.
@@ -295,6 +295,22 @@ fn usage() {
     assert_eq!(ask(&["--quiet"]), failed(&format!("station-watch: no command '--quiet'\n{all}")));
 }
 
+#[test]
+fn words_too_many() {
+    let all = ask(&["help"]).0;
+    for (words, count) in
+        [(&["--help", "figures"][..], 1), (&["-h", ""], 1), (&["--version", "a", "b"], 2)]
+    {
+        let due = format!("station-watch: {}: wrong number of arguments ({count})\n", words[0]);
+        assert_eq!(ask(words), failed(&(due + &all)));
+    }
+    let due = format!("station-watch: help: wrong number of arguments (2)\n{all}");
+    assert_eq!(ask(&["help", "figures", "sheet"]), failed(&due));
+    let due = "station-watch: sheet: wrong number of arguments (2)\n\
+               usage: station-watch sheet OUT BODY..\n";
+    assert_eq!(ask(&["sheet", "--help", "010000"]), failed(due));
+}
+
 /// The line that `help sheet` shows is what the command prints.
 #[test]
 fn the_example_of_the_usage() {
@@ -309,7 +325,6 @@ fn the_example_of_the_usage() {
 #[test]
 fn version() {
     assert_eq!(ask(&["--version"]), out("station-watch 0.2.0\n", 0));
-    assert_eq!(ask(&["-V"]), out("station-watch 0.2.0\n", 0));
 }
 
 #[test]
@@ -346,6 +361,8 @@ fn files_that_cannot_be_written() {
     assert_eq!(ask(&["sheet", &inside, "010000"]), failed(&format!("station-watch: {due}\n")));
     let due = "station-watch: cannot write /dev/full: No space left on device (os error 28)\n";
     assert_eq!(ask(&["sheet", "/dev/full", "010000"]), failed(due));
+    // A device that keeps nothing, and never says so late.
+    assert_eq!(ask(&["sheet", "/dev/null", "010000"]), out("sheet /dev/null rules 1 bytes 8\n", 0));
 }
 
 #[test]

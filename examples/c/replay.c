@@ -74,8 +74,8 @@ static uint32_t take(const uint8_t *flags, size_t count)
     return SW_OK;
 }
 
-/* Takes the whole file, a block at a time. */
-static int replay(FILE *file, const char *name)
+/* Takes the rest of a file, a block at a time. */
+static int take_file(FILE *file, const char *name)
 {
     static uint8_t block[65536];
     size_t count;
@@ -90,29 +90,36 @@ static int replay(FILE *file, const char *name)
     return 0;
 }
 
-int main(int count, char **words)
+/* Opens rule 0 of the file `sheet_name` and takes the file `flags_name`. */
+static int replay(const char *sheet_name, const char *flags_name)
 {
-    if (count != 3) {
-        fprintf(stderr, "usage: replay SHEET FLAGS\n");
-        return 2;
-    }
-    FILE *file = fopen(words[1], "rb");
+    FILE *file = fopen(sheet_name, "rb");
     if (file == NULL)
-        return failed(words[1]);
+        return failed(sheet_name);
     size_t sheet_len = fread(sheet, 1, sizeof sheet, file);
     if (ferror(file))
-        return failed(words[1]);
+        return failed(sheet_name);
     fclose(file);
 
     uint32_t number = open_rule(sheet_len);
     if (number != SW_OK)
         return refused(number);
 
-    file = fopen(words[2], "rb");
+    file = fopen(flags_name, "rb");
     if (file == NULL)
-        return failed(words[2]);
-    int status = replay(file, words[2]);
+        return failed(flags_name);
+    int status = take_file(file, flags_name);
     fclose(file);
+    return status;
+}
+
+int main(int count, char **words)
+{
+    if (count != 3) {
+        fprintf(stderr, "usage: replay SHEET FLAGS\n");
+        return 2;
+    }
+    int status = replay(words[1], words[2]);
     if (fflush(stdout) != 0 || ferror(stdout))
         return failed("standard output");
     return status;

@@ -1,5 +1,5 @@
-//! Opens the example rule of document 01, takes its ten flag bytes one by one, and
-//! prints 01's three lines.
+//! Opens the example rule of the scope document, takes its ten flag bytes one by one,
+//! and prints the three lines that it gives.
 
 use station_watch::{Refusal, Watch};
 

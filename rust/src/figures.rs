@@ -5,7 +5,7 @@ use crate::raw;
 use crate::refusal::Refusal;
 use core::fmt;
 
-/// What a rule needs: document 01's three figures.
+/// What a rule needs: the scope document's three figures.
 ///
 /// ```
 /// use station_watch::Figures;

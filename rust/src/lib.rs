@@ -28,7 +28,8 @@
 //! [`State`] is the same over memory that the caller lends, as in C. [`figures`] says
 //! what a rule needs, [`outcome`] how it stands at a tick of a recording,
 //! [`rule_body`], [`bodies`] and [`write_sheet`] read and write sheets. A call that cannot be
-//! answered gives a [`Refusal`] and has changed nothing.
+//! answered gives a [`Refusal`] and has changed nothing; only [`Watch::steps`] may have
+//! taken some of its flags before tick numbers were used up.
 //!
 //! The crate needs no `std`. Without its feature `alloc`, which is on unless it is
 //! turned off, `Watch` and `sheet_of` are gone and nothing is allocated.
@@ -55,6 +56,13 @@ mod state;
 mod stored;
 #[cfg(feature = "alloc")]
 mod watch;
+
+/// The version of this crate, which is that of the library.
+///
+/// ```
+/// assert_eq!(station_watch::VERSION, "0.2.0");
+/// ```
+pub const VERSION: &str = env!("CARGO_PKG_VERSION");
 
 pub use figures::{figures, Figures};
 pub use limits::*;

@@ -1,11 +1,4 @@
-//! The sizes that document 01 fixes.
-
-/// The version of this crate, which is that of the library.
-///
-/// ```
-/// assert_eq!(station_watch::VERSION, "0.2.0");
-/// ```
-pub const VERSION: &str = env!("CARGO_PKG_VERSION");
+//! The sizes that the scope document fixes, and the library's own.
 
 /// The most rules of a sheet.
 pub const MAX_RULES: usize = 32;
@@ -51,15 +44,18 @@ pub const MAX_CELL_WORDS: usize = CELL_WORDS * MAX_CELLS;
 /// ```
 pub const MAX_REPORT: usize = MAX_DELAY + 1;
 
-/// The tick that no step takes: refusal 20.
+/// How many ticks a rule can take: 0 to 4,294,967,294. The next one is refusal 20.
 ///
 /// ```
-/// assert_eq!(station_watch::LAST_TICK, 4_294_967_295);
+/// assert_eq!(station_watch::MAX_TICKS, 4_294_967_295);
 /// ```
-pub const LAST_TICK: u64 = u32::MAX as u64;
+pub const MAX_TICKS: u64 = u32::MAX as u64;
 
 /// The bytes of a state.
 pub const STATE_BYTES: usize = 544;
 
 /// The bytes that are enough for the sentence of every refusal and the 0 after it.
 pub const MAX_SENTENCE: usize = 128;
+
+/// The bytes of stack of any call of the library, measured: docs/PERFORMANCE.md.
+pub const MAX_STACK: usize = 98_304;

@@ -15,8 +15,6 @@
 //! assert_eq!((answer, history, delay, cells), (0, 0, 0, 1));
 //! ```
 
-pub use crate::limits::STATE_BYTES;
-
 /// What `sw_outcome` answers as a verdict: open.
 pub const OPEN: u32 = 0;
 /// What `sw_outcome` answers as a verdict: true.

@@ -5,8 +5,8 @@ use crate::raw;
 use core::error::Error;
 use core::fmt;
 
-/// Why a call was refused, with document 01's number. Nothing that was lent to the
-/// call has changed.
+/// Why a call was refused, with the scope document's number. Nothing that was lent to
+/// the call has changed; only `Watch::steps` may have taken some of its flags.
 ///
 /// ```
 /// use station_watch::{figures, Refusal};
@@ -103,7 +103,7 @@ const NAMED: [Refusal; 22] = [
 ];
 
 impl Refusal {
-    /// Document 01's number.
+    /// The scope document's number.
     ///
     /// ```
     /// use station_watch::Refusal;

@@ -27,7 +27,8 @@ impl Watch {
     }
 
     /// A watch that was stored as bytes, which goes on where it was left. Refusals as
-    /// of `from_parts`: bytes that are cut short are always refused.
+    /// of `from_parts`: bytes that are cut short are always refused. So are bytes that are
+    /// left over: 21.
     ///
     /// ```
     /// use station_watch::{sheet_of, Refusal, Watch};
@@ -45,8 +46,13 @@ impl Watch {
         let (state, rest) = bytes.split_first_chunk().unwrap_or((&[0; STATE_BYTES], &[]));
         let state = State::from_bytes(*state);
         let length = usize::try_from(state.history_len()).unwrap_or(usize::MAX);
-        let (history, cells) = rest.split_at(length.min(rest.len()));
+        let (history, table) = rest.split_at(length.min(rest.len()));
         let word = |four: &[u8]| u32::from_le_bytes([four[0], four[1], four[2], four[3]]);
-        Watch::from_parts(state, history.to_vec(), cells.chunks_exact(4).map(word).collect())
+        let cells = table.chunks_exact(4).map(word).collect();
+        let watch = Watch::from_parts(state, history.to_vec(), cells)?;
+        match table.len() == 4 * watch.figures().cell_words() {
+            true => Ok(watch),
+            false => Err(Refusal::StateNotOpened),
+        }
     }
 }

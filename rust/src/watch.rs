@@ -72,10 +72,10 @@ impl Watch {
         self.state.step(flag, &mut self.history, &mut self.cells, words)
     }
 
-    /// Takes all of these flag bytes, one after another, and hands over each violation
-    /// as soon as it is decided. Refusal 20 where tick numbers are used up before the
-    /// last flag: then the violations of the flags that were taken have been handed
-    /// over, and `next_tick` tells how many those are.
+    /// Takes all of these flag bytes, one after another, and hands over the violations
+    /// in the order in which they are decided. Refusal 20 where tick numbers are used up
+    /// before the last flag: then the violations of the flags that were taken have been
+    /// handed over, and `next_tick` tells how many those are.
     ///
     /// ```
     /// use station_watch::{sheet_of, Pair, Refusal, Watch};
@@ -156,9 +156,9 @@ impl Watch {
     }
 
     /// A watch of stored parts, which goes on where they were left. Refusals 21, 17, 18,
-    /// 20, as of a first step; after that only 20 can come. Parts that were not left
-    /// together by one watch, or were changed, may go unnoticed: their steps report
-    /// something.
+    /// 20, as of a first step; after that only 20 can come. Of the cells it keeps those
+    /// that the rule needs. Parts that were not left together by one watch, or were
+    /// changed, may go unnoticed: their steps report something.
     ///
     /// ```
     /// use station_watch::{sheet_of, Refusal, Watch};
@@ -180,6 +180,7 @@ impl Watch {
         // A batch of no flags changes nothing and is refused as a first step would be.
         state.steps(&[], &mut history, &mut cells, &mut [])?;
         let figures = figures(state.body())?;
+        cells.truncate(figures.cell_words());
         Ok(Watch { figures, state, history, cells, report: report() })
     }
 }

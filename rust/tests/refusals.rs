@@ -4,58 +4,22 @@ mod common;
 
 use common::{sheet, BODY, FLAG};
 use station_watch::{
-    figures, outcome, rule_body, write_sheet, Pair, Refusal, State, LAST_TICK, MAX_RECORDING,
+    figures, outcome, rule_body, write_sheet, Pair, Refusal, State, MAX_RECORDING, MAX_TICKS,
     STATE_BYTES,
 };
-use std::collections::HashSet;
 use std::error::Error;
 
-/// Name, number and sentence of every refusal.
-const ALL: [(Refusal, u32, &str); 22] = [
-    (
-        Refusal::RuleCount,
-        1,
-        "sheet empty, not 1 to 32 rules, or its table of contents is cut short",
-    ),
-    (Refusal::EntryLayout, 2, "an entry of the sheet breaks the layout"),
-    (Refusal::NoSuchRule, 3, "no such rule"),
-    (Refusal::BodyEndsEarly, 4, "the body ends too early"),
-    (Refusal::UnknownCode, 5, "unknown code or kind"),
-    (Refusal::UnboundVariable, 6, "a variable that is not bound here"),
-    (Refusal::NoSuchFlag, 7, "a flag above 7"),
-    (Refusal::BadOffset, 8, "an offset outside -4,095 to 4,095, or a byte that should be 0"),
-    (Refusal::BodyTooLarge, 9, "a 65th formula or a 5th nested quantifier"),
-    (Refusal::BytesLeftOver, 10, "bytes left over after the formula"),
-    (Refusal::DelayInfinite, 11, "the delay is infinite"),
-    (Refusal::DelayAboveLimit, 12, "the delay is above 255"),
-    (Refusal::HistoryInfinite, 13, "the history is infinite"),
-    (Refusal::HistoryAboveLimit, 14, "the history is above 4,096"),
-    (Refusal::CellsAboveLimit, 15, "more than 4,096 cells"),
-    (Refusal::NotInRecording, 16, "the recording is too long, or the tick is not in it"),
-    (Refusal::HistoryLength, 17, "the history has a wrong length"),
-    (Refusal::CellTableTooShort, 18, "the cell table is too short"),
-    (Refusal::ReportTooShort, 19, "the report is too short"),
-    (Refusal::TicksUsedUp, 20, "tick numbers are used up"),
-    (Refusal::StateNotOpened, 21, "state and cells were not left by one opening and its steps"),
-    (Refusal::BufferTooShort, 22, "the buffer is too short"),
-];
-
+/// Numbers 1 to 22 have names, and the docs of each name are the library's sentence.
 #[test]
 fn names_numbers_and_sentences() {
-    for (refusal, number, sentence) in ALL {
-        assert_eq!(refusal.number(), number);
-        assert_eq!(Refusal::from_number(number), Some(refusal));
-        assert_eq!(refusal.to_string(), format!("refused {number}: {sentence}"));
-    }
-    assert_eq!(ALL.iter().map(|(refusal, ..)| refusal).collect::<HashSet<_>>().len(), 22);
-}
-
-/// The docs of the enum say the same.
-#[test]
-fn documented_sentences() {
     let source = include_str!("../src/refusal.rs");
-    for (refusal, number, sentence) in ALL {
-        assert!(source.contains(&format!("    /// {number}: {sentence}.\n    {refusal:?},\n")));
+    for number in 1..=22 {
+        let refusal = Refusal::from_number(number).unwrap();
+        assert_eq!(refusal.number(), number);
+        let shown = refusal.to_string();
+        let sentence = shown.strip_prefix(&format!("refused {number}: ")).unwrap();
+        let documented = format!("    /// {number}: {sentence}.\n    {refusal:?},\n");
+        assert!(source.contains(&documented), "{documented}");
     }
 }
 
@@ -66,7 +30,7 @@ fn a_number_without_a_name_is_kept() {
         assert_eq!(refusal.number(), number);
         assert!(matches!(refusal, Refusal::Other { number: same, .. } if same == number));
         assert_eq!(refusal.to_string(), format!("refused {number}: no such refusal"));
-        assert!(ALL.iter().all(|&(named, ..)| named != refusal));
+        assert!((1..=22).all(|named| Refusal::from_number(named) != Some(refusal)));
     }
     assert_ne!(Refusal::from_number(23), Refusal::from_number(24));
 }
@@ -157,7 +121,7 @@ fn of_a_step() {
     assert_eq!(refused(&mut state, &mut history, &mut [0; 83], 3), Refusal::CellTableTooShort);
     assert_eq!(refused(&mut state, &mut history, &mut cells, 2), Refusal::ReportTooShort);
     let mut last = *state.as_bytes();
-    last[528..536].copy_from_slice(&LAST_TICK.to_le_bytes());
+    last[528..536].copy_from_slice(&MAX_TICKS.to_le_bytes());
     let mut last = State::from_bytes(last);
     assert_eq!(refused(&mut last, &mut history, &mut cells, 3), Refusal::TicksUsedUp);
     let mut none = State::from_bytes([0; STATE_BYTES]);

@@ -5,7 +5,7 @@ mod common;
 
 use common::{sheet, stream, BODY, FIGURES, FLAG, FLAGS, LATE};
 use station_watch::{
-    figures, sheet_of, Pair, Refusal, State, Watch, LAST_TICK, MAX_BODY, STATE_BYTES,
+    figures, sheet_of, Pair, Refusal, State, Watch, MAX_BODY, MAX_TICKS, STATE_BYTES,
 };
 
 fn open(body: &[u8]) -> Watch {
@@ -142,9 +142,9 @@ fn stored_as_bytes() {
     assert_eq!(all_pairs(&mut again, &FLAGS[7..]), [Pair { tick: 5, step: 7 }]);
 }
 
-/// Bytes that are cut short are refused wherever the cut is.
+/// Bytes that are cut short are refused wherever the cut is, and so are bytes too many.
 #[test]
-fn stored_bytes_cut_short() {
+fn stored_bytes_of_a_wrong_length() {
     let bytes = open(&BODY).to_bytes();
     for length in 0..bytes.len() {
         let due = match length {
@@ -154,9 +154,26 @@ fn stored_bytes_cut_short() {
         };
         assert_eq!(Watch::from_bytes(&bytes[..length]).unwrap_err(), due, "{length} bytes");
     }
+    let mut bytes = bytes;
+    for left_over in 1..=9 {
+        bytes.push(0);
+        let refused = Watch::from_bytes(&bytes).unwrap_err();
+        assert_eq!(refused, Refusal::StateNotOpened, "{left_over} bytes left over");
+    }
     let mut long = [0; STATE_BYTES];
     long[520..528].copy_from_slice(&u64::MAX.to_le_bytes());
     assert_eq!(Watch::from_bytes(&long).unwrap_err(), Refusal::StateNotOpened);
+}
+
+/// Of a longer cell table a watch keeps what its rule needs.
+#[test]
+fn cells_that_no_step_needs() {
+    let (watch, mut long) = (open(&BODY), vec![9; 100]);
+    let (state, history, cells) = watch.parts();
+    long[..84].copy_from_slice(cells);
+    let again = Watch::from_parts(state.clone(), history.to_vec(), long).unwrap();
+    assert_eq!(again.parts(), watch.parts());
+    assert_eq!(again.to_bytes(), watch.to_bytes());
 }
 
 #[test]
@@ -174,18 +191,18 @@ fn a_copy_goes_on_by_itself() {
 fn ticks_used_up() {
     let near = |left: u64| {
         let mut bytes = *open(&FLAG).parts().0.as_bytes();
-        bytes[528..536].copy_from_slice(&(LAST_TICK - left).to_le_bytes());
+        bytes[528..536].copy_from_slice(&(MAX_TICKS - left).to_le_bytes());
         Watch::from_parts(State::from_bytes(bytes), vec![], vec![0; 4])
     };
-    let tick = LAST_TICK as u32 - 2;
+    let tick = MAX_TICKS as u32 - 2;
     let mut watch = near(2).unwrap();
     let mut pairs = Vec::new();
     let answer = watch.steps(&[0, 1, 0, 0], |pair| pairs.push(pair));
     assert_eq!(answer, Err(Refusal::TicksUsedUp));
     assert_eq!(pairs, [Pair { tick, step: tick }]);
-    assert_eq!(watch.next_tick(), LAST_TICK);
+    assert_eq!(watch.next_tick(), MAX_TICKS);
     assert_eq!(watch.step(0), Err(Refusal::TicksUsedUp));
-    assert_eq!(watch.next_tick(), LAST_TICK);
+    assert_eq!(watch.next_tick(), MAX_TICKS);
 
     let mut watch = near(1).unwrap();
     assert_eq!(watch.step(0).unwrap().ticks, [tick + 1]);

@@ -28,6 +28,14 @@ static const uint8_t flags[] = {0, 1, 1, 0, 1, 1, 1, 1, 0, 0};
 /* for all Y from X+255 to X+255: flag 0 at Y: 0, 255, 768 */
 static const uint8_t ahead[] = {5, 2, 0, 255, 0, 2, 0, 255, 0, 1, 1, 0};
 
+/* The cells of both, and the words of their cell tables. */
+enum {
+    EXAMPLE_CELLS = 21,
+    EXAMPLE_WORDS = SW_CELL_WORDS * EXAMPLE_CELLS,
+    AHEAD_CELLS = 768,
+    AHEAD_WORDS = SW_CELL_WORDS * AHEAD_CELLS
+};
+
 /* Memory for any rule, and a word more where a test lends too much. */
 static uint8_t history[SW_MAX_HISTORY + 1];
 static uint32_t cells[SW_MAX_CELL_WORDS];
@@ -131,8 +139,8 @@ static uint32_t figures_are(const uint8_t *body, size_t len, uint64_t h, uint64_
 
 static void bodies(void)
 {
-    SAME(SW_OK, figures_are(example, sizeof example, 1, 2, 21));
-    SAME(SW_OK, figures_are(ahead, sizeof ahead, 0, 255, 768));
+    SAME(SW_OK, figures_are(example, sizeof example, 1, 2, EXAMPLE_CELLS));
+    SAME(SW_OK, figures_are(ahead, sizeof ahead, 0, SW_MAX_DELAY, AHEAD_CELLS));
     SAME(SW_BODY_ENDS_EARLY, figures_are(example, 0, 0, 0, 0));
     SAME(SW_BODY_ENDS_EARLY, figures_are(example, sizeof example - 1, 0, 0, 0));
     REFUSED(SW_UNKNOWN_CODE, 6);
@@ -188,32 +196,34 @@ static void recordings(void)
 static void lending(void)
 {
     write_one(example, sizeof example);
-    SAME(SW_HISTORY_LENGTH, open_with(0, 84));
-    SAME(SW_HISTORY_LENGTH, open_with(SW_MAX_HISTORY + 1, 84));
-    SAME(SW_CELL_TABLE_TOO_SHORT, open_with(1, SW_CELL_WORDS * 21 - 1));
-    SAME(SW_OK, open_with(SW_MAX_HISTORY, SW_CELL_WORDS * 21));
-    SAME(SW_OK, open_with(1, SW_CELL_WORDS * 21));
+    SAME(SW_HISTORY_LENGTH, open_with(0, EXAMPLE_WORDS));
+    SAME(SW_HISTORY_LENGTH, open_with(SW_MAX_HISTORY + 1, EXAMPLE_WORDS));
+    SAME(SW_CELL_TABLE_TOO_SHORT, open_with(1, EXAMPLE_WORDS - 1));
+    SAME(SW_OK, open_with(SW_MAX_HISTORY, EXAMPLE_WORDS));
+    SAME(SW_OK, open_with(1, EXAMPLE_WORDS));
 
-    SAME(SW_HISTORY_LENGTH, step_with(2, 84, 3));
-    SAME(SW_CELL_TABLE_TOO_SHORT, step_with(1, 83, 3));
-    SAME(SW_REPORT_TOO_SHORT, step_with(1, 84, 2));
-    SAME(SW_OK, step_with(1, 84, 3));
+    SAME(SW_HISTORY_LENGTH, step_with(2, EXAMPLE_WORDS, 3));
+    SAME(SW_CELL_TABLE_TOO_SHORT, step_with(1, EXAMPLE_WORDS - 1, 3));
+    SAME(SW_REPORT_TOO_SHORT, step_with(1, EXAMPLE_WORDS, 2));
+    SAME(SW_OK, step_with(1, EXAMPLE_WORDS, 3));
 
     set_number(528, UINT32_MAX);
-    SAME(SW_TICKS_USED_UP, step_with(1, 84, 3));
+    SAME(SW_TICKS_USED_UP, step_with(1, EXAMPLE_WORDS, 3));
     set_number(528, (uint64_t)UINT32_MAX + 1);
-    SAME(SW_STATE_NOT_OPENED, step_with(1, 84, 3));
+    SAME(SW_STATE_NOT_OPENED, step_with(1, EXAMPLE_WORDS, 3));
     set_number(528, UINT32_MAX - 1);
-    SAME(SW_OK, step_with(1, 84, 3));
-    SAME(SW_TICKS_USED_UP, step_with(1, 84, 3));
+    SAME(SW_OK, step_with(1, EXAMPLE_WORDS, 3));
+    SAME(SW_TICKS_USED_UP, step_with(1, EXAMPLE_WORDS, 3));
 
     set_number(520, SW_MAX_HISTORY + 1);
-    SAME(SW_STATE_NOT_OPENED, step_with(1, 84, 3));
+    SAME(SW_STATE_NOT_OPENED, step_with(1, EXAMPLE_WORDS, 3));
     memset(state, 0, sizeof state);
-    SAME(SW_STATE_NOT_OPENED, step_with(1, 84, 3));
+    SAME(SW_STATE_NOT_OPENED, step_with(1, EXAMPLE_WORDS, 3));
 
     /* What every rule can need. */
-    SAME(SW_MAX_CELL_WORDS, 4096 * SW_CELL_WORDS);
+    SAME(SW_MAX_CELL_WORDS, SW_MAX_CELLS * SW_CELL_WORDS);
+    SAME(SW_MAX_REPORT, SW_MAX_DELAY + 1);
+    SAME(SW_MAX_BATCH_REPORT, 2 * SW_MAX_REPORT);
     write_one(ahead, sizeof ahead);
     SAME(SW_OK, open_with(0, SW_MAX_CELL_WORDS));
     SAME(SW_REPORT_TOO_SHORT, step_with(0, SW_MAX_CELL_WORDS, SW_MAX_REPORT - 1));
@@ -225,7 +235,7 @@ static void dishonest(void)
 {
     size_t reported, live;
     write_one(example, sizeof example);
-    SAME(SW_OK, open_with(4, 84));
+    SAME(SW_OK, open_with(4, EXAMPLE_WORDS));
     set_number(528, 6);
     memset(cells, 0xFF, sizeof cells);
     memset(history, 0xEE, sizeof history);
@@ -233,7 +243,7 @@ static void dishonest(void)
     SAME(SW_OK, sw_step(state, 1, history, 4, cells, SW_MAX_CELL_WORDS, report, SW_MAX_REPORT, &reported, &live));
     SAME(1, reported <= 3);
     SAME(0xDDDDDDDD, report[3]);
-    SAME(UINT32_MAX, cells[84]);
+    SAME(UINT32_MAX, cells[EXAMPLE_WORDS]);
     SAME(0xEE, history[1]);
     SAME(1, history[2]);
     SAME(0xEE, history[3]);
@@ -247,7 +257,7 @@ static size_t violations;
 static void violation(uint32_t tick, uint32_t step)
 {
     SAME(violations, tick);
-    SAME(violations + 255, step);
+    SAME(violations + SW_MAX_DELAY, step);
     violations++;
 }
 
@@ -263,7 +273,7 @@ static void batches(void)
     static const uint8_t down[1000];
     size_t taken, pairs, live;
 
-    /* Every tick is a violation, 255 steps later. */
+    /* Every tick is a violation, SW_MAX_DELAY steps later. */
     write_one(ahead, sizeof ahead);
     SAME(SW_OK, open_with(0, SW_MAX_CELL_WORDS));
 
@@ -279,25 +289,25 @@ static void batches(void)
 
     /* The loop of the header ends, and sees them all. */
     SAME(SW_OK, take_all(down, sizeof down, 0, SW_MAX_CELL_WORDS));
-    SAME(sizeof down - 255, violations);
+    SAME(sizeof down - SW_MAX_DELAY, violations);
     SAME(SW_OK, sw_steps(state, down, 0, history, 0, cells, SW_MAX_CELL_WORDS, report, 0, &taken, &pairs, &live));
-    SAME(255, live);
+    SAME(SW_MAX_DELAY, live);
     SAME(sizeof down % 256, state[528]);
     SAME(sizeof down / 256, state[529]);
 
     /* What is asked of a first step, also where there is no flag; never 19. */
-    SAME(SW_CELL_TABLE_TOO_SHORT, sw_steps(state, down, 0, history, 0, cells, 4 * 768 - 1, report, 0, &taken, &pairs, &live));
-    SAME(SW_HISTORY_LENGTH, sw_steps(state, down, 0, history, 1, cells, 4 * 768 - 1, report, 0, &taken, &pairs, &live));
-    SAME(SW_OK, sw_steps(state, down, 1, history, 0, cells, 4 * 768, report, 0, &taken, &pairs, &live));
+    SAME(SW_CELL_TABLE_TOO_SHORT, sw_steps(state, down, 0, history, 0, cells, AHEAD_WORDS - 1, report, 0, &taken, &pairs, &live));
+    SAME(SW_HISTORY_LENGTH, sw_steps(state, down, 0, history, 1, cells, AHEAD_WORDS - 1, report, 0, &taken, &pairs, &live));
+    SAME(SW_OK, sw_steps(state, down, 1, history, 0, cells, AHEAD_WORDS, report, 0, &taken, &pairs, &live));
     SAME(0, taken);
 
-    /* The last tick ends a batch, and refuses the next one. */
+    /* After the last tick a batch ends, and the next one is refused. */
     set_number(528, UINT32_MAX - 1);
-    SAME(SW_OK, sw_steps(state, down, 2, history, 0, cells, 4 * 768, report, SW_MAX_BATCH_REPORT, &taken, &pairs, &live));
+    SAME(SW_OK, sw_steps(state, down, 2, history, 0, cells, AHEAD_WORDS, report, SW_MAX_BATCH_REPORT, &taken, &pairs, &live));
     SAME(1, taken);
-    SAME(SW_TICKS_USED_UP, sw_steps(state, down, 2, history, 0, cells, 4 * 768, report, SW_MAX_BATCH_REPORT, &taken, &pairs, &live));
+    SAME(SW_TICKS_USED_UP, sw_steps(state, down, 2, history, 0, cells, AHEAD_WORDS, report, SW_MAX_BATCH_REPORT, &taken, &pairs, &live));
     memset(state, 0, sizeof state);
-    SAME(SW_STATE_NOT_OPENED, sw_steps(state, down, 2, history, 0, cells, 4 * 768, report, SW_MAX_BATCH_REPORT, &taken, &pairs, &live));
+    SAME(SW_STATE_NOT_OPENED, sw_steps(state, down, 2, history, 0, cells, AHEAD_WORDS, report, SW_MAX_BATCH_REPORT, &taken, &pairs, &live));
 }
 
 /* ---- Sentences: header.py compares the texts ---- */

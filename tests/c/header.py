@@ -1,15 +1,18 @@
 """Holds include/station_watch.h and the library to each other: both kinds show the header's functions and no others, and the sentence in the comment above
 each refusal's constant is what sw_sentence writes. It loads the shared library as other languages do, and asks for the figures of the scope document's example.
 
-    python3 header.py HEADER SHARED STATIC
+    python3 header.py SHARED STATIC
 """
 import ctypes
+import os
 import re
 import subprocess
 import sys
 
-header_file, shared, static = sys.argv[1:]
-header = open(header_file).read()
+sys.path.insert(0, os.path.join(os.path.dirname(os.path.realpath(__file__)), "..", "oracle"))
+from sentences import HEADER, SENTENCES  # noqa: E402
+
+shared, static = sys.argv[1:]
 library = ctypes.CDLL(shared)
 failures = []
 
@@ -19,24 +22,13 @@ def same(what, expected, seen):
         failures.append(f"{what}: {seen!r}, not {expected!r}")
 
 
-def plain(comment):
-    """The words of a comment that goes over several lines."""
-    return " ".join(re.sub(r"\n \*", " ", comment).split())
-
-
-def constants():
-    return {name: int(value) for name, value in re.findall(r"^#define (SW_\w+) (\d+)$", header, re.M)}
-
-
-def refusals():
-    """(name, number, sentence) of each constant with a quoted sentence at the start of the comment above it."""
-    found = re.findall(r'/\* "([^"]*)"((?:(?!\*/).)*)\*/\n#define (SW_\w+) (\d+)\n', header, re.S)
-    return [(name, int(number), plain(sentence)) for sentence, _, name, number in found]
+def constant(name):
+    return int(re.search(r"^#define %s (\d+)$" % name, HEADER, re.M).group(1))
 
 
 def sentence(number):
     """What sw_sentence writes, in a buffer of SW_MAX_SENTENCE bytes."""
-    room = constants()["SW_MAX_SENTENCE"]
+    room = constant("SW_MAX_SENTENCE")
     out = ctypes.create_string_buffer(b"\xaa" * room, room)
     written = ctypes.c_size_t()
     same(f"sw_sentence({number})", 0, library.sw_sentence(ctypes.c_uint32(number), out, ctypes.c_size_t(room), ctypes.byref(written)))
@@ -51,17 +43,16 @@ def symbols(*words):
 
 
 def functions():
-    declared = sorted(re.findall(r"^\w+ (sw_\w+)\(", header, re.M))
+    declared = sorted(re.findall(r"^\w+ (sw_\w+)\(", HEADER, re.M))
     same("functions of the shared library", declared, symbols("--dynamic", shared))
     same("functions of the static library", declared, symbols("--extern-only", static))
 
 
 def sentences():
-    listed = refusals()
-    same("numbers of the refusals", list(range(1, 23)), [number for _, number, _ in listed])
-    for name, number, text in listed:
-        same(name, text, sentence(number))
-    for number in (constants()["SW_OK"], 23, 4294967295):
+    same("numbers of the refusals", list(range(1, 23)), list(SENTENCES))
+    for number, text in SENTENCES.items():
+        same(f"sentence {number}", text, sentence(number))
+    for number in (constant("SW_OK"), 23, 4294967295):
         same(f"sentence {number}", "no such refusal", sentence(number))
 
 

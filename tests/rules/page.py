@@ -17,7 +17,8 @@ import tempfile
 
 from blocks import KEY, bounds_block, data, figures_block, mark, outcomes_block, refused_block, rule_block, sheet_block
 from notation import encode, shown
-from stand_in import SENTENCES, bodies, figures_line, sheet_of
+from stand_in import bodies, figures_line, sheet_of
+from sentences import SENTENCES
 
 # What the page must have at least, so that a block which loses its fence or its kind is seen.
 LEAST = {"rule": 15, "outcomes": 5, "figures": 2, "refused": 1, "bounds": 1, "sheet": 1, "console": 3}
@@ -238,7 +239,7 @@ def sessions_run(blocks, links, work):
 
 
 def refusals_told(path):
-    """The page's table has each refusal of a body with the commands' own sentence."""
+    """The page's table has each refusal of a body with its sentence."""
     with open(path, encoding="ascii") as page:
         text = page.read()
     for number in range(4, 16):

@@ -1,7 +1,8 @@
 #!/usr/bin/env python3
 """The commands `station-watch` and `watch`, worked out from document 01 alone by tests/oracle: what the examples of docs/RULES.md are compared with first.
 
-Called by either name (a link in a folder that tests/rules/run makes). The lines and sentences are those of the commands' usage.
+Called by either name (a link in a folder that tests/rules/run makes). The lines are those of the commands' usage, the sentences those
+of include/station_watch.h.
 """
 import os
 import sys
@@ -12,26 +13,8 @@ sys.dont_write_bytecode = True
 from figures import figures  # noqa: E402
 from outcomes import outcome_at  # noqa: E402
 from paper import OPEN, Refused  # noqa: E402
+from sentences import SENTENCES  # noqa: E402
 from watch import rule_0, sheet_of, watch  # noqa: E402
-
-SENTENCES = {
-    1: "sheet empty, not 1 to 32 rules, or its table of contents is cut short",
-    2: "an entry of the sheet breaks the layout",
-    3: "no such rule",
-    4: "the body ends too early",
-    5: "unknown code or kind",
-    6: "a variable that is not bound here",
-    7: "a flag above 7",
-    8: "an offset outside -4,095 to 4,095, or a byte that should be 0",
-    9: "a 65th formula or a 5th nested quantifier",
-    10: "bytes left over after the formula",
-    11: "the delay is infinite",
-    12: "the delay is above 255",
-    13: "the history is infinite",
-    14: "the history is above 4,096",
-    15: "more than 4,096 cells",
-    16: "the recording is too long, or the tick is not in it",
-}
 
 
 def refused(number):

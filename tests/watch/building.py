@@ -99,7 +99,3 @@ class Building(unittest.TestCase):
             said.append(err)
         self.assertEqual(sorted(said), ["watch: another command is building; waiting for it\n", BEGIN + PROVED])
         self.assertEqual(self.calls(), ["rt check watch"])
-
-
-if __name__ == "__main__":
-    unittest.main()

@@ -3,11 +3,8 @@ import os
 import signal
 import subprocess
 import time
-import unittest
 
-from station import COMMAND, FLAG_UP, Station, lines
-
-FIGURES = lines(FLAG_UP, b"").splitlines(True)[0]
+from station import COMMAND, FIGURES, Station
 
 
 def standing(pid):
@@ -90,7 +87,3 @@ class Signals(Station):
         os.killpg(run.pid, signal.SIGINT)
         self.assertIn(run.wait(60), (-signal.SIGINT, 128 + signal.SIGINT))
         self.ended(program)
-
-
-if __name__ == "__main__":
-    unittest.main()

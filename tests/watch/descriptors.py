@@ -5,9 +5,8 @@ import subprocess
 import threading
 import time
 
-from station import CELLS_4160, COMMAND, FLAG_UP, REFUSED_1, REFUSED_15, Station, lines
+from station import CELLS_4160, COMMAND, FIGURES, FLAG_UP, REFUSED_1, REFUSED_15, Station, lines
 
-FIGURES = lines(FLAG_UP, b"").splitlines(True)[0]
 MANY = bytes(100_000)  # as many violations
 
 

@@ -10,17 +10,21 @@ COMMAND = os.path.join(ROOT, "bin", "watch")
 PROGRAM = os.path.join(ROOT, "target", "bin", "watch")
 
 sys.path.insert(0, os.path.join(ROOT, "tests", "oracle"))
+from sentences import SENTENCES  # noqa: E402
 from watch import watch  # noqa: E402  (the lines that document 01 asks for)
 
 FLAG_UP = bytes([1, 5, 0, 3, 0, 1, 0, 0])  # one rule, "flag 0 at X": a byte 00 is a violation at its own step
 CELLS_4160 = bytes([1, 5, 0, 12, 0, 5, 2, 0, 0, 0, 2, 0, 63, 0, 1, 1, 0])  # X..X+63, document 01's case of refusal 15
-REFUSED_1 = "watch: refused 1: sheet empty, not 1 to 32 rules, or its table of contents is cut short\n"
-REFUSED_15 = "watch: refused 15: more than 4,096 cells\n"
+REFUSED_1 = "watch: refused 1: %s\n" % SENTENCES[1]
+REFUSED_15 = "watch: refused 15: %s\n" % SENTENCES[15]
 
 
 def lines(sheet, flags):
     """What `watch` must print, as bytes."""
     return "".join(line + "\n" for line in watch(sheet, flags)).encode()
+
+
+FIGURES = lines(FLAG_UP, b"").splitlines(True)[0]  # what it prints first
 
 
 class Station(unittest.TestCase):

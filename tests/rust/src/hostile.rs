@@ -12,7 +12,7 @@ use crate::compare::{self, hex, Check, Numbers, MARK};
 use crate::demand;
 use crate::lent::Lent;
 use crate::library::{Library, StepAnswer, StepLent, StepsAnswer, STATE_BYTES};
-use crate::paper::{CELL_WORDS, LAST_TICK, MOST_HISTORY};
+use crate::paper::{CELL_WORDS, MAX_HISTORY, MAX_TICKS};
 use crate::random::{self, Random, Rule, WriterInput};
 use crate::states::{number_at, put_number, LIVE_AT, NEXT_AT, OPENED_AT, SIZE_AT};
 use lot::{batch, honest, step, Lot};
@@ -23,7 +23,7 @@ pub fn random_states(library: &dyn Library, seed: u64, count: usize) -> Check<Nu
     let mut numbers = Numbers::default();
     for _ in 0..count {
         let state = random_state(&mut random);
-        let history_length = random.pick(&[0, 1, 2, 7, 64, 255, MOST_HISTORY, MOST_HISTORY + 1]);
+        let history_length = random.pick(&[0, 1, 2, 7, 64, 255, MAX_HISTORY, MAX_HISTORY + 1]);
         let (words, room) = (random.pick(&[0, 3, 12, 84, 900, 16_384]), random.size(0, 300));
         let (history, cells) = (random.bytes(history_length), random_table(&mut random, words));
         let mut lot = Lot::new(&state, &history, &cells, &random.words(room));
@@ -92,8 +92,8 @@ pub fn forged_states(library: &dyn Library, seed: u64, count: usize) -> Check<Nu
 
 fn forged_lot(random: &mut Random, rule: &Rule) -> Lot {
     let state = forged_state(random, rule);
-    let own = (number_at(&state, OPENED_AT) as usize).min(2 * MOST_HISTORY);
-    let length = if random.one_in(8) { random.pick(&[0, own + 1, MOST_HISTORY]) } else { own };
+    let own = (number_at(&state, OPENED_AT) as usize).min(2 * MAX_HISTORY);
+    let length = if random.one_in(8) { random.pick(&[0, own + 1, MAX_HISTORY]) } else { own };
     let needed = CELL_WORDS * rule.figures.cells as usize;
     let words = random.pick(&[needed, needed, needed, needed + 3, needed - 1]);
     let one = rule.figures.delay as usize + 1;
@@ -107,7 +107,7 @@ fn forged_state(random: &mut Random, rule: &Rule) -> Vec<u8> {
     let size = body.len() as u64;
     let sizes = [0, size - 1, size + 1, 512, 513, 65_536 + size, (1 << 32) + size, u64::MAX];
     let long = [least.saturating_sub(1), 4096, 4097, 65_536 + least, (1 << 32) + least, u64::MAX];
-    let late = [LAST_TICK, LAST_TICK - 1, LAST_TICK - 2, LAST_TICK + 1, u64::MAX];
+    let late = [MAX_TICKS, MAX_TICKS - 1, MAX_TICKS - 2, MAX_TICKS + 1, u64::MAX];
     let early = random.below(1 << 20) as u64;
     let live = random.below(300) as u64;
     let mut state = random.bytes(STATE_BYTES);
@@ -246,7 +246,7 @@ fn overwrite(random: &mut Random, history: &mut Lent<u8>) {
 pub fn forged_lengths(library: &dyn Library) -> Check<u64> {
     let mut refused = 0;
     for length in [4097, 4098, 65_535, 65_536 + 513, (1 << 32) + 513, u64::MAX] {
-        for lent in [0, 513, MOST_HISTORY, MOST_HISTORY + 1] {
+        for lent in [0, 513, MAX_HISTORY, MAX_HISTORY + 1] {
             for (words, room) in [(4, 2), (0, 0)] {
                 let mut lot = bare_flag(library, 513)?;
                 put_number(lot.state.part(), OPENED_AT, length);
@@ -267,12 +267,12 @@ pub fn forged_lengths(library: &dyn Library) -> Check<u64> {
 /// the tick is put into the state. For each tick: what a step answered, what a
 /// batch of two flags after it answered, and how many of them it took.
 pub const DUE_TICKS: &[(u64, u32, u32, usize)] = &[
-    (LAST_TICK - 3, 0, 0, 2),
-    (LAST_TICK - 2, 0, 0, 1),
-    (LAST_TICK - 1, 0, 20, 0),
-    (LAST_TICK, 20, 20, 0),
-    (LAST_TICK + 1, 21, 21, 0),
-    (LAST_TICK + 6, 21, 21, 0),
+    (MAX_TICKS - 3, 0, 0, 2),
+    (MAX_TICKS - 2, 0, 0, 1),
+    (MAX_TICKS - 1, 0, 20, 0),
+    (MAX_TICKS, 20, 20, 0),
+    (MAX_TICKS + 1, 21, 21, 0),
+    (MAX_TICKS + 6, 21, 21, 0),
     (u64::MAX, 21, 21, 0),
 ];
 

@@ -1,4 +1,4 @@
-//! The boundary to the library: seven calls. "Every function answers 0 or 01's
+//! The boundary to the library: all calls but `sw_sentence`. "Every function answers 0 or 01's
 //! refusal number; on a refusal nothing lent is changed."
 
 /// The bytes of a state.
@@ -30,7 +30,7 @@ pub struct StepLent<'a> {
     pub report: &'a mut [u32],
 }
 
-/// The seven calls, with slices for pointers and lengths.
+/// These calls, with slices for pointers and lengths.
 pub trait Library {
     /// Where a rule's body lies in its sheet.
     fn rule_place(&self, sheet: &[u8], rule: usize, start: &mut usize, size: &mut usize) -> u32;

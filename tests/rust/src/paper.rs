@@ -17,23 +17,23 @@ pub use sheet::{rule_body, rule_place, write_sheet};
 pub type Refusal = u32;
 
 /// "A lent history of L bytes": at most this many (refusals 14 and 17).
-pub const MOST_HISTORY: usize = 4096;
+pub const MAX_HISTORY: usize = 4096;
 /// Refusal 12.
-pub const MOST_DELAY: i64 = 255;
+pub const MAX_DELAY: i64 = 255;
 /// Refusal 15.
-pub const MOST_CELLS: i128 = 4096;
+pub const MAX_CELLS: i128 = 4096;
 /// "A cell has four 32-bit words."
 pub const CELL_WORDS: usize = 4;
 /// "At most 64 formulas in a body and 4 quantifiers nested."
-pub const MOST_FORMULAS: usize = 64;
-pub const MOST_NESTED: usize = 4;
+pub const MAX_FORMULAS: usize = 64;
+pub const MAX_NESTED: usize = 4;
 /// "A signed 16-bit offset [..] from -4,095 to 4,095."
-pub const MOST_OFFSET: i64 = 4095;
+pub const MAX_OFFSET: i64 = 4095;
 /// "A lent recording of up to 65,535 bytes."
-pub const MOST_RECORDING: usize = 65_535;
+pub const MAX_RECORDING: usize = 65_535;
 /// "The number of rules n, 1 to 32."
-pub const MOST_RULES: usize = 32;
+pub const MAX_RULES: usize = 32;
 /// "A length is 1 to 512."
-pub const MOST_LENGTH: usize = 512;
-/// Refusal 20: "the tick to be taken is 4,294,967,295".
-pub const LAST_TICK: u64 = 4_294_967_295;
+pub const MAX_BODY: usize = 512;
+/// How many ticks a rule can take. Refusal 20: "the tick to be taken is 4,294,967,295".
+pub const MAX_TICKS: u64 = 4_294_967_295;

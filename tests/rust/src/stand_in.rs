@@ -8,8 +8,8 @@
 
 use crate::library::{Library, State, StepAnswer, StepLent, StepsAnswer, FALSE, OPEN, TRUE};
 use crate::paper::{
-    self, Bound, Figures, Formula, Lengths, Opened, Outcome, Refusal, Verdict, LAST_TICK,
-    MOST_HISTORY, MOST_LENGTH,
+    self, Bound, Figures, Formula, Lengths, Opened, Outcome, Refusal, Verdict, MAX_BODY,
+    MAX_HISTORY, MAX_TICKS,
 };
 use crate::states::{self, number_at, put_number, LIVE_AT, NEXT_AT, OPENED_AT, SIZE_AT};
 
@@ -63,8 +63,8 @@ pub enum Flaw {
     TrustsLength,
     ShortHistoryIs17,
     CutsTicks,
-    TakesLastTick,
-    BatchTakesLastTick,
+    TakesTickTooMany,
+    BatchTakesTickTooMany,
     SizeOfTwoBytes,
     BodyByItsNumber,
     RefusesHighLive,
@@ -150,10 +150,10 @@ impl StandIn {
             size %= 65_536;
         }
         if self.has(Flaw::CutsTicks) {
-            tick %= LAST_TICK + 1;
+            tick %= MAX_TICKS + 1;
         }
-        let too_long = length > MOST_HISTORY as u64 && !self.has(Flaw::TrustsLength);
-        if size > MOST_LENGTH as u64 || too_long || tick > LAST_TICK {
+        let too_long = length > MAX_HISTORY as u64 && !self.has(Flaw::TrustsLength);
+        if size > MAX_BODY as u64 || too_long || tick > MAX_TICKS {
             return Err(21);
         }
         let by_21 = |number| if self.has(Flaw::BodyByItsNumber) { number } else { 21 };
@@ -184,7 +184,7 @@ impl StandIn {
         match refusal {
             Some(17) if self.has(Flaw::TableBeforeHistory) && short_table => Some(18),
             Some(18) if self.has(Flaw::ReportBeforeTable) && short_report => Some(19),
-            Some(20) if self.has(Flaw::TakesLastTick) => None,
+            Some(20) if self.has(Flaw::TakesTickTooMany) => None,
             None if self.has(Flaw::RefusesOverwritten)
                 && held.tick > 0
                 && lent.cells[held.opened.needed_words() - 1] != sum(lent.history) =>
@@ -471,8 +471,8 @@ impl Library for StandIn {
         for &flag in flags {
             let left = lent.report.len() - words;
             let full = if self.has(Flaw::BatchFillsReport) { left == 0 } else { left < needed };
-            let at_last = held.tick == LAST_TICK && !self.has(Flaw::BatchTakesLastTick);
-            if full || at_last {
+            let used_up = held.tick == MAX_TICKS && !self.has(Flaw::BatchTakesTickTooMany);
+            if full || used_up {
                 break;
             }
             let step = held.tick as u32;

@@ -4,9 +4,7 @@
 //! nothing open there (crates/exports/specs: `admit-bytes`, `BatchPromise`).
 
 use crate::library::{State, STATE_BYTES};
-use crate::paper::{
-    self, Lengths, Opened, Refusal, LAST_TICK, MOST_DELAY, MOST_HISTORY, MOST_LENGTH,
-};
+use crate::paper::{self, Lengths, Opened, Refusal, MAX_BODY, MAX_DELAY, MAX_HISTORY, MAX_TICKS};
 
 /// Where the numbers lie: the body's size, the opened history's length, the
 /// next tick, the live count.
@@ -44,7 +42,7 @@ pub fn put_taken(state: &mut [u8], steps: usize, live: usize) {
 /// The rule's body: the first `size` bytes; none for a size that has no room.
 fn body(state: &[u8]) -> &[u8] {
     let size = number_at(state, SIZE_AT);
-    if size > MOST_LENGTH as u64 {
+    if size > MAX_BODY as u64 {
         return &[];
     }
     &state[..size as usize]
@@ -54,7 +52,7 @@ fn body(state: &[u8]) -> &[u8] {
 /// with. 21 comes first, for a state that no opening gives; then 17 to 20.
 pub fn admit_step(state: &[u8], lent: Lengths) -> Result<Opened, Refusal> {
     let (length, next) = (number_at(state, OPENED_AT), number_at(state, NEXT_AT));
-    if next > LAST_TICK || length > MOST_HISTORY as u64 {
+    if next > MAX_TICKS || length > MAX_HISTORY as u64 {
         return Err(21);
     }
     let formula = paper::read_body(body(state)).map_err(|_| 21u32)?;
@@ -72,5 +70,5 @@ pub fn admit_step(state: &[u8], lent: Lengths) -> Result<Opened, Refusal> {
 /// The same of a batch: it is refused as its first step would be whose report is
 /// long enough, and so never with 19; also where there are no flags.
 pub fn admit_batch(state: &[u8], lent: Lengths) -> Result<Opened, Refusal> {
-    admit_step(state, Lengths { report: MOST_DELAY as usize + 1, ..lent })
+    admit_step(state, Lengths { report: MAX_DELAY as usize + 1, ..lent })
 }

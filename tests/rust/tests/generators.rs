@@ -2,8 +2,7 @@
 //! inside, interesting rules, streams with long runs.
 
 use rust_tests::paper::{
-    evaluate, figures, read_body, rule_place, write_sheet, Bound, Formula, MOST_HISTORY,
-    MOST_OFFSET,
+    evaluate, figures, read_body, rule_place, write_sheet, Bound, Formula, MAX_HISTORY, MAX_OFFSET,
 };
 use rust_tests::random::{
     accepted_rule, aimed, any_body, damaged_sheet, depth, figure_boundary, size, stream,
@@ -47,7 +46,7 @@ fn boundaries_meet_the_limits() {
         let inside =
             |random: &mut Random, number| figures(&figure_boundary(random, number).inside).unwrap();
         delays += (inside(&mut random, 12).delay == 255) as u64;
-        histories += (inside(&mut random, 14).history == MOST_HISTORY as u64) as u64;
+        histories += (inside(&mut random, 14).history == MAX_HISTORY as u64) as u64;
         cells += (inside(&mut random, 15).cells > 4_000) as u64;
     }
     assert_eq!((delays, histories), (500, 500));
@@ -109,7 +108,7 @@ fn wild_formulas_are_wild() {
     let count = |wanted: &dyn Fn(&Bound) -> bool| seen.iter().filter(|b| wanted(b)).count();
     assert!(count(&|b| matches!(b, Bound::Start(_))) > 200);
     assert!(count(&|b| *b == Bound::Infinity) > 200);
-    for limit in [-MOST_OFFSET, MOST_OFFSET] {
+    for limit in [-MAX_OFFSET, MAX_OFFSET] {
         assert!(count(&|b| matches!(b, Bound::Variable(_, n) if *n == limit)) > 20);
         assert!(count(&|b| *b == Bound::Start(limit)) > 5);
     }

@@ -1,22 +1,24 @@
-//! The header for C and the wrapper for Rust (feature `library`) give a name the same
-//! number.
+//! The header for C and the wrapper for Rust (feature `library`) have the same names, and
+//! give each the same number.
 
 use station_watch::{raw, Refusal};
-use std::collections::HashMap;
+use std::collections::BTreeMap;
 
 const HEADER: &str = include_str!("../../../include/station_watch.h");
 
-/// Names that the header has from its first version on: those of a state and a verdict.
-const AT_LEAST: usize = 37;
+/// What only C has: the answer that is no refusal, and the parts of the version, which
+/// tests/c/boundary.c compares with the whole.
+const ONLY_IN_C: [&str; 4] = ["SW_OK", "SW_VERSION_MAJOR", "SW_VERSION_MINOR", "SW_VERSION_PATCH"];
 
 /// What the header defines.
-fn defined() -> HashMap<&'static str, &'static str> {
+fn defined() -> BTreeMap<String, String> {
     let definition = |line: &'static str| line.strip_prefix("#define ")?.split_once(' ');
-    HEADER.lines().filter_map(definition).collect()
+    let owned = |(name, value): (&str, &str)| (name.to_string(), value.to_string());
+    HEADER.lines().filter_map(definition).map(owned).collect()
 }
 
 /// What the wrapper has under the header's names.
-fn wrapped() -> HashMap<String, String> {
+fn wrapped() -> BTreeMap<String, String> {
     let sizes = [
         ("SW_STATE_BYTES", station_watch::STATE_BYTES),
         ("SW_CELL_WORDS", station_watch::CELL_WORDS),
@@ -31,6 +33,7 @@ fn wrapped() -> HashMap<String, String> {
         ("SW_MAX_REPORT", station_watch::MAX_REPORT),
         ("SW_MAX_BATCH_REPORT", 2 * station_watch::MAX_REPORT), // pairs in Rust, words in C
         ("SW_MAX_SENTENCE", station_watch::MAX_SENTENCE),
+        ("SW_MAX_STACK", station_watch::MAX_STACK),
         ("SW_OPEN", raw::OPEN as usize),
         ("SW_TRUE", raw::TRUE as usize),
         ("SW_FALSE", raw::FALSE as usize),
@@ -53,13 +56,10 @@ fn refusals() -> impl Iterator<Item = (String, String)> {
 }
 
 #[test]
-fn the_same_numbers() {
-    let (defined, wrapped) = (defined(), wrapped());
-    assert_eq!(wrapped["SW_BODY_ENDS_EARLY"], "4");
-    let shared: Vec<_> =
-        wrapped.iter().filter(|(name, _)| defined.contains_key(&***name)).collect();
-    assert!(shared.len() >= AT_LEAST, "{shared:?}");
-    for (name, number) in shared {
-        assert_eq!(defined[&**name].trim(), number, "{name}");
+fn the_same_names_and_numbers() {
+    let mut defined = defined();
+    for name in ONLY_IN_C {
+        assert!(defined.remove(name).is_some(), "the header has no {name}");
     }
+    assert_eq!(defined, wrapped());
 }

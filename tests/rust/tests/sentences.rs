@@ -38,7 +38,7 @@ fn every_number_in_every_length() {
     }
 }
 
-/// The sentence as the wrapper shows it; its tests have the texts.
+/// The sentence as the wrapper shows it; its tests, and tests/c/header.py, compare texts.
 fn sentence(number: u32) -> String {
     let Some(refusal) = Refusal::from_number(number) else {
         return "no such refusal".to_string();

@@ -8,7 +8,7 @@ use super::{hex, Check, Numbers, MARK};
 use crate::demand;
 use crate::lent::Lent;
 use crate::library::{Library, State, StepAnswer, StepLent, StepsAnswer, STATE_BYTES};
-use crate::paper::{self, Lengths, Opened, Watch, MOST_HISTORY};
+use crate::paper::{self, Lengths, Opened, Watch, MAX_HISTORY};
 use crate::random::{self, Random, Rule};
 use crate::states;
 
@@ -270,7 +270,7 @@ impl<'a> Run<'a> {
     /// Lengths around the right ones.
     fn some_lengths(&self, random: &mut Random) -> Lengths {
         let own = self.history.length();
-        let near = [own + 1, own.saturating_sub(1), 0, MOST_HISTORY, MOST_HISTORY + 1];
+        let near = [own + 1, own.saturating_sub(1), 0, MAX_HISTORY, MAX_HISTORY + 1];
         let needed = self.opened.needed_words();
         let report = self.opened.needed_report();
         Lengths {

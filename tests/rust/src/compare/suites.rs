@@ -5,7 +5,7 @@ use super::calls::{figures, opening, outcome, place, round_trip, write};
 use super::runs::{run, Plan, Tally};
 use super::{Check, Numbers};
 use crate::library::Library;
-use crate::paper::{self, read_body, Bound, Formula, CELL_WORDS, MOST_HISTORY, MOST_RECORDING};
+use crate::paper::{self, read_body, Bound, Formula, CELL_WORDS, MAX_HISTORY, MAX_RECORDING};
 use crate::random::{self, Random, Rule};
 
 /// Bodies of all kinds: figures, and the evaluator's refusals.
@@ -111,7 +111,7 @@ pub fn long_recordings(library: &dyn Library, seed: u64, count: usize) -> Check<
     let mut numbers = Numbers::default();
     for _ in 0..count {
         let rule = random::accepted_rule(&mut random);
-        for length in [MOST_RECORDING - 1, MOST_RECORDING, MOST_RECORDING + 1] {
+        for length in [MAX_RECORDING - 1, MAX_RECORDING, MAX_RECORDING + 1] {
             let recording = random::stream(&mut random, length);
             for tick in [0, random.below(length), length - 2, length - 1, length] {
                 numbers.add(outcome(library, &rule.body, &recording, tick)?);
@@ -162,7 +162,7 @@ pub fn openings(library: &dyn Library, seed: u64, count: usize) -> Check<Numbers
             Ok(figures) => (figures.history as usize, CELL_WORDS * figures.cells as usize),
             Err(_) => (random.size(0, 40), random.size(0, 400)),
         };
-        let near = [history, history, history + 1, MOST_HISTORY, MOST_HISTORY + 1, 0];
+        let near = [history, history, history + 1, MAX_HISTORY, MAX_HISTORY + 1, 0];
         let history_length = match random.below(8) {
             0 => history.saturating_sub(1),
             _ => random.pick(&near),
@@ -217,11 +217,11 @@ fn some_history_length(random: &mut Random, rule: &Rule) -> usize {
     let length = match random.below(8) {
         0..=2 => least,
         3 | 4 => least + 1,
-        5 => MOST_HISTORY,
-        6 => random.size(least, (least + 20).min(MOST_HISTORY)),
-        _ => random.size(least, MOST_HISTORY),
+        5 => MAX_HISTORY,
+        6 => random.size(least, (least + 20).min(MAX_HISTORY)),
+        _ => random.size(least, MAX_HISTORY),
     };
-    length.min(MOST_HISTORY)
+    length.min(MAX_HISTORY)
 }
 
 /// On average what the suite needs; a few streams go twice round a long history.
@@ -246,7 +246,7 @@ pub fn history_lengths(library: &dyn Library, seed: u64, steps: usize) -> Check<
     let formula = read_body(&body).expect("01's first sheet is accepted");
     let figures = paper::formula_figures(&formula).expect("01's first sheet is accepted");
     let rule = Rule { formula, body, figures };
-    for history_length in rule.figures.history as usize..=MOST_HISTORY {
+    for history_length in rule.figures.history as usize..=MAX_HISTORY {
         let plan = Plan { history_length, steps };
         run(library, &mut random, &rule, plan, &mut tally)?;
     }

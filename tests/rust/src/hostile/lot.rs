@@ -6,7 +6,7 @@ use crate::compare::{hex, Check, MARK};
 use crate::demand;
 use crate::lent::Lent;
 use crate::library::{Library, State, StepAnswer, StepLent, StepsAnswer, STATE_BYTES};
-use crate::paper::{Lengths, Opened, Refusal, CELL_WORDS, LAST_TICK, MOST_HISTORY};
+use crate::paper::{Lengths, Opened, Refusal, CELL_WORDS, MAX_HISTORY, MAX_TICKS};
 use crate::random::{self, Random, Rule};
 use crate::states::{self, NEXT_AT};
 
@@ -69,7 +69,7 @@ impl Lot {
 /// A rule after some steps: state, history and cells as the library left them.
 pub fn honest(library: &dyn Library, random: &mut Random, rule: &Rule, steps: usize) -> Check<Lot> {
     let least = rule.figures.history as usize;
-    let history_length = random.pick(&[least, (least + 1).min(MOST_HISTORY), least.max(40)]);
+    let history_length = random.pick(&[least, (least + 1).min(MAX_HISTORY), least.max(40)]);
     let needed = CELL_WORDS * rule.figures.cells as usize;
     let sheet = random::sheet_of(std::slice::from_ref(&rule.body));
     let report = vec![0; rule.figures.delay as usize + 1];
@@ -208,7 +208,7 @@ fn check_pairs(lot: &Lot, before: &Lot, opened: &Opened, taken: usize, pairs: us
 fn check_ended(lot: &Lot, opened: &Opened, left: usize, pairs: usize) -> Check {
     let full = lot.report.length() - 2 * pairs < 2 * opened.needed_report();
     let next = lot.next_tick();
-    demand!(next <= LAST_TICK, "a batch took the last tick");
-    demand!(left == 0 || full || next == LAST_TICK, "a batch left {left} flags");
+    demand!(next <= MAX_TICKS, "a batch took a tick too many");
+    demand!(left == 0 || full || next == MAX_TICKS, "a batch left {left} flags");
     Ok(())
 }

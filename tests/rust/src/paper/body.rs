@@ -1,6 +1,6 @@
 //! "The body": formulas, their reader with refusals 4 to 10, their writer.
 
-use super::{Refusal, MOST_FORMULAS, MOST_NESTED, MOST_OFFSET};
+use super::{Refusal, MAX_FORMULAS, MAX_NESTED, MAX_OFFSET};
 
 /// "A bound has 4 bytes: kind (0 the stream's position 0, 1 infinity, 2 a
 /// variable), variable, and a signed 16-bit offset".
@@ -70,7 +70,7 @@ impl Reader<'_> {
         if !(1..=5).contains(&code) {
             return Err(5);
         }
-        if self.formulas == MOST_FORMULAS || (code == 5 && nested == MOST_NESTED) {
+        if self.formulas == MAX_FORMULAS || (code == 5 && nested == MAX_NESTED) {
             return Err(9);
         }
         self.at += 1;
@@ -121,7 +121,7 @@ fn bound(bytes: &[u8], nested: usize) -> Result<Bound, Refusal> {
     }
     // "8: offset out of range, or a byte that should be 0 isn't": "For kinds 0
     // and 1 the variable byte is 0; for infinity the offset is 0."
-    let out_of_range = !(-MOST_OFFSET..=MOST_OFFSET).contains(&offset);
+    let out_of_range = !(-MAX_OFFSET..=MAX_OFFSET).contains(&offset);
     let variable_not_0 = kind != 2 && variable != 0;
     let offset_not_0 = kind == 1 && offset != 0;
     if out_of_range || variable_not_0 || offset_not_0 {

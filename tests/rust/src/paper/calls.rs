@@ -3,7 +3,7 @@
 
 use super::{
     formula_figures, read_body, rule_body, rule_outcome, Figures, Formula, Outcome, Refusal,
-    Verdict, CELL_WORDS, LAST_TICK, MOST_HISTORY,
+    Verdict, CELL_WORDS, MAX_HISTORY, MAX_TICKS,
 };
 
 /// What an accepted opening knows.
@@ -38,7 +38,7 @@ pub fn open(
     let formula = read_body(rule_body(sheet, rule)?)?;
     let figures = formula_figures(&formula)?;
     // "17: history shorter than the figure or above 4,096".
-    if history_length < figures.history as usize || history_length > MOST_HISTORY {
+    if history_length < figures.history as usize || history_length > MAX_HISTORY {
         return Err(17);
     }
     let opened = Opened { formula, figures, history_length };
@@ -69,7 +69,7 @@ pub fn step_refusal(opened: &Opened, lent: Lengths, tick: u64) -> Option<Refusal
     if lent.report < opened.needed_report() {
         return Some(19);
     }
-    if tick == LAST_TICK {
+    if tick == MAX_TICKS {
         return Some(20);
     }
     None

@@ -1,6 +1,6 @@
 //! "Figures": delay, history and cells, with refusals 11 to 15.
 
-use super::{read_body, Bound, Formula, Refusal, MOST_CELLS, MOST_DELAY, MOST_HISTORY};
+use super::{read_body, Bound, Formula, Refusal, MAX_CELLS, MAX_DELAY, MAX_HISTORY};
 
 #[derive(Clone, Copy, Debug, PartialEq, Eq)]
 pub struct Figures {
@@ -37,16 +37,16 @@ pub fn formula_figures(formula: &Formula) -> Result<Figures, Refusal> {
     // "Variable 0: (0, 0)."
     let mut pairs = vec![Pair { l: Low::At(0), u: Some(0) }];
     let delay = delay(formula, &mut pairs).ok_or(11u32)?;
-    if delay > MOST_DELAY {
+    if delay > MAX_DELAY {
         return Err(12);
     }
     let history = history(formula, 0, &mut pairs).ok_or(13u32)?;
-    if history > MOST_HISTORY as i64 {
+    if history > MAX_HISTORY as i64 {
         return Err(14);
     }
     // "The rule needs (delay + 1) times (1 + its cells)."
     let cells = (delay as i128 + 1) * (1 + cells(formula, &mut pairs));
-    if cells > MOST_CELLS {
+    if cells > MAX_CELLS {
         return Err(15);
     }
     Ok(Figures { history: history as u64, delay: delay as u64, cells: cells as u64 })

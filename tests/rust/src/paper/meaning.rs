@@ -1,7 +1,7 @@
 //! "Meaning": the outcome of a formula over a recording, and the recording
 //! evaluator.
 
-use super::{read_body, Bound, Formula, Refusal, MOST_RECORDING};
+use super::{read_body, Bound, Formula, Refusal, MAX_RECORDING};
 
 #[derive(Clone, Copy, Debug, PartialEq, Eq)]
 pub enum Verdict {
@@ -26,7 +26,7 @@ use Verdict::{False, True};
 pub fn evaluate(body: &[u8], recording: &[u8], tick: usize) -> Result<Outcome, Refusal> {
     let formula = read_body(body)?;
     // "16: recording too long, or tick not in it."
-    if recording.len() > MOST_RECORDING || tick >= recording.len() {
+    if recording.len() > MAX_RECORDING || tick >= recording.len() {
         return Err(16);
     }
     Ok(rule_outcome(&formula, recording, tick as i64))

@@ -1,6 +1,6 @@
 //! "The sheet": its reader and its writer.
 
-use super::{Refusal, MOST_LENGTH, MOST_RULES};
+use super::{Refusal, MAX_BODY, MAX_RULES};
 
 /// "Asked for a rule's body, the reader gives back that part of the caller's
 /// own sheet."
@@ -27,7 +27,7 @@ fn rule_count(sheet: &[u8]) -> Result<usize, Refusal> {
         None => return Err(1),
         Some(&n) => n as usize,
     };
-    if !(1..=MOST_RULES).contains(&count) || sheet.len() < 1 + 4 * count {
+    if !(1..=MAX_RULES).contains(&count) || sheet.len() < 1 + 4 * count {
         return Err(1);
     }
     Ok(count)
@@ -51,7 +51,7 @@ fn check_layout(sheet: &[u8], count: usize) -> Result<(), Refusal> {
     let mut due = 1 + 4 * count;
     for rule in 0..count {
         let (start, size) = entry(sheet, rule);
-        if start != due || !(1..=MOST_LENGTH).contains(&size) {
+        if start != due || !(1..=MAX_BODY).contains(&size) {
             return Err(2);
         }
         due = start + size;
@@ -88,10 +88,10 @@ pub fn write_sheet(lengths: &[u16], bodies: &[u8], out: &mut [u8]) -> Result<usi
 /// "1: [..] (writer: count of lengths)", "2: [..] (writer: a length outside
 /// 1..512, or their sum isn't the bodies' size)".
 fn check_lengths(lengths: &[u16], bodies: &[u8]) -> Result<(), Refusal> {
-    if lengths.is_empty() || lengths.len() > MOST_RULES {
+    if lengths.is_empty() || lengths.len() > MAX_RULES {
         return Err(1);
     }
-    if lengths.iter().any(|&n| n < 1 || n as usize > MOST_LENGTH) {
+    if lengths.iter().any(|&n| n < 1 || n as usize > MAX_BODY) {
         return Err(2);
     }
     let sum: usize = lengths.iter().map(|&n| n as usize).sum();

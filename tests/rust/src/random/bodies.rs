@@ -4,8 +4,8 @@
 use super::formulas::{accepted_rule, depth, quantifiers, size, wild_formula};
 use super::Random;
 use crate::paper::{
-    formula_figures, read_body, write_body, Bound, Formula, MOST_DELAY, MOST_FORMULAS,
-    MOST_HISTORY, MOST_NESTED, MOST_OFFSET,
+    formula_figures, read_body, write_body, Bound, Formula, MAX_DELAY, MAX_FORMULAS, MAX_HISTORY,
+    MAX_NESTED, MAX_OFFSET,
 };
 
 /// Two bodies that differ in little: `outside` is refused with the number aimed
@@ -202,10 +202,10 @@ fn spoil_both(random: &mut Random, inside: &mut [u8], outside: &mut [u8], number
         Place::Offset(1) => put_offset(outside, at, random.pick(&[1, -1, 256, 4096])),
         Place::Offset(_) => {
             let (last, beyond) = random.pick(&[
-                (MOST_OFFSET, MOST_OFFSET + 1),
-                (-MOST_OFFSET, -MOST_OFFSET - 1),
-                (MOST_OFFSET, i16::MAX as i64),
-                (-MOST_OFFSET, i16::MIN as i64),
+                (MAX_OFFSET, MAX_OFFSET + 1),
+                (-MAX_OFFSET, -MAX_OFFSET - 1),
+                (MAX_OFFSET, i16::MAX as i64),
+                (-MAX_OFFSET, i16::MIN as i64),
             ]);
             put_offset(inside, at, last);
             put_offset(outside, at, beyond);
@@ -230,11 +230,11 @@ fn put_offset(body: &mut [u8], at: usize, offset: i64) {
 /// 64 and 65 formulas, or 4 and 5 nested quantifiers.
 fn too_many(random: &mut Random) -> Neighbours {
     let formula = wild_formula(random);
-    if random.one_in(2) && size(&formula) + MOST_NESTED < MOST_FORMULAS {
+    if random.one_in(2) && size(&formula) + MAX_NESTED < MAX_FORMULAS {
         return nested_too_deep(random, &formula);
     }
-    let inside = pad(random, &formula, MOST_FORMULAS);
-    let mut outside = pad(random, &formula, MOST_FORMULAS + 1);
+    let inside = pad(random, &formula, MAX_FORMULAS);
+    let mut outside = pad(random, &formula, MAX_FORMULAS + 1);
     if random.one_in(4) {
         // The 65th formula's own bytes may be missing.
         outside.truncate(last_code(&outside) + 1);
@@ -263,7 +263,7 @@ fn last_code(body: &[u8]) -> usize {
 
 fn nested_too_deep(random: &mut Random, formula: &Formula) -> Neighbours {
     let mut inside = write_body(formula);
-    for _ in depth(formula)..MOST_NESTED {
+    for _ in depth(formula)..MAX_NESTED {
         inside = under_a_range(random, &inside);
     }
     let mut outside = under_a_range(random, &inside);
@@ -286,7 +286,7 @@ fn cut_at_fifth(body: &[u8]) -> Vec<u8> {
     let mut found = Vec::new();
     walk(body, 0, 0, &mut found);
     let fifth = found.iter().find_map(|&(at, place)| match place {
-        Place::BoundVariable(_, MOST_NESTED) => Some(at - 1),
+        Place::BoundVariable(_, MAX_NESTED) => Some(at - 1),
         _ => None,
     });
     body[..fifth.expect("there is a fifth nested quantifier")].to_vec()
@@ -324,7 +324,7 @@ fn with_second_bound(random: &mut Random, second: Bound) -> Pair {
 /// An accepted rule, and the same with one range that begins at position 0.
 fn with_first_bound_at_0(random: &mut Random) -> Pair {
     let rule = accepted_rule(random);
-    let offset = random.pick(&[0, 0, 1, -1, MOST_OFFSET, -MOST_OFFSET]);
+    let offset = random.pick(&[0, 0, 1, -1, MAX_OFFSET, -MAX_OFFSET]);
     change_quantifier(random, &rule.formula, |_, second| (Bound::Start(offset), second))
 }
 
@@ -370,8 +370,8 @@ fn change_nth(
 /// Ranges of one position each, every one counted from the one around it, whose
 /// offsets sum up to 255 or 256.
 fn long_delay(random: &mut Random) -> Pair {
-    let count = random.size(1, MOST_NESTED);
-    let inside = chain(random, count, MOST_DELAY);
+    let count = random.size(1, MAX_NESTED);
+    let inside = chain(random, count, MAX_DELAY);
     let outside = raise_one(random, &inside, 1)?;
     Some(decorate(random, inside, outside))
 }
@@ -379,8 +379,8 @@ fn long_delay(random: &mut Random) -> Pair {
 /// The same for a sum of -4,096 or -4,097, less what a later start adds to it.
 fn long_history(random: &mut Random) -> Pair {
     let later = if random.one_in(2) { 0 } else { random.between(1, 12) };
-    let count = random.size(2, MOST_NESTED - 1);
-    let inside = chain(random, count, later - MOST_HISTORY as i64);
+    let count = random.size(2, MAX_NESTED - 1);
+    let inside = chain(random, count, later - MAX_HISTORY as i64);
     let outside = raise_one(random, &inside, -1)?;
     let (inside, outside) = decorate(random, inside, outside);
     if later == 0 {
@@ -463,7 +463,7 @@ fn many_cells(random: &mut Random) -> Pair {
     let mut refused = 1;
     while formula_figures(&widened(refused)).is_ok() {
         refused *= 2;
-        if refused > 2 * MOST_OFFSET {
+        if refused > 2 * MAX_OFFSET {
             return None;
         }
     }

@@ -2,7 +2,7 @@
 
 use super::Random;
 use crate::paper::{
-    formula_figures, write_body, Bound, Figures, Formula, MOST_FORMULAS, MOST_NESTED, MOST_OFFSET,
+    formula_figures, write_body, Bound, Figures, Formula, MAX_FORMULAS, MAX_NESTED, MAX_OFFSET,
 };
 
 /// A rule that the engine accepts.
@@ -32,8 +32,8 @@ struct Aim {
 /// A formula with bounds of every kind, which the body reader accepts and the
 /// engine mostly doesn't.
 pub fn wild_formula(random: &mut Random) -> Formula {
-    let size = if random.one_in(8) { random.size(1, MOST_FORMULAS) } else { random.size(1, 12) };
-    let nested = random.size(0, MOST_NESTED);
+    let size = if random.one_in(8) { random.size(1, MAX_FORMULAS) } else { random.size(1, 12) };
+    let nested = random.size(0, MAX_NESTED);
     let wild = !random.one_in(4);
     tree(random, Aim { size, nested, low: -3, high: 3, width: 3, wild }, 0)
 }
@@ -76,7 +76,7 @@ fn candidate(random: &mut Random) -> Formula {
         }
         17 => long_history(random),
         18 => {
-            let size = random.size(20, MOST_FORMULAS);
+            let size = random.size(20, MAX_FORMULAS);
             tree(random, Aim { size, nested: 2, low: -1, high: 2, width: 1, wild: false }, 0)
         }
         _ => wild_formula(random),
@@ -88,7 +88,7 @@ fn candidate(random: &mut Random) -> Formula {
 fn four_ranges(random: &mut Random) -> Formula {
     let aim = Aim { size: 2, nested: 4, low: -2, high: 2, width: 1, wild: false };
     let mut formula = flag(random, 4);
-    for nested in (0..MOST_NESTED).rev() {
+    for nested in (0..MAX_NESTED).rev() {
         let (first, second) = tame_range(random, aim, nested);
         formula = Formula::ForAll(first, second, Box::new(formula));
         formula = match random.below(6) {
@@ -105,7 +105,7 @@ fn four_ranges(random: &mut Random) -> Formula {
 /// starts it later.
 fn long_history(random: &mut Random) -> Formula {
     let nested = random.below(2);
-    let low = -random.between(1, MOST_OFFSET);
+    let low = -random.between(1, MAX_OFFSET);
     let width = if random.one_in(2) { random.between(0, -low) } else { random.between(0, 3) };
     let first = Bound::Variable(nested, low);
     let second = Bound::Variable(nested, low + width);
@@ -206,9 +206,9 @@ fn wild_offset(random: &mut Random) -> i64 {
     match random.below(8) {
         0..=3 => random.between(-4, 4),
         4 => random.pick(&[-257, -256, -255, 254, 255, 256, 257]),
-        5 => random.pick(&[-MOST_OFFSET, -MOST_OFFSET + 1, MOST_OFFSET - 1, MOST_OFFSET]),
+        5 => random.pick(&[-MAX_OFFSET, -MAX_OFFSET + 1, MAX_OFFSET - 1, MAX_OFFSET]),
         6 => random.pick(&[-2049, -2048, -128, -127, 62, 63, 127, 128, 2047, 2048]),
-        _ => random.between(-MOST_OFFSET, MOST_OFFSET),
+        _ => random.between(-MAX_OFFSET, MAX_OFFSET),
     }
 }
 

@@ -3,7 +3,7 @@
 use super::bodies::any_body;
 use super::formulas::accepted_rule;
 use super::Random;
-use crate::paper::{write_sheet, MOST_LENGTH, MOST_RULES};
+use crate::paper::{write_sheet, MAX_BODY, MAX_RULES};
 
 /// The sheet of these bodies.
 pub fn sheet_of(bodies: &[Vec<u8>]) -> Vec<u8> {
@@ -19,7 +19,7 @@ pub fn sheet_of(bodies: &[Vec<u8>]) -> Vec<u8> {
 /// body's rule number.
 pub fn sheet_with(random: &mut Random, body: &[u8]) -> (Vec<u8>, usize) {
     let mut bodies = if random.one_in(2) { Vec::new() } else { sheet_bodies(random) };
-    bodies.truncate(MOST_RULES - 1);
+    bodies.truncate(MAX_RULES - 1);
     let rule = random.size(0, bodies.len());
     bodies.insert(rule, body.to_vec());
     (sheet_of(&bodies), rule)
@@ -27,20 +27,20 @@ pub fn sheet_with(random: &mut Random, body: &[u8]) -> (Vec<u8>, usize) {
 
 /// 1 to 32 bodies of 1 to 512 bytes, most of them few.
 pub fn sheet_bodies(random: &mut Random) -> Vec<Vec<u8>> {
-    let count = if random.one_in(8) { random.size(1, MOST_RULES) } else { random.size(1, 4) };
+    let count = if random.one_in(8) { random.size(1, MAX_RULES) } else { random.size(1, 4) };
     (0..count).map(|_| sheet_body(random)).collect()
 }
 
 fn sheet_body(random: &mut Random) -> Vec<u8> {
     let mut body = match random.below(4) {
         0 => {
-            let length = random.pick(&[1, 2, 255, 256, MOST_LENGTH - 1, MOST_LENGTH]);
+            let length = random.pick(&[1, 2, 255, 256, MAX_BODY - 1, MAX_BODY]);
             random.bytes(length)
         }
         1 => accepted_rule(random).body,
         _ => any_body(random),
     };
-    body.truncate(MOST_LENGTH);
+    body.truncate(MAX_BODY);
     if body.is_empty() {
         body.push(random.byte());
     }
