@@ -58,4 +58,4 @@ pub const STATE_BYTES: usize = 544;
 pub const MAX_SENTENCE: usize = 128;
 
 /// The bytes of stack of any call of the library, measured: docs/PERFORMANCE.md.
-pub const MAX_STACK: usize = 98_304;
+pub const MAX_STACK: usize = 49_152;
