@@ -26,13 +26,13 @@
  * named here. There is no other state, so threads may call the functions at once, each
  * on memory of its own.
  *
- * COST. Every call returns, and waits for nothing. As measured (docs/PERFORMANCE.md):
- * a call uses at most SW_MAX_STACK bytes of stack, also for a body that nests as deep as
- * it can. A step of a small rule takes 0.1 to 5 microseconds on a desktop processor, the
- * dearest one found 2 milliseconds; it grows with the positions that the rule looks at,
- * about 23 ns each, and never with the recording. sw_outcome takes about 15 ns for each
- * position of a range; k nested ranges up to infinity whose variables are all named take
- * n^k for n ticks, which for k of 3 or 4 and long recordings nobody can wait for. */
+ * COST. Every call returns, and waits for nothing. As measured (docs/PERFORMANCE.md names
+ * the machine): a call uses at most SW_MAX_STACK bytes of stack, also for a body that
+ * nests as deep as it can. A step of a small rule takes 0.1 to 5 microseconds, the dearest
+ * one found 2 milliseconds; it grows with the positions that the rule looks at, about
+ * 23 ns each, and never with the recording. sw_outcome takes about 15 ns for each position
+ * of a range; k nested ranges up to infinity whose variables are all named take n^k for n
+ * ticks, which for k of 3 or 4 and long recordings nobody can wait for. */
 #ifndef STATION_WATCH_H
 #define STATION_WATCH_H
 
