@@ -15,13 +15,16 @@ unfolding formula-in
 none-in zero ns m i e = refl
 none-in (suc left) ns m i e = absurd (omega arith)
 
+pub negate-next : (left : ℕ) (ns : List ℕ) (m i : ℕ) → getD ns (i + 0) 0 ≡ 2 → formula-in (suc left) ns m i ≡ negate (formula-in left ns m (i + 12))
+unfolding formula-in
+negate-next left ns m i e = simp e
+
 module _ (left : ℕ) (ns : List ℕ) (m i : ℕ) (some : left ≡ 0 → ⊥) where
   step : formula-in left ns m i ≡ formula-in (suc (left - 1)) ns m i
   step = ap (λ (n : ℕ). formula-in n ns m i) (some-left some)
 
   pub negate-in : getD ns (i + 0) 0 ≡ 2 → formula-in left ns m i ≡ negate (formula-in (left - 1) ns m (i + 12))
-  unfolding formula-in
-  negate-in e = step ∙ simp e
+  negate-in e = step ∙ negate-next (left - 1) ns m i e
 
   pub then-in : {j : ℕ} → getD ns (i + 0) 0 ≡ 3 → j ≡ getD ns (i + 7) 0 → formula-in left ns m i ≡ then (formula-in (left - 1) ns m (i + 12)) (formula-in (left - 1) ns m j)
   unfolding formula-in

@@ -9,8 +9,8 @@ use Rattle.rule.specs.declared.Verdict.{Verdict}
 use Rattle.rule.specs.declared.Verdict.the-variants.{True, False}
 use Rattle.rule.specs.declared.Outcome.{Outcome}
 use Rattle.rule.specs.declared.Outcome.the-variants.{Decided, Open}
-use Rattle.rule.specs.Formula.{Formula, flag, negate, then, beside}
-use Rattle.rule.specs.Meaning.{verdict, up, opposite, both, after, outcome}
+use Rattle.rule.specs.Formula.{Formula, flag, then, beside}
+use Rattle.rule.specs.Meaning.{verdict, up, both, after, outcome}
 use Rattle.rule.specs.Recording.{recorded}
 use Rattle.rule.specs.Started.{From}
 use Rattle.rule.proofs.Horizon.{from-less, from-start}
@@ -31,10 +31,6 @@ module _ (rec : List ℕ) (t : ℕ) (env : List ℕ) (s : ℕ) where
 
   pub by-same : {F G : Formula} {r : Outcome} → F ≡ G → r ≡ outcome G (recorded rec) t env s → r ≡ outcome F (recorded rec) t env s
   by-same e f = rw e f
-
-  pub by-negate : {F G : Formula} {o r : Outcome} → F ≡ negate G → o ≡ outcome G (recorded rec) t env s → r ≡ opposite o → r ≡ outcome F (recorded rec) t env s
-  unfolding outcome
-  by-negate e f g = rw e (g ∙ ap opposite f)
 
   pub by-beside : {F G H : Formula} {o p r : Outcome} → F ≡ beside G H → o ≡ outcome G (recorded rec) t env s → p ≡ outcome H (recorded rec) t env s
       → r ≡ both o p → r ≡ outcome F (recorded rec) t env s

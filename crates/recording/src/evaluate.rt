@@ -17,6 +17,7 @@ use nodes::FLAG;
 use nodes::SECOND_PART;
 use nodes::VARIABLE;
 use nodes::node_word;
+use nodes::skip_nots;
 use rule::Outcome;
 use rule::Verdict;
 
@@ -60,7 +61,7 @@ fn raise(s: u64, o: Outcome) -> Outcome
 }
 
 // The outcome over the ticks 0..t of the formula at word i, started at step s, with `left` formulas left. It is that of any table; one that the
-// reader filled never runs out of formulas.
+// reader filled never runs out of formulas. A run of nots is taken in one call.
 pub(crate) fn evaluate(
     nodes: &[u32],
     left: u64,
@@ -78,7 +79,9 @@ pub(crate) fn evaluate(
     }
     let code = node_word(nodes, i, CODE);
     if code == 2 {
-        return outcomes::opposite(evaluate(nodes, left - 1, i + 12, recording, t, env, s));
+        let u = skip_nots(nodes, left as usize, i);
+        let o = evaluate(nodes, u.left as u64, u.i, recording, t, env, s);
+        return outcomes::opposite_if(u.odd, o);
     }
     if code == 3 {
         let first = evaluate(nodes, left - 1, i + 12, recording, t, env, s);

@@ -2,6 +2,7 @@
 -- walker that of a "for all". The formulas left fall from call to call, and the walker's positions from turn to turn.
 -- Assumes nothing.
 use mathlib.Core.Path.{_≡_, refl, sym, _∙_}
+use mathlib.Core.Bool.{false}
 use mathlib.Core.List.{List}
 use native.Mathlib.Omega.{arith}
 use borrow.Author.Needs.{needs}
@@ -11,10 +12,12 @@ use Rattle.rule.specs.Meaning.{walk, outcome}
 use Rattle.rule.specs.Recording.{recorded}
 use Rattle.rule.proofs.Every.{walk-none}
 use Rattle.nodes.specs.Table.{formula-in}
+use Rattle.nodes.proofs.Nots.{nots-less}
 use Rattle.recording.specs.Evaluating.{places, forall-in, Ready}
 use Rattle.recording.proofs.Environment.{place-at, ready-part, ready-range, ready-body}
-use Rattle.recording.proofs.Nodes.{none-in, negate-in, then-in, beside-in, range-in, flag-in}
-use Rattle.recording.proofs.Parts.{by-same, by-flag, by-negate, by-beside, beside-settled, then-true, then-false, then-open}
+use Rattle.recording.proofs.Nodes.{none-in, then-in, beside-in, range-in, flag-in}
+use Rattle.recording.proofs.Parts.{by-same, by-flag, by-beside, beside-settled, then-true, then-false, then-open}
+use Rattle.recording.proofs.Nots.{ready-nots, by-nots}
 use Rattle.recording.proofs.Walking.{body-at, walk-step, body-settled, body-here, body-alike, plan-here, by-forall, no-forall}
 use Prim.Native.Nat.{ℕ, suc, _+_, _*_, _-_, _≤_, _<_}
 use borrow.Fn.Kinds.{In}
@@ -26,9 +29,10 @@ use Rattle.recording.proofs.evaluate.walk_range.Reads as walk-range
 use Rattle.recording.proofs.evaluate.walk_range.Kinds as walk-range-kinds
 use Rattle.recording.proofs.evaluate.+evaluate+walk_range.Lts-walk_range as walk-range-lts
 use Rattle.nodes.proofs.node_word.Reads as node-word-reads
+use Rattle.nodes.proofs.skip_nots.Reads as skip-nots-reads
 use Rattle.outcomes.proofs.both.Reads as both-reads
 use Rattle.outcomes.proofs.later.Reads as later-reads
-use Rattle.outcomes.proofs.opposite.Reads as opposite-reads
+use Rattle.outcomes.proofs.opposite_if.Reads as opposite-if-reads
 use Rattle.ranges.proofs.plan_up_to.Reads as plan-up-to-reads
 use Rattle.ranges.proofs.range_at.Reads as range-at-reads
 use Rattle.recording.proofs.env.enter.Reads as enter-reads
@@ -61,7 +65,7 @@ walk-range-below t =
     and 2 walk-range-kinds.ps (falls 2 walk-range-kinds.ps _<_ μ-walk-range t) walk-range.Pre
 
 abbrev evaluate-claims : ℕ → evaluate-lts.Claims
-evaluate-claims t = (flag-at-reads.Asked, flag-at-reads.Learnt, node-word-reads.Asked, node-word-reads.Learnt, evaluate-below t, evaluate.Post, opposite-reads.Asked, opposite-reads.Learnt, settled-reads.Asked, settled-reads.Learnt, both-reads.Asked, both-reads.Learnt, walk-range-below t, walk-range.Post)
+evaluate-claims t = (flag-at-reads.Asked, flag-at-reads.Learnt, node-word-reads.Asked, node-word-reads.Learnt, skip-nots-reads.Asked, skip-nots-reads.Learnt, evaluate-below t, evaluate.Post, opposite-if-reads.Asked, opposite-if-reads.Learnt, settled-reads.Asked, settled-reads.Learnt, both-reads.Asked, both-reads.Learnt, walk-range-below t, walk-range.Post)
 
 abbrev walk-range-claims : ℕ → walk-range-lts.Claims
 walk-range-claims t = (flag-at-reads.Asked, flag-at-reads.Learnt, range-at-reads.Asked, range-at-reads.Learnt, plan-up-to-reads.Asked, plan-up-to-reads.Learnt, alike-reads.Asked, alike-reads.Learnt, later-reads.Asked, later-reads.Learnt, settled-reads.Asked, settled-reads.Learnt, enter-reads.Asked, enter-reads.Learnt, evaluate-below t, evaluate.Post, both-reads.Asked, both-reads.Learnt, raise-reads.Asked, raise-reads.Learnt)
@@ -107,29 +111,30 @@ evaluate-returns t c =
 evaluate-node-word-requires : (t : ℕ) → evaluate-lts.Need-node-word-requires (evaluate-claims t) (evaluate-at t) evaluate.Post
 evaluate-node-word-requires t c κs = search needs
 
-evaluate-sub-evaluate : (t : ℕ) → evaluate-lts.Need-sub-evaluate (evaluate-claims t) (evaluate-at t) evaluate.Post
-evaluate-sub-evaluate t c = omega (arith, some t (c .before))
-
-evaluate-add-evaluate : (t : ℕ) → evaluate-lts.Need-add-evaluate (evaluate-claims t) (evaluate-at t) evaluate.Post
-evaluate-add-evaluate t c = omega (arith, c .before .before .before .before .before .pre .1 .near)
+evaluate-skip-nots-requires : (t : ℕ) → evaluate-lts.Need-skip-nots-requires (evaluate-claims t) (evaluate-at t) evaluate.Post
+evaluate-skip-nots-requires t c κs = search needs
 
 evaluate-evaluate-requires : (t : ℕ) → evaluate-lts.Need-evaluate-requires (evaluate-claims t) (evaluate-at t) evaluate.Post
-evaluate-evaluate-requires t c κs = first-ready t (c .before)
+evaluate-evaluate-requires t c κs =
+    let n = c .before .before in
+    let s = start t n in
+    let u = c .skip-nots .result in
+    (omega (arith, s .pre .0, nots-less (ns t n) (s .args .left) (s .args .i) false u (c .skip-nots .ensures) (some t n) (code t n 2 (c .before .if2 .taken))), ready-nots (ns t n) (s .args .left) (s .args .i) u (c .skip-nots .ensures) (s .pre .1))
 
-evaluate-opposite-requires : (t : ℕ) → evaluate-lts.Need-opposite-requires (evaluate-claims t) (evaluate-at t) evaluate.Post
-evaluate-opposite-requires t c κs = search needs
+evaluate-opposite-if-requires : (t : ℕ) → evaluate-lts.Need-opposite-if-requires (evaluate-claims t) (evaluate-at t) evaluate.Post
+evaluate-opposite-if-requires t c κs = search needs
 
 evaluate-returns-2 : (t : ℕ) → evaluate-lts.Need-returns-2 (evaluate-claims t) (evaluate-at t) evaluate.Post
 evaluate-returns-2 t c =
-    let n = c .before .before .before in
-    let s = c .before .before .before .before .before .before .before in
-    by-negate (s .args .recording .now) (s .args .t) (places (s .args .env)) (s .args .s) (negate-in (s .args .left) (s .args .nodes .now) (s .args .env .nested) (s .args .i) (some t n) (code t n 2 (c .before .before .if2 .taken))) (c .before .evaluate .ensures) (c .opposite .ensures)
+    let s = c .before .before .before .before .before .before .before .before in
+    let u = c .before .before .skip-nots in
+    by-nots (s .args .nodes .now) (s .args .left) (s .args .i) (u .result) (u .ensures) (s .args .env .nested) (recorded (s .args .recording .now)) (s .args .t) (places (s .args .env)) (s .args .s) (c .before .evaluate .result) (c .opposite-if .result) (c .before .evaluate .ensures) (c .opposite-if .ensures)
 
-evaluate-sub-evaluate-2 : (t : ℕ) → evaluate-lts.Need-sub-evaluate-2 (evaluate-claims t) (evaluate-at t) evaluate.Post
-evaluate-sub-evaluate-2 t c = omega (arith, some t (c .before .before))
+evaluate-sub-evaluate : (t : ℕ) → evaluate-lts.Need-sub-evaluate (evaluate-claims t) (evaluate-at t) evaluate.Post
+evaluate-sub-evaluate t c = omega (arith, some t (c .before .before))
 
-evaluate-add-evaluate-2 : (t : ℕ) → evaluate-lts.Need-add-evaluate-2 (evaluate-claims t) (evaluate-at t) evaluate.Post
-evaluate-add-evaluate-2 t c = omega (arith, c .before .before .before .before .before .before .pre .1 .near)
+evaluate-add-evaluate : (t : ℕ) → evaluate-lts.Need-add-evaluate (evaluate-claims t) (evaluate-at t) evaluate.Post
+evaluate-add-evaluate t c = omega (arith, c .before .before .before .before .before .before .pre .1 .near)
 
 evaluate-evaluate-requires-2 : (t : ℕ) → evaluate-lts.Need-evaluate-requires-2 (evaluate-claims t) (evaluate-at t) evaluate.Post
 evaluate-evaluate-requires-2 t c κs = first-ready t (c .before .before)
@@ -146,8 +151,8 @@ evaluate-enum-known-first t c = search needs
 evaluate-enum-told : (t : ℕ) → evaluate-lts.Need-enum-told (evaluate-claims t) (evaluate-at t) evaluate.Post
 evaluate-enum-told t c = search needs
 
-evaluate-sub-evaluate-3 : (t : ℕ) → evaluate-lts.Need-sub-evaluate-3 (evaluate-claims t) (evaluate-at t) evaluate.Post
-evaluate-sub-evaluate-3 t c = omega (arith, some t (c .before .before .before .before .before .before .before .before .before))
+evaluate-sub-evaluate-2 : (t : ℕ) → evaluate-lts.Need-sub-evaluate-2 (evaluate-claims t) (evaluate-at t) evaluate.Post
+evaluate-sub-evaluate-2 t c = omega (arith, some t (c .before .before .before .before .before .before .before .before .before))
 
 evaluate-evaluate-requires-3 : (t : ℕ) → evaluate-lts.Need-evaluate-requires-3 (evaluate-claims t) (evaluate-at t) evaluate.Post
 evaluate-evaluate-requires-3 t c κs =
@@ -181,11 +186,11 @@ evaluate-returns-5 t c =
     then-open (s .args .recording .now) (s .args .t) (places (s .args .env)) (s .args .s) (then-in (s .args .left) (s .args .nodes .now) (s .args .env .nested) (s .args .i) (some t n) (code t n 3 (c .before .before .before .before .if3 .taken)) (c .before .before .node-word2 .ensures))
     (c .before .before .before .evaluate2 .ensures) (c .enum-told3 .given .1)
 
-evaluate-sub-evaluate-4 : (t : ℕ) → evaluate-lts.Need-sub-evaluate-4 (evaluate-claims t) (evaluate-at t) evaluate.Post
-evaluate-sub-evaluate-4 t c = omega (arith, some t (c .before .before .before))
+evaluate-sub-evaluate-3 : (t : ℕ) → evaluate-lts.Need-sub-evaluate-3 (evaluate-claims t) (evaluate-at t) evaluate.Post
+evaluate-sub-evaluate-3 t c = omega (arith, some t (c .before .before .before))
 
-evaluate-add-evaluate-3 : (t : ℕ) → evaluate-lts.Need-add-evaluate-3 (evaluate-claims t) (evaluate-at t) evaluate.Post
-evaluate-add-evaluate-3 t c = omega (arith, c .before .before .before .before .before .before .before .pre .1 .near)
+evaluate-add-evaluate-2 : (t : ℕ) → evaluate-lts.Need-add-evaluate-2 (evaluate-claims t) (evaluate-at t) evaluate.Post
+evaluate-add-evaluate-2 t c = omega (arith, c .before .before .before .before .before .before .before .pre .1 .near)
 
 evaluate-evaluate-requires-4 : (t : ℕ) → evaluate-lts.Need-evaluate-requires-4 (evaluate-claims t) (evaluate-at t) evaluate.Post
 evaluate-evaluate-requires-4 t c κs = first-ready t (c .before .before .before)
@@ -206,8 +211,8 @@ evaluate-node-word-requires-3 t c κs = search needs
 evaluate-cast-second-2 : (t : ℕ) → evaluate-lts.Need-cast-second-2 (evaluate-claims t) (evaluate-at t) evaluate.Post
 evaluate-cast-second-2 t c = search needs
 
-evaluate-sub-evaluate-5 : (t : ℕ) → evaluate-lts.Need-sub-evaluate-5 (evaluate-claims t) (evaluate-at t) evaluate.Post
-evaluate-sub-evaluate-5 t c = omega (arith, some t (c .before .before .before .before .before .before .before))
+evaluate-sub-evaluate-4 : (t : ℕ) → evaluate-lts.Need-sub-evaluate-4 (evaluate-claims t) (evaluate-at t) evaluate.Post
+evaluate-sub-evaluate-4 t c = omega (arith, some t (c .before .before .before .before .before .before .before))
 
 evaluate-evaluate-requires-5 : (t : ℕ) → evaluate-lts.Need-evaluate-requires-5 (evaluate-claims t) (evaluate-at t) evaluate.Post
 evaluate-evaluate-requires-5 t c κs =
@@ -398,33 +403,32 @@ pub +evaluate+walk-range-spec : {M : Type 1} → statement M
     (evaluate-flag-at-requires t)
     (evaluate-returns t)
     (evaluate-node-word-requires t)
+    (evaluate-skip-nots-requires t)
+    (evaluate-evaluate-requires t)
+    (evaluate-opposite-if-requires t)
+    (evaluate-returns-2 t)
     (evaluate-sub-evaluate t)
     (evaluate-add-evaluate t)
-    (evaluate-evaluate-requires t)
-    (evaluate-opposite-requires t)
-    (evaluate-returns-2 t)
-    (evaluate-sub-evaluate-2 t)
-    (evaluate-add-evaluate-2 t)
     (evaluate-evaluate-requires-2 t)
     (evaluate-node-word-requires-2 t)
     (evaluate-cast-second t)
     (evaluate-enum-known-first t)
     (evaluate-enum-told t)
-    (evaluate-sub-evaluate-3 t)
+    (evaluate-sub-evaluate-2 t)
     (evaluate-evaluate-requires-3 t)
     (evaluate-enum-told-2 t)
     (evaluate-enum-told-3 t)
     (evaluate-returns-3 t)
     (evaluate-returns-4 t)
     (evaluate-returns-5 t)
-    (evaluate-sub-evaluate-4 t)
-    (evaluate-add-evaluate-3 t)
+    (evaluate-sub-evaluate-3 t)
+    (evaluate-add-evaluate-2 t)
     (evaluate-evaluate-requires-4 t)
     (evaluate-settled-requires t)
     (evaluate-returns-6 t)
     (evaluate-node-word-requires-3 t)
     (evaluate-cast-second-2 t)
-    (evaluate-sub-evaluate-5 t)
+    (evaluate-sub-evaluate-4 t)
     (evaluate-evaluate-requires-5 t)
     (evaluate-both-requires t)
     (evaluate-returns-7 t)
