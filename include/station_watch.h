@@ -30,7 +30,7 @@
  * the machine): a call uses at most SW_MAX_STACK bytes of stack, also for a body that
  * nests as deep as it can. A step of a small rule takes 0.1 to 5 microseconds, the dearest
  * one found 2 milliseconds; it grows with the positions that the rule looks at, about
- * 23 ns each, and never with the recording. sw_outcome takes about 15 ns for each position
+ * 20 ns each, and never with the recording. sw_outcome takes about 15 ns for each position
  * of a range; k nested ranges up to infinity whose variables are all named take n^k for n
  * ticks, which for k of 3 or 4 and long recordings nobody can wait for. */
 #ifndef STATION_WATCH_H
