@@ -74,10 +74,10 @@ fn write_whole(mut to: File, bytes: &[u8]) -> io::Result<()> {
             some => rest = &rest[some..],
         }
     }
-    match to.sync_all() {
-        Err(error) if error.kind() == ErrorKind::InvalidInput => Ok(()), // a pipe or a device
-        ended => ended,
-    }
+    to.sync_all().or_else(|error| match error.kind() {
+        ErrorKind::InvalidInput | ErrorKind::Unsupported => Ok(()), // nothing to be brought to a disk
+        _ => Err(error),
+    })
 }
 
 /// Tries until it is neither interrupted nor would block.
