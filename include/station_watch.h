@@ -14,7 +14,7 @@
  * many at once. sw_outcome evaluates a rule at one tick of a recording, and
  * sw_write_sheet makes a sheet. Examples: examples/c.
  *
- * ANSWERS. Every function answers SW_OK (0) or the number of a refusal (1 to 22, below).
+ * ANSWERS. Every function answers SW_OK (0) or the number of a refusal (1 to 24, below).
  * On a refusal nothing that was lent is changed: no buffer, no state, and none of the
  * numbers that answers are written to.
  *
@@ -46,9 +46,9 @@ extern "C" {
 /* ---- Version ---- */
 
 #define SW_VERSION_MAJOR 0
-#define SW_VERSION_MINOR 2
+#define SW_VERSION_MINOR 3
 #define SW_VERSION_PATCH 0
-#define SW_VERSION "0.2.0"
+#define SW_VERSION "0.3.0"
 
 /* ---- Refusals: the sentence that sw_sentence writes, and what to do ---- */
 
@@ -83,9 +83,9 @@ extern "C" {
  * A byte has flags 0 to 7. */
 #define SW_NO_SUCH_FLAG 7
 
-/* "an offset outside -4,095 to 4,095, or a byte that should be 0"
- * Kinds 0 and 1 have variable 0, infinity has offset 0. */
-#define SW_BAD_OFFSET 8
+/* "an offset outside -4,095 to 4,095"
+ * Offsets are signed 16-bit numbers, low byte first. */
+#define SW_OFFSET_OUT_OF_RANGE 8
 
 /* "a 65th formula or a 5th nested quantifier"
  * Split the rule. */
@@ -144,6 +144,16 @@ extern "C" {
  * enough. sw_sentence: lend SW_MAX_SENTENCE. */
 #define SW_BUFFER_TOO_SHORT 22
 
+/* "a bound of kind 0 or 1 whose variable byte is not 0"
+ * Position 0 and infinity name no variable: their second byte is 0. To count from a
+ * variable, write kind 2. */
+#define SW_VARIABLE_BYTE_NOT_ZERO 23
+
+/* "an infinity with an offset"
+ * Infinity has none: its third and fourth byte are 0. To count from position 0, write
+ * kind 0; from a variable, kind 2. */
+#define SW_OFFSET_ON_INFINITY 24
+
 /* ---- Limits ---- */
 
 /* A sheet: rules, bytes of a body, bytes of the whole. */
@@ -195,7 +205,7 @@ extern "C" {
 
 /* ---- Functions ---- */
 
-/* The sentence of a refusal, in ASCII. A number that is no refusal (SW_OK, 23 and more)
+/* The sentence of a refusal, in ASCII. A number that is no refusal (SW_OK, 25 and more)
  * has the sentence "no such refusal".
  * Answers 0, or 22.
  * After 0, *written is the sentence's length, `out` begins with the sentence and a 0
@@ -221,14 +231,14 @@ uint32_t sw_write_sheet(const uint16_t *lengths, size_t count,
 /* The figures of a rule's body: how many past flags it needs (history, at most 4096),
  * within how many ticks it is decided (delay, at most 255), and how many cells of four
  * words its steps need (cells, at most 4096).
- * Answers 0, or 4 to 15.
+ * Answers 0, or 4 to 15, 23, 24.
  * After 0 the three numbers are set. */
 uint32_t sw_figures(const uint8_t *body, size_t body_len,
                     uint64_t *history, uint64_t *delay, uint64_t *cells);
 
 /* The outcome of a body at a tick of a recording of up to 65,535 flag bytes, also for a
  * body that cannot be opened.
- * Answers 0, or 4 to 10, 16.
+ * Answers 0, or 4 to 10, 23, 24, 16.
  * After 0, *verdict is SW_OPEN, SW_TRUE or SW_FALSE, and *step the step that decided it;
  * 0 where it is open. */
 uint32_t sw_outcome(const uint8_t *body, size_t body_len,
@@ -238,7 +248,7 @@ uint32_t sw_outcome(const uint8_t *body, size_t body_len,
 /* Opens rule number `rule` of a sheet over a history, whose length is from the rule's
  * figure to 4096 bytes, and a cell table of at least four times its cells, which is only
  * measured: its content does not matter.
- * Answers 0, or 1 to 15, 17, 18.
+ * Answers 0, or 1 to 15, 23, 24, 17, 18.
  * After 0 every history byte is 0, and all 544 bytes of the state are set: the body with
  * 0 after it, its size, the history's length, next tick 0, 0 live. */
 uint32_t sw_open(const uint8_t *sheet, size_t sheet_len, size_t rule,

@@ -324,7 +324,7 @@ fn the_example_of_the_usage() {
 
 #[test]
 fn version() {
-    assert_eq!(ask(&["--version"]), out("station-watch 0.2.0\n", 0));
+    assert_eq!(ask(&["--version"]), out("station-watch 0.3.0\n", 0));
 }
 
 #[test]

@@ -52,7 +52,7 @@ impl fmt::Display for Figures {
     }
 }
 
-/// The figures of a rule's body. Refusals 4 to 15.
+/// The figures of a rule's body. Refusals 4 to 15, 23, 24.
 ///
 /// ```
 /// use station_watch::{figures, Figures, Refusal};

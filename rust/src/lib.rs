@@ -60,7 +60,7 @@ mod watch;
 /// The version of this crate, which is that of the library.
 ///
 /// ```
-/// assert_eq!(station_watch::VERSION, "0.2.0");
+/// assert_eq!(station_watch::VERSION, "0.3.0");
 /// ```
 pub const VERSION: &str = env!("CARGO_PKG_VERSION");
 

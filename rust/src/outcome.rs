@@ -70,7 +70,7 @@ impl fmt::Display for Outcome {
 }
 
 /// The outcome of a body at a tick of a recording of up to 65,535 flag bytes, also
-/// for a body that cannot be opened. Refusals 4 to 10, 16.
+/// for a body that cannot be opened. Refusals 4 to 10, 23, 24, 16.
 ///
 /// ```
 /// use station_watch::{outcome, Outcome, Refusal, Verdict};

@@ -33,8 +33,8 @@ pub enum Refusal {
     UnboundVariable,
     /// 7: a flag above 7.
     NoSuchFlag,
-    /// 8: an offset outside -4,095 to 4,095, or a byte that should be 0.
-    BadOffset,
+    /// 8: an offset outside -4,095 to 4,095.
+    OffsetOutOfRange,
     /// 9: a 65th formula or a 5th nested quantifier.
     BodyTooLarge,
     /// 10: bytes left over after the formula.
@@ -63,6 +63,10 @@ pub enum Refusal {
     StateNotOpened,
     /// 22: the buffer is too short.
     BufferTooShort,
+    /// 23: a bound of kind 0 or 1 whose variable byte is not 0.
+    VariableByteNotZero,
+    /// 24: an infinity with an offset.
+    OffsetOnInfinity,
     /// A number that this version has no name for: the library that was linked is a
     /// later one. Only `from_number` makes it, so that no refusal has two forms:
     ///
@@ -77,7 +81,7 @@ pub enum Refusal {
 }
 
 /// Every refusal that has a name; number n stands at place n - 1.
-const NAMED: [Refusal; 22] = [
+const NAMED: [Refusal; 24] = [
     Refusal::RuleCount,
     Refusal::EntryLayout,
     Refusal::NoSuchRule,
@@ -85,7 +89,7 @@ const NAMED: [Refusal; 22] = [
     Refusal::UnknownCode,
     Refusal::UnboundVariable,
     Refusal::NoSuchFlag,
-    Refusal::BadOffset,
+    Refusal::OffsetOutOfRange,
     Refusal::BodyTooLarge,
     Refusal::BytesLeftOver,
     Refusal::DelayInfinite,
@@ -100,6 +104,8 @@ const NAMED: [Refusal; 22] = [
     Refusal::TicksUsedUp,
     Refusal::StateNotOpened,
     Refusal::BufferTooShort,
+    Refusal::VariableByteNotZero,
+    Refusal::OffsetOnInfinity,
 ];
 
 impl Refusal {

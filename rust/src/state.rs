@@ -38,7 +38,7 @@ pub struct State([u8; STATE_BYTES]);
 
 impl State {
     /// Opens a rule of a sheet over a history, which is zeroed, and a cell table, which
-    /// is only measured. Refusals 1 to 15, 17, 18.
+    /// is only measured. Refusals 1 to 15, 23, 24, 17, 18.
     ///
     /// ```
     /// use station_watch::{Refusal, State};

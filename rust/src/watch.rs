@@ -38,7 +38,7 @@ pub struct Watch {
 }
 
 impl Watch {
-    /// Opens a rule of a sheet. Refusals 1 to 15.
+    /// Opens a rule of a sheet. Refusals 1 to 15, 23, 24.
     ///
     /// ```
     /// use station_watch::{sheet_of, Refusal, Watch};

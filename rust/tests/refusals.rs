@@ -9,11 +9,14 @@ use station_watch::{
 };
 use std::error::Error;
 
-/// Numbers 1 to 22 have names, and the docs of each name are the library's sentence.
+/// The last number with a name.
+const LAST: u32 = 24;
+
+/// Numbers 1 to 24 have names, and the docs of each name are the library's sentence.
 #[test]
 fn names_numbers_and_sentences() {
     let source = include_str!("../src/refusal.rs");
-    for number in 1..=22 {
+    for number in 1..=LAST {
         let refusal = Refusal::from_number(number).unwrap();
         assert_eq!(refusal.number(), number);
         let shown = refusal.to_string();
@@ -25,14 +28,14 @@ fn names_numbers_and_sentences() {
 
 #[test]
 fn a_number_without_a_name_is_kept() {
-    for number in [23, 24, 128, 4_294_967_295] {
+    for number in [LAST + 1, LAST + 2, 128, 4_294_967_295] {
         let refusal = Refusal::from_number(number).unwrap();
         assert_eq!(refusal.number(), number);
         assert!(matches!(refusal, Refusal::Other { number: same, .. } if same == number));
         assert_eq!(refusal.to_string(), format!("refused {number}: no such refusal"));
-        assert!((1..=22).all(|named| Refusal::from_number(named) != Some(refusal)));
+        assert!((1..=LAST).all(|named| Refusal::from_number(named) != Some(refusal)));
     }
-    assert_ne!(Refusal::from_number(23), Refusal::from_number(24));
+    assert_ne!(Refusal::from_number(LAST + 1), Refusal::from_number(LAST + 2));
 }
 
 #[test]
@@ -72,9 +75,13 @@ fn of_a_body() {
     assert_eq!(figures(&[6]), Err(Refusal::UnknownCode));
     assert_eq!(figures(&[1, 1, 0]), Err(Refusal::UnboundVariable));
     assert_eq!(figures(&[1, 0, 8]), Err(Refusal::NoSuchFlag));
-    // Offset 4,096.
-    let far = [5, 2, 0, 0, 0x10, 2, 0, 0, 0x10, 1, 1, 0];
-    assert_eq!(figures(&far), Err(Refusal::BadOffset));
+    // For all positions from this bound to X.
+    let from = |bound: [u8; 4]| figures(&[&[5], &bound[..], &[2, 0, 0, 0, 1, 1, 0]].concat());
+    assert_eq!(from([2, 0, 0, 0x10]), Err(Refusal::OffsetOutOfRange)); // 4,096
+    assert_eq!(from([0, 1, 0, 0]), Err(Refusal::VariableByteNotZero));
+    assert_eq!(from([1, 1, 0, 0x10]), Err(Refusal::VariableByteNotZero));
+    assert_eq!(from([1, 0, 1, 0]), Err(Refusal::OffsetOnInfinity));
+    assert_eq!(from([1, 0, 0, 0x10]), Err(Refusal::OffsetOnInfinity));
     assert_eq!(figures(&nots), Err(Refusal::BodyTooLarge));
     assert_eq!(figures(&nots[1..]).map(|figures| figures.cells), Ok(1));
     assert_eq!(figures(&[&all.repeat(5), &FLAG[..]].concat()), Err(Refusal::BodyTooLarge));

@@ -113,7 +113,7 @@ static void sheets(void)
     SAME(SW_NO_SUCH_RULE, place(sheet, written, SW_MAX_RULES));
 }
 
-/* ---- 4 to 15: bodies ---- */
+/* ---- 4 to 15, 23, 24: bodies ---- */
 
 static uint32_t figures_are(const uint8_t *body, size_t len, uint64_t h, uint64_t d, uint64_t c)
 {
@@ -147,8 +147,11 @@ static void bodies(void)
     REFUSED(SW_UNKNOWN_CODE, 5, 3, 0, 0, 0, 2, 0, 0, 0, 1, 1, 0);
     REFUSED(SW_UNBOUND_VARIABLE, 1, 1, 0);
     REFUSED(SW_NO_SUCH_FLAG, 1, 0, 8);
-    REFUSED(SW_BAD_OFFSET, 5, 2, 0, 0x00, 0x10, 2, 0, 0x00, 0x10, 1, 1, 0);        /* offset 4,096 */
-    REFUSED(SW_BAD_OFFSET, 5, 1, 0, 1, 0, 2, 0, 0, 0, 1, 1, 0);                    /* infinity + 1 */
+    REFUSED(SW_OFFSET_OUT_OF_RANGE, 5, 2, 0, 0x00, 0x10, 2, 0, 0x00, 0x10, 1, 1, 0); /* offset 4,096 */
+    REFUSED(SW_VARIABLE_BYTE_NOT_ZERO, 5, 0, 1, 0, 0, 2, 0, 0, 0, 1, 1, 0);        /* position 0, variable 1 */
+    REFUSED(SW_VARIABLE_BYTE_NOT_ZERO, 5, 1, 1, 0x88, 0x13, 2, 0, 0, 0, 1, 1, 0);  /* infinity, variable 1, offset 5,000 */
+    REFUSED(SW_OFFSET_ON_INFINITY, 5, 1, 0, 1, 0, 2, 0, 0, 0, 1, 1, 0);            /* infinity + 1 */
+    REFUSED(SW_OFFSET_ON_INFINITY, 5, 1, 0, 0x88, 0x13, 2, 0, 0, 0, 1, 1, 0);      /* infinity + 5,000 */
     REFUSED(SW_BYTES_LEFT_OVER, 1, 0, 0, 1);
     REFUSED(SW_DELAY_INFINITE, 5, 2, 0, 0, 0, 1, 0, 0, 0, 1, 1, 0);                /* X..infinity */
     REFUSED(SW_DELAY_ABOVE_LIMIT, 5, 2, 0, 0, 1, 2, 0, 0, 1, 1, 1, 0);             /* X+256..X+256 */
@@ -315,7 +318,7 @@ static void batches(void)
 static void sentences(void)
 {
     uint8_t out[SW_MAX_SENTENCE + 1];
-    for (uint32_t number = 0; number <= 23; number++) {
+    for (uint32_t number = 0; number <= SW_OFFSET_ON_INFINITY + 1; number++) {
         size_t written = 99;
         memset(out, 0xAA, sizeof out);
         SAME(SW_OK, sw_sentence(number, out, SW_MAX_SENTENCE, &written));

@@ -49,10 +49,10 @@ def functions():
 
 
 def sentences():
-    same("numbers of the refusals", list(range(1, 23)), list(SENTENCES))
+    same("numbers of the refusals", list(range(1, 25)), list(SENTENCES))
     for number, text in SENTENCES.items():
         same(f"sentence {number}", text, sentence(number))
-    for number in (constant("SW_OK"), 23, 4294967295):
+    for number in (constant("SW_OK"), 25, 4294967295):
         same(f"sentence {number}", "no such refusal", sentence(number))
 
 

@@ -80,7 +80,7 @@ def cells(f, pairs):
 
 
 def figures(data):
-    """History, delay and cells of a body, "or a refusal from 4 to 15"."""
+    """History, delay and cells of a body, "or a refusal from 4 to 15", with 23 and 24."""
     f = read(data)
     start = [(0, 0)]
     d, h = delay(f, start), history(f, start, 0)

@@ -13,7 +13,7 @@ from paper import OPEN, Refused, outcome, read
 
 
 def outcome_at(body, flags, tick):
-    """ "The rule at tick p is its formula started at p with variable 0 equal to p." "Evaluator: 4 to 10, 16." """
+    """ "The rule at tick p is its formula started at p with variable 0 equal to p." "Evaluator: 4 to 10, 16", with 23 and 24. """
     f = read(body)
     if len(flags) > 65535 or tick >= len(flags):
         raise Refused(16)
@@ -100,6 +100,8 @@ REFUSED = [
     ("6: variable not bound here", h("01 01 00")),
     ("7: flag above 7", h("01 00 08")),
     ("8: offset 4,096", h("05 02000010 02000000 01 01 00")),
+    ("23: position 0 with variable 1", h("05 00010000 02000000 01 01 00")),
+    ("24: infinity with offset 5,000", h("05 01008813 02000000 01 01 00")),
     ("9: a 65th formula", h("02") * 64 + FLAG_0),
     ("9: a 5th quantifier", h("05 02000000 02000000") * 5 + FLAG_0),
     ("10: a byte left over", FLAG_0 + h("00")),

@@ -1,4 +1,4 @@
-"""Bodies and their meaning, by the sentences of document 01, for the programs beside it.
+"""Bodies and their meaning, by the sentences of document 01 and of document 02, point 1, for the programs beside it.
 
 Nothing is shared with the library: bodies are read and evaluated here anew, in Python's whole numbers of any size.
 """
@@ -16,7 +16,7 @@ class Refused(Exception):
 
 class Body:
     """A body that is read from left to right: "code present (4), known (5), 9, its fixed bytes present (4), then for a flag 6, 7; for each
-    bound 5, 6, 8"."""
+    bound 5, 6" and what `bound` below says."""
 
     def __init__(self, data):
         self.data, self.at, self.formulas = data, 0, 0
@@ -55,7 +55,8 @@ class Body:
 
 
 def bound(four, around):
-    """Kind, variable and offset."""
+    """Kind, variable and offset. After 5 and 6: "in the place of 8, the variable byte is looked at first with 23, then an infinity's offset
+    with 24, then 8"."""
     kind, variable, low, high = four
     offset = low + 256 * high
     if offset >= 32768:
@@ -64,7 +65,11 @@ def bound(four, around):
         raise Refused(5)
     if kind == 2 and variable > around:
         raise Refused(6)
-    if not -4095 <= offset <= 4095 or (kind != 2 and variable != 0) or (kind == 1 and offset != 0):
+    if kind != 2 and variable != 0:
+        raise Refused(23)
+    if kind == 1 and offset != 0:
+        raise Refused(24)
+    if not -4095 <= offset <= 4095:
         raise Refused(8)
     return (kind, variable, offset)
 

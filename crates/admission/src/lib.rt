@@ -28,7 +28,8 @@ fn fit_opening(f: Figures, history: usize, table: usize) -> FigureAnswer
     FigureAnswer::Sized(f)
 }
 
-// The figures with which a rule's body is opened over a history and a cell table of these lengths, or a refusal: 4 to 15, 17, 18.
+// The figures with which a rule's body is opened over a history and a cell table of these lengths, or a refusal: 4 to 15, 23, 24,
+// 17, 18.
 pub fn admit_opening(body: &[u8], history: usize, table: usize) -> FigureAnswer
     ensures { λ r. ⌜ told r ≡ and-then (body-figures (now (body .entry))) (room history table) ⌝ }
 {

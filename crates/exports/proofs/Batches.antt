@@ -15,6 +15,7 @@ use borrow.Rule.Slice.PartMut.{putMid}
 use Rattle.refusal.specs.declared.Refusal.{Refusal}
 use Rattle.refusal.specs.Answer.{Answer, refused, accepted}
 use Rattle.refusal.specs.Numbers.{number-of}
+use Rattle.refusal.proofs.Positive.{not-zero}
 use Rattle.rule.specs.declared.Figures.{Figures}
 use Rattle.figures.specs.declared.answer.FigureAnswer.{FigureAnswer}
 use Rattle.figures.specs.declared.answer.FigureAnswer.the-variants as sized
@@ -28,7 +29,6 @@ use Rattle.exports.specs.Numbers.{number-at}
 use Rattle.exports.specs.States.{loaded, state-in}
 use Rattle.exports.specs.Calls.{admit-bytes, LentStep, step-with, step-answer}
 use Rattle.exports.specs.Batch.{paired, Chain, none, more, Ended, Batch, BatchPromise, PairStep}
-use Rattle.exports.proofs.Calls.{not-zero}
 
 -- ---- which batch is admitted
 

@@ -6,9 +6,9 @@ use mathlib.Core.List.{List}
 use lib.ListN.{length, take}
 use borrow.Author.Tests.{le-leb, lt-leb}
 use Rattle.refusal.specs.declared.Refusal.{Refusal}
-use Rattle.refusal.specs.declared.Refusal.the-variants.{RuleCount, EntryLayout, NoSuchRule, BodyEndsEarly, UnknownCode, UnboundVariable, NoSuchFlag, BadOffset, BodyTooLarge, BytesLeftOver, DelayInfinite, DelayAboveLimit, HistoryInfinite, HistoryAboveLimit, CellsAboveLimit, NotInRecording, HistoryLength, CellTableTooShort, ReportTooShort, TicksUsedUp, StateNotOpened, BufferTooShort}
 use Rattle.refusal.specs.Answer.{Answer, refused, accepted}
 use Rattle.refusal.specs.Numbers.{number-of}
+use Rattle.refusal.proofs.Positive.{not-zero}
 use Rattle.sheet.specs.Sheet.{rule-body, body-part}
 use Rattle.sheet.proofs.Bodies.{body-size}
 use Rattle.rule.specs.declared.Figures.{Figures}
@@ -28,31 +28,6 @@ use Rattle.exports.specs.Numbers.{number-at}
 use Rattle.exports.specs.States.{loaded, state-in, fresh-bytes, next-bytes}
 use Rattle.exports.specs.Calls.{opening, LentOpening, admit-bytes, LentStep, taken-as, step-with, step-answer}
 use Rattle.exports.proofs.States.{fresh-read, next-read}
-
--- No refusal has the number 0, which is the answer of a call that is not refused.
-pub not-zero : (x : Refusal) → (m : ℕ) × (number-of x ≡ suc m)
-not-zero RuleCount = (0, refl)
-not-zero EntryLayout = (1, refl)
-not-zero NoSuchRule = (2, refl)
-not-zero BodyEndsEarly = (3, refl)
-not-zero UnknownCode = (4, refl)
-not-zero UnboundVariable = (5, refl)
-not-zero NoSuchFlag = (6, refl)
-not-zero BadOffset = (7, refl)
-not-zero BodyTooLarge = (8, refl)
-not-zero BytesLeftOver = (9, refl)
-not-zero DelayInfinite = (10, refl)
-not-zero DelayAboveLimit = (11, refl)
-not-zero HistoryInfinite = (12, refl)
-not-zero HistoryAboveLimit = (13, refl)
-not-zero CellsAboveLimit = (14, refl)
-not-zero NotInRecording = (15, refl)
-not-zero HistoryLength = (16, refl)
-not-zero CellTableTooShort = (17, refl)
-not-zero ReportTooShort = (18, refl)
-not-zero TicksUsedUp = (19, refl)
-not-zero StateNotOpened = (20, refl)
-not-zero BufferTooShort = (21, refl)
 
 pub answered-refused : {A : Type 0} (x : Refusal) (n : ℕ) (a : A) → n ≡ number-of x → answered n a ≡ refused (number-of x)
 answered-refused x n a e = let z = not-zero x in rw (e, z .1)

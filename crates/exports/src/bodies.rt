@@ -8,7 +8,7 @@ use recording::Evaluated;
 use rule::Outcome;
 use rule::Verdict;
 
-// The figures of a body: refusals 4 to 15.
+// The figures of a body: refusals 4 to 15, 23, 24.
 #[no_mangle]
 pub extern "C" fn sw_figures(
     body: &[u8],
@@ -54,7 +54,7 @@ fn step_number(o: Outcome) -> u64
     }
 }
 
-// The outcome of a body at a tick of a recording: refusals 4 to 10, 16.
+// The outcome of a body at a tick of a recording: refusals 4 to 10, 23, 24, 16.
 #[no_mangle]
 pub extern "C" fn sw_outcome(
     body: &[u8],

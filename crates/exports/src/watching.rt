@@ -11,7 +11,8 @@ use engine::OpenAnswer;
 use engine::StepAnswer;
 use refusal::Refusal;
 
-// Opens a rule of a sheet over a lent history, which is zeroed, and a lent cell table, which is only measured: refusals 1 to 15, 17, 18.
+// Opens a rule of a sheet over a lent history, which is zeroed, and a lent cell table, which is only measured: refusals 1 to 15, 23, 24,
+// 17, 18.
 #[no_mangle]
 pub extern "C" fn sw_open(
     sheet: &[u8],

@@ -1,4 +1,4 @@
-// A body's figures: history, delay and cells, or a refusal from 4 to 15; and the sizes that the engine needs, written into the node table.
+// A body's figures: history, delay and cells, or a refusal (4 to 15, 23, 24); and the sizes that the engine needs, written into the node table.
 mod answer;
 mod limits;
 mod measure;
@@ -13,7 +13,7 @@ use measure::measure_rule;
 use reader::Reading;
 
 // Reads a body into the node table, writes the sizes of its nodes (words 8 to 10) and answers its figures. The table is memory to work in:
-// where the body itself is refused (4 to 10) its words are unspecified.
+// where the body itself is refused (4 to 10, 23, 24) its words are unspecified.
 pub fn prepare(body: &[u8], nodes: &mut [u32; 768]) -> FigureAnswer
     ensures { λ r. ⌜ Prepared (now (body .entry)) r (now (nodes .exit)) ⌝ }
 {
@@ -29,7 +29,7 @@ pub fn prepare(body: &[u8], nodes: &mut [u32; 768]) -> FigureAnswer
     }
 }
 
-// A body's figures, or a refusal from 4 to 15.
+// A body's figures, or a refusal: 4 to 15, 23, 24.
 pub fn figures(body: &[u8]) -> FigureAnswer
     ensures { λ r. ⌜ told r ≡ body-figures (now (body .entry)) ⌝ }
 {

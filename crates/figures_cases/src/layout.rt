@@ -1,4 +1,4 @@
-// Bodies that break the layout, or just keep it: refusals 4 to 10.
+// Bodies that break the layout, or just keep it: refusals 4 to 10, 23 and 24.
 use crate::line::case;
 
 // Refusal 4: what is missing; and 5 where a code is there but unknown.
@@ -100,8 +100,8 @@ pub(crate) fn offsets() {
     );
 }
 
-// 8 for a byte that should be 0; the first bound's refusal before any later one.
-pub(crate) fn zero_bytes() {
+// 23 for a variable byte of position 0 or infinity, bound or not, before 24 and 8.
+pub(crate) fn variable_bytes() {
     case(
         b"position 0 with variable 9",
         b"\x05\x00\x09\x00\x00\x02\x00\x00\x00\x01\x01\x00",
@@ -111,20 +111,84 @@ pub(crate) fn zero_bytes() {
         b"\x05\x01\x09\x00\x00\x02\x00\x00\x00\x01\x01\x00",
     );
     case(
+        b"second bound infinity with variable 9",
+        b"\x05\x02\x00\x00\x00\x01\x09\x00\x00\x01\x01\x00",
+    );
+    case(
+        b"infinity with variable 9 and offset 1",
+        b"\x05\x01\x09\x01\x00\x02\x00\x00\x00\x01\x01\x00",
+    );
+    case(
+        b"infinity with variable 9 and offset 5000",
+        b"\x05\x01\x09\x88\x13\x02\x00\x00\x00\x01\x01\x00",
+    );
+    case(
+        b"position 0 with variable 1 and offset 5000",
+        b"\x05\x00\x01\x88\x13\x02\x00\x00\x00\x01\x01\x00",
+    );
+    case(
+        b"position 0 with an outer range's variable",
+        b"\x05\x02\x00\x00\x00\x02\x00\x00\x00\x05\x00\x01\x00\x00\x02\x01\x00\x00\x01\x02\x00",
+    );
+}
+
+// 24 for an infinity's offset, also one out of range; 8 for that of position 0.
+pub(crate) fn infinite_offsets() {
+    case(
         b"infinity with offset 1",
         b"\x05\x01\x00\x01\x00\x02\x00\x00\x00\x01\x01\x00",
     );
+    case(
+        b"infinity with offset -1",
+        b"\x05\x01\x00\xff\xff\x02\x00\x00\x00\x01\x01\x00",
+    );
+    case(
+        b"infinity with offset 5000",
+        b"\x05\x01\x00\x88\x13\x02\x00\x00\x00\x01\x01\x00",
+    );
+    case(
+        b"second bound infinity with offset -4096",
+        b"\x05\x02\x00\x00\x00\x01\x00\x00\xf0\x01\x01\x00",
+    );
+    case(
+        b"position 0 plus 4095",
+        b"\x05\x02\x00\x00\x00\x00\x00\xff\x0f\x01\x01\x00",
+    );
+    case(
+        b"position 0 plus 4096",
+        b"\x05\x02\x00\x00\x00\x00\x00\x00\x10\x01\x01\x00",
+    );
+}
+
+// All of the first bound's refusals before the second's, and these before the body's.
+pub(crate) fn bound_after_bound() {
     case(
         b"first bound 8, second 5",
         b"\x05\x02\x00\x00\x10\x03\x00\x00\x00\x01\x01\x00",
     );
     case(
-        b"first bound 8, flag 6",
-        b"\x05\x02\x00\x00\x10\x02\x00\x00\x00\x01\x02\x00",
+        b"first bound 8, second 23",
+        b"\x05\x02\x00\x00\x10\x00\x01\x00\x00\x01\x01\x00",
     );
     case(
-        b"position 0 plus 4095",
-        b"\x05\x02\x00\x00\x00\x00\x00\xff\x0f\x01\x01\x00",
+        b"first bound 23, second 6",
+        b"\x05\x00\x01\x00\x00\x02\x01\x00\x00\x01\x01\x00",
+    );
+    case(
+        b"first bound 24, second 23",
+        b"\x05\x01\x00\x01\x00\x01\x01\x00\x00\x01\x01\x00",
+    );
+    case(
+        b"first bound 24, second 8",
+        b"\x05\x01\x00\x01\x00\x02\x00\x00\x10\x01\x01\x00",
+    );
+    case(
+        b"second bound 24, flag 6",
+        b"\x05\x02\x00\x00\x00\x01\x00\x01\x00\x01\x02\x00",
+    );
+    case(
+        b"first bound 8, flag 6",
+        b"\x05\x02\x00\x00\x10\x02\x00\x00\x00\x01\x02\x00",
     );
 }
 

@@ -10,7 +10,7 @@ use Rattle.rule.specs.Meaning.{opposite, after, both, up, place, up-to, positio
 use Rattle.rule.specs.Recording.{over-recording}
 use Rattle.rule.specs.Steps.{false-at, is-open, passing, report, live}
 use Rattle.proving_ground.specs.Marked.{Marked}
-use Rattle.proving_ground.specs.Orders.{nots, besides, nested, Limits, Orders}
+use Rattle.proving_ground.specs.Orders.{nots, besides, nested, Limits, Orders, Bounds}
 use Rattle.proving_ground.specs.Runs.{Run, Recorded}
 
 pub marked : Marked
@@ -75,9 +75,6 @@ orders =
       offset-before-second = refl;
       second-kind = refl;
       own-variable = refl;
-      origin-variable = refl;
-      infinity-variable = refl;
-      infinity-offset = refl;
       bounds-before-part = refl;
       body-missing = refl;
       outer-after-range = refl;
@@ -91,6 +88,34 @@ orders =
       contents-cut = refl;
       one-byte-more = refl;
       no-such-rule = refl;
+    }
+
+pub bounds : Bounds
+unfolding and-then word require signed bound require-bound fixed contents head one two parts formula formula-at whole body larger plus times shift at-tick anywhere bound-pair range-pair N N-back positions-from width delay history cells needed limit-cells limit-history limit-delay figures body-figures
+bounds =
+    record {
+      start-variable = refl;
+      never-variable = refl;
+      second-variable = refl;
+      bound-variable = refl;
+      kind-before-variable = refl;
+      variable-before-infinity = refl;
+      variable-before-both = refl;
+      variable-before-range = refl;
+      never-offset = refl;
+      never-high-byte = refl;
+      never-below = refl;
+      infinity-before-range = refl;
+      second-infinity = refl;
+      start-offset = refl;
+      start-within = refl;
+      unbound = refl;
+      inner-bound = refl;
+      range-then-variable = refl;
+      variable-then-kind = refl;
+      infinity-then-variable = refl;
+      unbound-then-infinity = refl;
+      infinity-then-part = refl;
     }
 
 pub run : Run

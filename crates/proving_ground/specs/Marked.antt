@@ -17,7 +17,7 @@ use Rattle.rule.specs.Meaning.{rule}
 abbrev pub sized : ℕ → ℕ → ℕ → Answer Figures
 sized h d c = accepted (record { history = h; delay = d; cells = c })
 
--- The figures of a rule of a sheet: 1 to 15.
+-- The figures of a rule of a sheet: 1 to 15, 23, 24.
 abbrev pub sheet-figures : List ℕ → ℕ → Answer Figures
 sheet-figures s r = and-then (rule-body s r) body-figures
 

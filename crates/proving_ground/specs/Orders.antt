@@ -1,5 +1,5 @@
 -- Beside the marked cases: limits at their boundary, and the order of the refusals ("code present (4), known (5), 9, its fixed bytes present (4), then for a
--- flag 6, 7; for each bound 5, 6, 8"), each in the bytes of a body or a sheet. proofs/Cases.antt proves them.
+-- flag 6, 7; for each bound 5, 6" and document 02's 23, 24, 8), each in the bytes of a body or a sheet. proofs/Cases.antt proves them.
 use Prim.Native.Nat.{ℕ, zero, suc}
 use mathlib.Core.Path.{_≡_}
 use mathlib.Core.List.{List, [], _∷_, _++_}
@@ -79,9 +79,6 @@ pub record Orders : Type 0 where
   pub offset-before-second : body (over (var 0 0 16) (3 ∷ 0 ∷ 0 ∷ 0 ∷ []) []) ≡ refused 8
   pub second-kind : body (over (var 0 1 0xF0) (3 ∷ 0 ∷ 0 ∷ 0 ∷ []) []) ≡ refused 5
   pub own-variable : body (over start (var 1 0 0) (up-at 1)) ≡ refused 6
-  pub origin-variable : body (over (0 ∷ 1 ∷ 0 ∷ 0 ∷ []) start []) ≡ refused 8
-  pub infinity-variable : body (over (1 ∷ 1 ∷ 0 ∷ 0 ∷ []) start []) ≡ refused 8
-  pub infinity-offset : body (over (1 ∷ 0 ∷ 1 ∷ 0 ∷ []) start []) ≡ refused 8
   pub bounds-before-part : body (over never (var 1 0 0) []) ≡ refused 6
   pub body-missing : body (over never (var 0 0 0) []) ≡ refused 4
   pub outer-after-range : body (4 ∷ (over start start (up-at 1) ++ up-at 1)) ≡ refused 6
@@ -97,3 +94,40 @@ pub record Orders : Type 0 where
   pub contents-cut : rule-body (1 ∷ 5 ∷ 0 ∷ 1 ∷ []) 9 ≡ refused 1
   pub one-byte-more : rule-body (example ++ (0 ∷ [])) 9 ≡ refused 2
   pub no-such-rule : rule-body example 1 ≡ refused 3
+
+-- The bounds "position 0 or infinity with variable byte v, plus an offset of these two bytes".
+abbrev pub from-start : ℕ → ℕ → ℕ → List ℕ
+from-start v low high = 0 ∷ v ∷ low ∷ high ∷ []
+
+abbrev pub from-never : ℕ → ℕ → ℕ → List ℕ
+from-never v low high = 1 ∷ v ∷ low ∷ high ∷ []
+
+-- "In the place of 8, the variable byte is looked at first with 23, then an infinity's offset with 24, then 8"; 5,000 is 0x88 0x13.
+pub record Bounds : Type 0 where
+  -- 23: the variable byte of position 0 or infinity, also where that variable is bound, and before 24 and 8
+  pub start-variable : body (over (from-start 1 0 0) start []) ≡ refused 23
+  pub never-variable : body (over (from-never 1 0 0) start []) ≡ refused 23
+  pub second-variable : body (over start (from-never 255 0 0) (up-at 1)) ≡ refused 23
+  pub bound-variable : body (over start start (over (from-start 1 0 0) start (up-at 2))) ≡ refused 23
+  pub kind-before-variable : body (over (3 ∷ 1 ∷ 0 ∷ 0 ∷ []) start []) ≡ refused 5
+  pub variable-before-infinity : body (over (from-never 1 1 0) start []) ≡ refused 23
+  pub variable-before-both : body (over (from-never 1 0x88 0x13) start []) ≡ refused 23
+  pub variable-before-range : body (over (from-start 1 0x88 0x13) start []) ≡ refused 23
+  -- 24: an offset on infinity, also one out of range
+  pub never-offset : body (over (from-never 0 1 0) start []) ≡ refused 24
+  pub never-high-byte : body (over (from-never 0 0 1) start []) ≡ refused 24
+  pub never-below : body (over (from-never 0 0xFF 0xFF) start []) ≡ refused 24
+  pub infinity-before-range : body (over (from-never 0 0x88 0x13) start []) ≡ refused 24
+  pub second-infinity : body (over never (from-never 0 0 0x80) (up-at 1)) ≡ refused 24
+  -- 8: only an offset out of range, on position 0 or a variable
+  pub start-offset : body (over (from-start 0 0x88 0x13) start []) ≡ refused 8
+  pub start-within : body (over (from-start 0 0xFF 0x0F) (from-start 0 1 0xF0) []) ≡ refused 4
+  -- a variable's own byte is no 23: 6 where it is not bound, read where it is
+  pub unbound : body (over (var 1 0x88 0x13) start []) ≡ refused 6
+  pub inner-bound : body-figures (over (var 0 0 0) (var 0 0 0) (over (var 1 0 0) (var 1 0 0) (up-at 2))) ≡ sized 0 0 5
+  -- all of the first bound's before the second's, and these before the part's
+  pub range-then-variable : body (over (var 0 0x88 0x13) (from-start 1 0 0) []) ≡ refused 8
+  pub variable-then-kind : body (over (from-start 1 0 0) (3 ∷ 0 ∷ 0 ∷ 0 ∷ []) []) ≡ refused 23
+  pub infinity-then-variable : body (over (from-never 0 1 0) (from-start 1 0 0) []) ≡ refused 24
+  pub unbound-then-infinity : body (over (var 1 0 0) (from-never 0 1 0) []) ≡ refused 6
+  pub infinity-then-part : body (over start (from-never 0 1 0) (9 ∷ [])) ≡ refused 24

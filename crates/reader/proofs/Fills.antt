@@ -10,6 +10,7 @@ use Rattle.words.specs.Words.{byte}
 use Rattle.refusal.specs.Answer.{refused, accepted}
 use Rattle.refusal.specs.Numbers.{number-of}
 use Rattle.refusal.specs.declared.Refusal.{Refusal}
+use Rattle.refusal.proofs.Positive.{number-positive}
 use Rattle.rule.specs.Formula.{Formula, flag, negate, then, beside, forall}
 use Rattle.rule.specs.Body.{Head, refuse, flag-head, negate-head, then-head, beside-head, forall-head, bound, contents, head, Read, stop, read, one, two, parts, formula-at}
 use Rattle.rule.proofs.Order.{by-order}
@@ -22,7 +23,6 @@ use Rattle.reader.specs.declared.Part.the-variants.{Refused, Ended}
 use Rattle.reader.specs.Checks.{head-number}
 use Rattle.reader.specs.Written.{place, head-word, Headed}
 use Rattle.reader.specs.Filled.{ending, end-of, ended, Placed, Filled}
-use Rattle.reader.proofs.Refusals.{number-positive}
 use Rattle.reader.proofs.Ends.{refused-end, flag-end, negate-end, forall-end, first-refused, second-end, second-below}
 
 -- a refusal of the head

@@ -8,40 +8,12 @@ use lib.Dec.{leb, ltb, eqb}
 use lib.ListN.{length}
 use lib.IntN.{natAbs, pos, negsuc}
 use borrow.Author.Tests.{le-leb, lt-leb, le-ltb, lt-ltb, ne-eqb}
-use Rattle.refusal.specs.Numbers.{number-of}
-use Rattle.refusal.specs.declared.Refusal.{Refusal}
-use Rattle.refusal.specs.declared.Refusal.the-variants.{RuleCount, EntryLayout, NoSuchRule, BodyEndsEarly, UnknownCode, UnboundVariable, NoSuchFlag, BadOffset, BodyTooLarge, BytesLeftOver, DelayInfinite, DelayAboveLimit, HistoryInfinite, HistoryAboveLimit, CellsAboveLimit, NotInRecording, HistoryLength, CellTableTooShort, ReportTooShort, TicksUsedUp, StateNotOpened, BufferTooShort}
 use Rattle.words.specs.Words.{byte, word}
 use Rattle.rule.specs.Body.{Head, negate-head, forall-head, require, signed, bound, require-bound, fixed, contents, head}
 use mathlib.Core.Logic.{_⊎_, inl, inr}
 use Rattle.rule.proofs.Reading.{and-true}
 use Rattle.rule.proofs.Order.{by-order}
 use Rattle.reader.specs.Checks.{head-number}
-
--- no refusal has the number 0
-pub number-positive : (x : Refusal) → number-of x ≡ 0 → ⊥
-number-positive RuleCount e = omega arith
-number-positive EntryLayout e = omega arith
-number-positive NoSuchRule e = omega arith
-number-positive BodyEndsEarly e = omega arith
-number-positive UnknownCode e = omega arith
-number-positive UnboundVariable e = omega arith
-number-positive NoSuchFlag e = omega arith
-number-positive BadOffset e = omega arith
-number-positive BodyTooLarge e = omega arith
-number-positive BytesLeftOver e = omega arith
-number-positive DelayInfinite e = omega arith
-number-positive DelayAboveLimit e = omega arith
-number-positive HistoryInfinite e = omega arith
-number-positive HistoryAboveLimit e = omega arith
-number-positive CellsAboveLimit e = omega arith
-number-positive NotInRecording e = omega arith
-number-positive HistoryLength e = omega arith
-number-positive CellTableTooShort e = omega arith
-number-positive ReportTooShort e = omega arith
-number-positive TicksUsedUp e = omega arith
-number-positive StateNotOpened e = omega arith
-number-positive BufferTooShort e = omega arith
 
 pub require-number : (b : Bool) (n : ℕ) (next : Head) → head-number (require b n next) ≡ cond b (head-number next) n
 unfolding require
@@ -54,11 +26,11 @@ pub offset-low : {w : ℕ} → w ≤ 4095 → natAbs (signed w) ≤ 4095
 unfolding signed
 offset-low {w} h = simp (lt-ltb w 32768 (omega arith)) h
 
-pub offset-high : {w : ℕ} → 61441 ≤ w → w < 65536 → natAbs (signed w) ≤ 4095
+offset-high : {w : ℕ} → 61441 ≤ w → natAbs (signed w) ≤ 4095
 unfolding signed
-offset-high {w} h k = simp (le-ltb w 32768 (omega arith)) (omega arith)
+offset-high {w} h = simp (le-ltb w 32768 (omega arith)) (omega arith)
 
-pub offset-far : {w : ℕ} → 4095 < w → w < 61441 → 4095 < natAbs (signed w)
+offset-far : {w : ℕ} → 4095 < w → w < 61441 → 4095 < natAbs (signed w)
 unfolding signed
 offset-far {w} h k = go (leb (suc w) 32768) refl
   where
@@ -66,41 +38,55 @@ offset-far {w} h k = go (leb (suc w) 32768) refl
     go true e = h
     go false e = omega (arith)
 
--- ---- a bound
+-- past 4,095, only the 16 bits of a negative offset are near enough
+pub offset-above : (w : ℕ) → 4095 < w → leb 61441 w ≡ leb (natAbs (signed w)) 4095
+offset-above w h = go (by-order 61441 w)
+  where
+    go : (61441 ≤ w) ⊎ (w < 61441) → leb 61441 w ≡ leb (natAbs (signed w)) 4095
+    go (inl i) = simp (le-leb 61441 w i, le-leb _ 4095 (offset-high i))
+    go (inr i) = simp (lt-leb 61441 w i, lt-leb _ 4095 (offset-far h i))
+
+-- ---- a bound, with its variable byte v and its offset w
 
 module _ (s : List ℕ) (at m : ℕ) where
   bound-number : (next : Head) → head-number (require-bound s at m next) ≡
       cond (leb (byte s at) 2) (cond (not (eqb (byte s at) 2) || leb (byte s (at + 1)) m) (cond (eqb (byte s at) 2 || eqb (byte s (at + 1)) 0)
-      (cond (not (eqb (byte s at) 1) || eqb (word s (at + 2)) 0) (cond (leb (natAbs (signed (word s (at + 2)))) 4095) (head-number next) 8) 8) 8) 6) 5
+      (cond (not (eqb (byte s at) 1) || eqb (word s (at + 2)) 0) (cond (leb (natAbs (signed (word s (at + 2)))) 4095) (head-number next) 8) 24) 23) 6) 5
   unfolding require-bound
   bound-number next = simp require-number
 
-  pub bound-5 : 2 < byte s at → head-number (require-bound s at m negate-head) ≡ 5
-  bound-5 h = bound-number negate-head ∙ simp (lt-leb (byte s at) 2 h)
+  module _ (v w : ℕ) (variable : v ≡ byte s (at + 1)) (offset : w ≡ word s (at + 2)) where
+    bound-tests : head-number (require-bound s at m negate-head) ≡
+        cond (leb (byte s at) 2) (cond (not (eqb (byte s at) 2) || leb v m) (cond (eqb (byte s at) 2 || eqb v 0)
+        (cond (not (eqb (byte s at) 1) || eqb w 0) (cond (leb (natAbs (signed w)) 4095) 0 8) 24) 23) 6) 5
+    bound-tests = rw (variable, offset) (bound-number negate-head)
 
-  pub bound-6 : byte s at ≡ 2 → m < byte s (at + 1) → head-number (require-bound s at m negate-head) ≡ 6
-  bound-6 e h = bound-number negate-head ∙ simp (e, lt-leb (byte s (at + 1)) m h)
+    pub bound-5 : 2 < byte s at → head-number (require-bound s at m negate-head) ≡ 5
+    bound-5 h = bound-tests ∙ simp (lt-leb (byte s at) 2 h)
 
-  pub bound-variable : byte s at ≡ 2 → byte s (at + 1) ≤ m → head-number (require-bound s at m negate-head) ≡ cond (leb (natAbs (signed (word s (at + 2)))) 4095) 0 8
-  bound-variable e h = bound-number negate-head ∙ simp (e, le-leb (byte s (at + 1)) m h)
+    module _ (a : byte s at ≤ 2) where
+      pub bound-6 : (not (eqb (byte s at) 2) || leb v m) ≡ false → head-number (require-bound s at m negate-head) ≡ 6
+      bound-6 h = bound-tests ∙ simp (le-leb (byte s at) 2 a, h)
 
-  pub bound-8 : byte s at ≤ 2 → (byte s at ≡ 2 → ⊥) → (byte s (at + 1) ≡ 0 → ⊥) → head-number (require-bound s at m negate-head) ≡ 8
-  bound-8 i h k = bound-number negate-head ∙ simp (le-leb (byte s at) 2 i, ne-eqb (byte s at) 2 h, ne-eqb (byte s (at + 1)) 0 k)
+      module _ (b : (not (eqb (byte s at) 2) || leb v m) ≡ true) where
+        pub bound-23 : (eqb (byte s at) 2 || eqb v 0) ≡ false → head-number (require-bound s at m negate-head) ≡ 23
+        bound-23 h = bound-tests ∙ simp (le-leb (byte s at) 2 a, b, h)
 
-  pub bound-origin : byte s at ≡ 0 → byte s (at + 1) ≡ 0 → head-number (require-bound s at m negate-head) ≡ cond (leb (natAbs (signed (word s (at + 2)))) 4095) 0 8
-  bound-origin e h = bound-number negate-head ∙ simp (e, h)
+        module _ (c : (eqb (byte s at) 2 || eqb v 0) ≡ true) where
+          pub bound-24 : (not (eqb (byte s at) 1) || eqb w 0) ≡ false → head-number (require-bound s at m negate-head) ≡ 24
+          bound-24 h = bound-tests ∙ simp (le-leb (byte s at) 2 a, b, c, h)
 
-  pub bound-infinity : byte s at ≡ 1 → byte s (at + 1) ≡ 0 → word s (at + 2) ≡ 0 → head-number (require-bound s at m negate-head) ≡ 0
-  unfolding signed
-  bound-infinity e h k = bound-number negate-head ∙ simp (e, h, k)
+          module _ (d : (not (eqb (byte s at) 1) || eqb w 0) ≡ true) where
+            pub bound-8 : leb (natAbs (signed w)) 4095 ≡ false → head-number (require-bound s at m negate-head) ≡ 8
+            bound-8 h = bound-tests ∙ simp (le-leb (byte s at) 2 a, b, c, d, h)
 
-  pub bound-infinity-8 : byte s at ≡ 1 → byte s (at + 1) ≡ 0 → (word s (at + 2) ≡ 0 → ⊥) → head-number (require-bound s at m negate-head) ≡ 8
-  bound-infinity-8 e h k = bound-number negate-head ∙ simp (e, h, ne-eqb (word s (at + 2)) 0 k)
+            pub bound-fine : leb (natAbs (signed w)) 4095 ≡ true → head-number (require-bound s at m negate-head) ≡ 0
+            bound-fine h = bound-tests ∙ simp (le-leb (byte s at) 2 a, b, c, d, h)
 
 -- ---- two bounds, one after the other
 
 f : Bool → Bool → Bool → Bool → Bool → ℕ → ℕ
-f a b c d e x = cond a (cond b (cond c (cond d (cond e x 8) 8) 8) 6) 5
+f a b c d e x = cond a (cond b (cond c (cond d (cond e x 8) 24) 23) 6) 5
 
 passes : (a b c d e : Bool) (x : ℕ) → f a b c d e 0 ≡ 0 → f a b c d e x ≡ x
 unfolding f

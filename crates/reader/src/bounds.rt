@@ -1,8 +1,8 @@
-// The refusals of one bound, in 01's order: "for each bound 5, 6, 8".
+// The refusals of one bound, in the order 5, 6, 23, 24, 8 of document 02, point 1. Each test is a function of its own, and is the definition's.
 ghost use mathlib.Core.Path.{_≡_};
-ghost use mathlib.Core.Bool.{cond};
-ghost use Prim.Native.Nat.{_+_, _≤_, _<_};
-ghost use lib.Dec.{leb};
+ghost use mathlib.Core.Bool.{not, _||_};
+ghost use Prim.Native.Nat.{_+_, _≤_};
+ghost use lib.Dec.{leb, eqb};
 ghost use lib.ListN.{length};
 ghost use lib.IntN.{natAbs};
 ghost use Rattle.rule.specs.Body.{signed, require-bound, negate-head};
@@ -12,18 +12,35 @@ use refusal::Refusal;
 use words::byte_after;
 use words::word_at;
 
-// An offset lies from -4,095 to 4,095.
-fn offset_check(w: usize) -> Check
-    requires { ⌜ w < 65536 ⌝ }
-    ensures { λ r. ⌜ check-number r ≡ cond (leb (natAbs (signed w)) 4095) 0 8 ⌝ }
+// A variable is bound here, inside m quantifiers.
+fn variable_bound(kind: u8, v: usize, m: usize) -> bool
+    ensures { λ r. ⌜ r ≡ (not (eqb kind 2) || leb v m) ⌝ }
+{
+    if kind == 2 { v <= m } else { true }
+}
+
+// Position 0 and infinity name no variable: their variable byte is 0.
+fn variable_byte_fits(kind: u8, v: usize) -> bool
+    ensures { λ r. ⌜ r ≡ (eqb kind 2 || eqb v 0) ⌝ }
+{
+    if kind == 2 { true } else { v == 0 }
+}
+
+// Infinity has no offset, w as 16 bits.
+fn offset_allowed(kind: u8, w: usize) -> bool
+    ensures { λ r. ⌜ r ≡ (not (eqb kind 1) || eqb w 0) ⌝ }
+{
+    if kind == 1 { w == 0 } else { true }
+}
+
+// An offset, w as 16 bits, lies from -4,095 to 4,095.
+fn offset_in_range(w: usize) -> bool
+    ensures { λ r. ⌜ r ≡ leb (natAbs (signed w)) 4095 ⌝ }
 {
     if w <= 4095 {
-        return Check::Fine;
+        return true;
     }
-    if w < 61441 {
-        return Check::Refused(Refusal::BadOffset);
-    }
-    Check::Fine
+    61441 <= w
 }
 
 // The bound whose 4 bytes start at a position, inside m quantifiers.
@@ -32,25 +49,24 @@ pub(crate) fn bound_check(s: &[u8], at: usize, m: usize) -> Check
     ensures { λ r. ⌜ check-number r ≡ head-number (require-bound (now (s .entry)) at m negate-head) ⌝ }
 {
     let kind = s[at];
+    let v = byte_after(s, at, 1);
+    let w = word_at(s, at + 2);
+    let allowed = offset_allowed(kind, w);
+    let near = offset_in_range(w);
     if 2 < kind {
         return Check::Refused(Refusal::UnknownCode);
     }
-    let v = byte_after(s, at, 1);
-    let w = word_at(s, at + 2);
-    if kind == 2 {
-        if m < v {
-            return Check::Refused(Refusal::UnboundVariable);
-        }
-        return offset_check(w);
+    if !variable_bound(kind, v, m) {
+        return Check::Refused(Refusal::UnboundVariable);
     }
-    if v != 0 {
-        return Check::Refused(Refusal::BadOffset);
+    if !variable_byte_fits(kind, v) {
+        return Check::Refused(Refusal::VariableByteNotZero);
     }
-    if kind == 0 {
-        return offset_check(w);
+    if !allowed {
+        return Check::Refused(Refusal::OffsetOnInfinity);
     }
-    if w == 0 {
-        return Check::Fine;
+    if !near {
+        return Check::Refused(Refusal::OffsetOutOfRange);
     }
-    Check::Refused(Refusal::BadOffset)
+    Check::Fine
 }

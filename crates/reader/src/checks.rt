@@ -1,5 +1,5 @@
 // The refusals of one formula's own bytes, in 01's order: "code present (4), known (5), 9, its fixed bytes present (4), then for a flag 6, 7;
-// for each bound 5, 6, 8".
+// for each bound" what crate::bounds tests.
 ghost use mathlib.Core.Path.{_≡_};
 ghost use mathlib.Core.Bool.{not, _&&_, _||_};
 ghost use Prim.Native.Nat.{_+_, _≤_, _<_};

@@ -1,4 +1,4 @@
-// The body reader: a body's formula into the node table, or its refusal from 4 to 10.
+// The body reader: a body's formula into the node table, or its refusal: 4 to 10, 23 or 24.
 mod bounds;
 mod checks;
 mod writer;

@@ -34,7 +34,7 @@ fn over_recording(nodes: &[u32; 768], recording: &[u8], tick: usize) -> Evaluate
     Evaluated::Answered(evaluate(nodes, 64, 0, recording, t, at_tick(p), p))
 }
 
-// The outcome of a body at a tick of a recording, or a refusal: 4 to 10 for the body, 16 for the recording and the tick. The body may be one
+// The outcome of a body at a tick of a recording, or a refusal: 4 to 10, 23 and 24 for the body, 16 for the recording and the tick. The body may be one
 // that the engine refuses to open.
 pub fn outcome_at(body: &[u8], recording: &[u8], tick: usize) -> Evaluated
     ensures { λ r. ⌜ told r ≡ recording-outcome (now (body .entry)) (now (recording .entry)) tick ⌝ }

@@ -249,6 +249,14 @@ fn refusals() {
         b"8: offset 4,096",
         b"\x05\x02\x00\x00\x10\x02\x00\x00\x00\x01\x01\x00",
     );
+    refused(
+        b"23: position 0 with variable 1",
+        b"\x05\x00\x01\x00\x00\x02\x00\x00\x00\x01\x01\x00",
+    );
+    refused(
+        b"24: infinity with offset 5,000",
+        b"\x05\x01\x00\x88\x13\x02\x00\x00\x00\x01\x01\x00",
+    );
     let mut deep = [2u8; 67];
     deep[64] = 1;
     deep[65] = 0;

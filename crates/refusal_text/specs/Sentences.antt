@@ -26,7 +26,7 @@ sentences =
     ∷ "unknown code or kind"  -- 5
     ∷ "a variable that is not bound here"  -- 6
     ∷ "a flag above 7"  -- 7
-    ∷ "an offset outside -4,095 to 4,095, or a byte that should be 0"  -- 8
+    ∷ "an offset outside -4,095 to 4,095"  -- 8
     ∷ "a 65th formula or a 5th nested quantifier"  -- 9
     ∷ "bytes left over after the formula"  -- 10
     ∷ "the delay is infinite"  -- 11
@@ -41,6 +41,8 @@ sentences =
     ∷ "tick numbers are used up"  -- 20
     ∷ "state and cells were not left by one opening and its steps"  -- 21
     ∷ "the buffer is too short"  -- 22
+    ∷ "a bound of kind 0 or 1 whose variable byte is not 0"  -- 23
+    ∷ "an infinity with an offset"  -- 24
     ∷ []
 
 -- The sentence of a number; every other number has that of 0.

@@ -14,6 +14,20 @@ fn put(text: &[u8], out: &mut [u8; 128]) -> usize
     bytes::copy(text, out)
 }
 
+// What a bound may not hold.
+fn of_bound(number: u32, out: &mut [u8; 128]) -> usize
+    requires { ⌜ Past 22 number ⌝ }
+    ensures { λ r. ⌜ r < 128 ⌝ }
+    ensures { λ r. ⌜ r ≡ length (sentence-of number) ⌝ }
+    ensures { λ r. ⌜ now (out .exit) ≡ sentence-of number ++ drop r (now (out .entry)) ⌝ }
+{
+    match number {
+        23 => put(b"a bound of kind 0 or 1 whose variable byte is not 0", out),
+        24 => put(b"an infinity with an offset", out),
+        _ => put(b"no such refusal", out),
+    }
+}
+
 // What an opening, a step or a writer is lent.
 fn of_call(number: u32, out: &mut [u8; 128]) -> usize
     requires { ⌜ Past 16 number ⌝ }
@@ -31,7 +45,7 @@ fn of_call(number: u32, out: &mut [u8; 128]) -> usize
             out,
         ),
         22 => put(b"the buffer is too short", out),
-        _ => put(b"no such refusal", out),
+        _ => of_bound(number, out),
     }
 }
 
@@ -65,10 +79,7 @@ fn of_body(number: u32, out: &mut [u8; 128]) -> usize
         5 => put(b"unknown code or kind", out),
         6 => put(b"a variable that is not bound here", out),
         7 => put(b"a flag above 7", out),
-        8 => put(
-            b"an offset outside -4,095 to 4,095, or a byte that should be 0",
-            out,
-        ),
+        8 => put(b"an offset outside -4,095 to 4,095", out),
         9 => put(b"a 65th formula or a 5th nested quantifier", out),
         10 => put(b"bytes left over after the formula", out),
         _ => of_figures(number, out),

@@ -1,4 +1,4 @@
-// Sheets, the program `watch` over each of them with no flag byte: each refusal from 1 to 15, and rules just inside the limits. The file stdout is
+// Sheets, the program `watch` over each of them with no flag byte: each refusal from 1 to 15, 23, 24, and rules just inside the limits. The file stdout is
 // what tests/oracle/watch.py worked out from document 01 alone, from the names and sheets below.
 use libc::STDOUT_FILENO;
 
@@ -31,7 +31,7 @@ fn of_the_sheet() {
     );
 }
 
-// Refusals 4 to 10, of the body.
+// Refusals 4 to 10, 23 and 24, of the body.
 fn of_the_body() {
     case(b"4: a flag cut short", b"\x01\x05\x00\x02\x00\x01\x00");
     case(b"5: code 6", b"\x01\x05\x00\x01\x00\x06");
@@ -43,6 +43,14 @@ fn of_the_body() {
     case(
         b"8: offset 4,096",
         b"\x01\x05\x00\x0c\x00\x05\x02\x00\x00\x10\x02\x00\x00\x10\x01\x01\x00",
+    );
+    case(
+        b"23: position 0 with variable 1",
+        b"\x01\x05\x00\x0c\x00\x05\x00\x01\x00\x00\x02\x00\x00\x00\x01\x01\x00",
+    );
+    case(
+        b"24: infinity plus 5,000",
+        b"\x01\x05\x00\x0c\x00\x05\x01\x00\x88\x13\x02\x00\x00\x00\x01\x01\x00",
     );
     case(
         b"9: a fifth range nested",

@@ -6,6 +6,7 @@ mod calls;
 mod runs;
 mod suites;
 
+use crate::paper::LAST_REFUSAL;
 pub use calls::{figures, opening, outcome, place, round_trip, write};
 pub use runs::{run, Plan, Tally};
 pub use suites::{
@@ -31,7 +32,7 @@ pub const MARK: u64 = 0x5EED_0000_0BAD_F00D;
 /// How often each number was answered; number 0 is "accepted".
 #[derive(Clone, Debug, Default)]
 pub struct Numbers {
-    counts: [u64; 23],
+    counts: [u64; LAST_REFUSAL as usize + 1],
 }
 
 impl Numbers {
@@ -41,6 +42,11 @@ impl Numbers {
 
     pub fn of(&self, number: u32) -> u64 {
         self.counts[number as usize]
+    }
+
+    /// How many answers there were.
+    pub fn total(&self) -> u64 {
+        self.counts.iter().sum()
     }
 
     /// Whether each of these numbers was answered at least so often.

@@ -1,4 +1,5 @@
-//! Document 01, read literally. Comments in quotation marks are its sentences.
+//! Document 01, with what document 02 changed of it, read literally. Comments in
+//! quotation marks are their sentences.
 //! Nothing here is shared with the library, and nothing is meant to be fast.
 
 mod body;
@@ -13,8 +14,13 @@ pub use figures::{figures, formula_figures, Figures};
 pub use meaning::{evaluate, outcome, rule_outcome, Outcome, Verdict};
 pub use sheet::{rule_body, rule_place, write_sheet};
 
-/// A refusal is its number in document 01, 1 to 22.
+/// A refusal is its number in documents 01 and 02, 1 to 24.
 pub type Refusal = u32;
+
+/// The last one.
+pub const LAST_REFUSAL: Refusal = 24;
+/// What the bytes of a body are refused with.
+pub const BODY_REFUSALS: [Refusal; 9] = [4, 5, 6, 7, 8, 9, 10, 23, 24];
 
 /// "A lent history of L bytes": at most this many (refusals 14 and 17).
 pub const MAX_HISTORY: usize = 4096;

@@ -9,8 +9,9 @@
 use crate::library::{Library, State, StepAnswer, StepLent, StepsAnswer, FALSE, OPEN, TRUE};
 use crate::paper::{
     self, Bound, Figures, Formula, Lengths, Opened, Outcome, Refusal, Verdict, MAX_BODY,
-    MAX_HISTORY, MAX_TICKS,
+    MAX_HISTORY, MAX_OFFSET, MAX_TICKS,
 };
+use crate::random::{places, Place};
 use crate::states::{self, number_at, put_number, LIVE_AT, NEXT_AT, OPENED_AT, SIZE_AT};
 
 #[derive(Clone, Copy, Debug, PartialEq, Eq)]
@@ -48,6 +49,9 @@ pub enum Flaw {
     CellsBelow4096,
     CellsUpTo4097,
     FourBeforeNine,
+    Exchanges23And24,
+    EightBefore24,
+    VariablesGet23,
     HistoryBeforeDelay,
     FalseAtHorizon,
     OpenBeforeTrying,
@@ -95,10 +99,14 @@ impl StandIn {
 
     fn read_figures(&self, body: &[u8]) -> Result<Figures, Refusal> {
         let read = paper::read_body(body);
-        if self.has(Flaw::FourBeforeNine) && read == Err(9) && ends_with_code(body) {
-            return Err(4);
+        match read {
+            Err(9) if self.has(Flaw::FourBeforeNine) && ends_with_code(body) => Err(4),
+            Err(23) if self.has(Flaw::Exchanges23And24) => Err(24),
+            Err(24) if self.has(Flaw::Exchanges23And24) => Err(23),
+            Err(24) if self.has(Flaw::EightBefore24) && has_far_infinity(body) => Err(8),
+            Ok(_) if self.has(Flaw::VariablesGet23) && has_inner_bound(body) => Err(23),
+            other => self.formula_figures(&other?),
         }
-        self.formula_figures(&read?)
     }
 
     fn formula_figures(&self, formula: &Formula) -> Result<Figures, Refusal> {
@@ -503,6 +511,18 @@ fn sum(bytes: &[u8]) -> u32 {
 /// Whether the last byte is the code that refusal 9 is about.
 fn ends_with_code(body: &[u8]) -> bool {
     paper::read_body(&body[..body.len() - 1]) == Err(4)
+}
+
+/// Whether four bytes look like an infinity with an offset out of range.
+fn has_far_infinity(body: &[u8]) -> bool {
+    let far = |low, high| i16::from_le_bytes([low, high]).unsigned_abs() > MAX_OFFSET as u16;
+    body.windows(4).any(|four| four[..2] == [1, 0] && far(four[2], four[3]))
+}
+
+/// Whether a bound of an accepted body names a range's variable.
+fn has_inner_bound(body: &[u8]) -> bool {
+    let inner = |(at, place)| matches!(place, Place::BoundVariable(2, _)) && body[at] != 0;
+    places(body).into_iter().any(inner)
 }
 
 fn zero_is_this_tick(first: Bound, second: Bound) -> (Bound, Bound) {

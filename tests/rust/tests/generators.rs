@@ -2,18 +2,26 @@
 //! inside, interesting rules, streams with long runs.
 
 use rust_tests::paper::{
-    evaluate, figures, read_body, rule_place, write_sheet, Bound, Formula, MAX_HISTORY, MAX_OFFSET,
+    evaluate, figures, read_body, rule_place, write_sheet, Bound, Formula, BODY_REFUSALS,
+    LAST_REFUSAL, MAX_HISTORY, MAX_OFFSET,
 };
 use rust_tests::random::{
-    accepted_rule, aimed, any_body, damaged_sheet, depth, figure_boundary, size, stream,
-    twice_damaged, wild_formula, writer_input, Random,
+    accepted_rule, aimed, any_body, damaged_sheet, depth, faulty_bounds, figure_boundary, size,
+    stream, twice_damaged, wild_formula, writer_input, Random, NEIGHBOURS,
 };
 
-/// A body aimed at refusal 4 to 10 gets that number, and its neighbour none.
+/// How often each number was answered, 0 for none.
+type Counts = [u64; LAST_REFUSAL as usize + 1];
+
+fn all_above(counts: &Counts, numbers: &[u32], least: u64) -> bool {
+    numbers.iter().all(|&number| counts[number as usize] > least)
+}
+
+/// A body aimed at a refusal of its bytes gets that number, and its neighbour none.
 #[test]
 fn aimed_bodies() {
     let mut random = Random::new(201);
-    for number in 4..=10 {
+    for number in BODY_REFUSALS {
         for _ in 0..1_000 {
             let pair = aimed(&mut random, number);
             assert_eq!(read_body(&pair.outside).err(), Some(number), "{pair:?}");
@@ -170,23 +178,26 @@ fn at_flag(formula: &Formula, variable: usize) -> bool {
     }
 }
 
-/// Bodies of any sort hit every number, and so do those damaged twice.
+/// Bodies of any sort hit every number, and so do those damaged twice; faulty bounds
+/// hit every number of a bound.
 #[test]
 fn any_bodies_hit_every_number() {
     let mut random = Random::new(206);
-    let (mut any, mut twice) = ([0; 16], [0; 16]);
+    let (mut any, mut twice, mut bounds): (Counts, Counts, Counts) = Default::default();
     for _ in 0..8_000 {
         any[figures(&any_body(&mut random)).err().unwrap_or(0) as usize] += 1;
         twice[figures(&twice_damaged(&mut random)).err().unwrap_or(0) as usize] += 1;
+        bounds[figures(&faulty_bounds(&mut random)).err().unwrap_or(0) as usize] += 1;
     }
-    assert!(any[4..].iter().all(|&count| count > 100) && any[0] > 1_000, "{any:?}");
-    assert!(twice[4..=8].iter().all(|&count| count > 50) && twice[10] > 50, "{twice:?}");
+    assert!(all_above(&any, &NEIGHBOURS, 100) && any[0] > 1_000, "{any:?}");
+    assert!(all_above(&twice, &[4, 5, 6, 7, 8, 10, 23, 24], 50), "{twice:?}");
+    assert!(all_above(&bounds, &[5, 6, 8, 23, 24], 500), "{bounds:?}");
 }
 
 #[test]
 fn sheets_and_writers_hit_every_number() {
     let mut random = Random::new(207);
-    let (mut readers, mut writers) = ([0; 23], [0; 23]);
+    let (mut readers, mut writers): (Counts, Counts) = Default::default();
     for _ in 0..3_000 {
         let sheet = damaged_sheet(&mut random);
         readers[rule_place(&sheet, random.below(3)).err().unwrap_or(0) as usize] += 1;
@@ -195,9 +206,8 @@ fn sheets_and_writers_hit_every_number() {
         let written = write_sheet(&input.lengths, &input.bodies, &mut out);
         writers[written.err().unwrap_or(0) as usize] += 1;
     }
-    let readers_hit = [0, 1, 2, 3].iter().all(|&number| readers[number] > 20);
-    let writers_hit = [0, 1, 2, 22].iter().all(|&number| writers[number] > 100);
-    assert!(readers_hit && writers_hit, "readers {readers:?}, writers {writers:?}");
+    assert!(all_above(&readers, &[0, 1, 2, 3], 20), "{readers:?}");
+    assert!(all_above(&writers, &[0, 1, 2, 22], 100), "{writers:?}");
 }
 
 /// Long runs, single ups and alternations.

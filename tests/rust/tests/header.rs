@@ -1,6 +1,7 @@
 //! The header for C and the wrapper for Rust (feature `library`) have the same names, and
 //! give each the same number.
 
+use rust_tests::paper::LAST_REFUSAL;
 use station_watch::{raw, Refusal};
 use std::collections::BTreeMap;
 
@@ -45,8 +46,8 @@ fn wrapped() -> BTreeMap<String, String> {
 
 /// `RuleCount` is `SW_RULE_COUNT` in C.
 fn refusals() -> impl Iterator<Item = (String, String)> {
-    (1..=22).map(|number| {
-        let name = format!("{:?}", Refusal::from_number(number).expect("1 to 22 are refusals"));
+    (1..=LAST_REFUSAL).map(|number| {
+        let name = format!("{:?}", Refusal::from_number(number).expect("no refusal is 0"));
         let words = name.chars().map(|c| match c.is_uppercase() {
             true => format!("_{c}"),
             false => c.to_uppercase().to_string(),

@@ -1,6 +1,5 @@
 //! Hostile input to the Rattle library (feature `library`).
 
-use rust_tests::compare::Numbers;
 use rust_tests::hostile;
 use rust_tests::library::Linked;
 
@@ -13,10 +12,6 @@ const DAMAGED_STATES: usize = 20_000;
 /// Runs of thirty steps with an overwritten history.
 const OVERWRITTEN: usize = 5_000;
 
-fn calls(numbers: &Numbers) -> u64 {
-    (0..=22).map(|number| numbers.of(number)).sum()
-}
-
 #[test]
 fn random_states() {
     let numbers = hostile::random_states(&Linked, 2_001, RANDOM_STATES).unwrap();
@@ -26,7 +21,7 @@ fn random_states() {
 #[test]
 fn forged_states() {
     let numbers = hostile::forged_states(&Linked, 2_004, FORGED_STATES).unwrap();
-    assert_eq!(calls(&numbers), 4 * FORGED_STATES as u64, "{numbers:?}");
+    assert_eq!(numbers.total(), 4 * FORGED_STATES as u64, "{numbers:?}");
     assert!(numbers.each_at_least(&[17, 18, 19, 20], FORGED_STATES as u64 / 8), "{numbers:?}");
     assert!(numbers.each_at_least(&[0, 21], FORGED_STATES as u64 / 2), "{numbers:?}");
 }
@@ -34,7 +29,7 @@ fn forged_states() {
 #[test]
 fn damaged_states() {
     let numbers = hostile::damaged_states(&Linked, 2_002, DAMAGED_STATES).unwrap();
-    assert_eq!(calls(&numbers), 7 * DAMAGED_STATES as u64, "{numbers:?}");
+    assert_eq!(numbers.total(), 7 * DAMAGED_STATES as u64, "{numbers:?}");
     let count = DAMAGED_STATES as u64;
     assert!(numbers.of(0) > 3 * count && numbers.of(21) > count, "{numbers:?}");
     assert!(numbers.of(17) > count / 2 && numbers.of(19) > count / 8, "{numbers:?}");

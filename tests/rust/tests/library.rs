@@ -5,6 +5,7 @@ use rust_tests::compare::{self, Tally};
 use rust_tests::library::{Library, Linked};
 use rust_tests::notation::*;
 use rust_tests::paper::write_body;
+use rust_tests::random::NEIGHBOURS;
 
 /// Together at least 20,000 rules and 2,000,000 steps, in two tests that run
 /// beside each other.
@@ -58,8 +59,8 @@ fn every_history_length() {
 #[test]
 fn bodies() {
     let numbers = compare::bodies(&Linked, 1_004, BODIES).unwrap();
-    let each = BODIES as u64 / 12;
-    assert!(numbers.each_at_least(&(4..=15).collect::<Vec<u32>>(), each), "{numbers:?}");
+    let each = (BODIES / NEIGHBOURS.len()) as u64;
+    assert!(numbers.each_at_least(&NEIGHBOURS, each), "{numbers:?}");
     assert!(numbers.of(0) > 5 * each, "{numbers:?}");
 }
 
@@ -121,6 +122,6 @@ fn writers() {
 fn openings() {
     let numbers = compare::openings(&Linked, 1_009, OPENINGS).unwrap();
     let often = OPENINGS as u64 / 200;
-    assert!(numbers.each_at_least(&(0..=15).collect::<Vec<u32>>(), often), "{numbers:?}");
-    assert!(numbers.each_at_least(&[17, 18], often), "{numbers:?}");
+    assert!(numbers.each_at_least(&[0, 1, 2, 3, 17, 18], often), "{numbers:?}");
+    assert!(numbers.each_at_least(&NEIGHBOURS, often), "{numbers:?}");
 }

@@ -4,9 +4,12 @@ use denote.Ref.{now}
 use native.Mathlib.Omega.{arith}
 use borrow.Author.Needs.{needs}
 use Rattle.refusal_text.specs.Sentences.{sentence-of, ascii}
-use Rattle.refusal_text.proofs.Putting.{said, other, past}
+use Rattle.refusal_text.proofs.Putting.{said, past}
 use Rattle.refusal_text.proofs.of_call.Statement.{statement}
 use Rattle.refusal_text.proofs.of_call.Tie as tie
+
+of-bound-requires : tie.Need-of-bound-requires
+of-bound-requires c κs = past 16 6 (c .before .before .args .number) (c .before .before .pre) (c .before .match .rest)
 
 returns : tie.Need-returns
 unfolding sentence-of ascii
@@ -45,11 +48,7 @@ returns-6 c =
     said 22 (s .number) (c .put6 .result) (now (s .out)) (c .put6 .last .1 .0) (ap sentence-of (c .before .before .before .match .keys6)) (omega arith) (c .put6 .ensures)
 
 returns-7 : tie.Need-returns-7
-unfolding sentence-of ascii
-returns-7 c =
-    let s = c .before .before .before .before in
-    let n = s .args .number in
-    said 0 n (c .put7 .result) (now (s .args .out)) (c .put7 .last .1 .0) (other n (past 16 6 n (s .pre) (c .before .before .before .match .rest))) (omega arith) (c .put7 .ensures)
+returns-7 c = c .of-bound .ensures
 
 pub of-call-spec : {M : Type 1} → statement M
 of-call-spec =
@@ -67,8 +66,7 @@ of-call-spec =
     (λ c κs. search needs)
     (λ c. search needs)
     (λ c κs. search needs)
-    (λ c. search needs)
-    (λ c κs. search needs)
+    of-bound-requires
     returns
     returns-2
     returns-3

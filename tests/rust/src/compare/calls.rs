@@ -75,7 +75,7 @@ pub fn round_trip(library: &dyn Library, bodies: &[Vec<u8>]) -> Check {
     Ok(())
 }
 
-/// "Figures: 4 to 15."
+/// "Figures: 4 to 15." And 23, 24.
 pub fn figures(library: &dyn Library, body: &[u8]) -> Check<u32> {
     let about = || format!("figures of {}", hex(body));
     let mut lent = Lent::new(body);
@@ -95,7 +95,7 @@ pub fn figures(library: &dyn Library, body: &[u8]) -> Check<u32> {
     Ok(number)
 }
 
-/// "Evaluator: 4 to 10, 16." The step of an open outcome is answered as 0.
+/// "Evaluator: 4 to 10, 16." And 23, 24. The step of an open outcome is answered as 0.
 pub fn outcome(library: &dyn Library, body: &[u8], recording: &[u8], tick: usize) -> Check<u32> {
     let about = || format!("tick {tick} of {} for {}", hex(recording), hex(body));
     let (mut lent_body, mut lent_recording) = (Lent::new(body), Lent::new(recording));
@@ -118,7 +118,7 @@ pub fn outcome(library: &dyn Library, body: &[u8], recording: &[u8], tick: usize
     Ok(number)
 }
 
-/// "Opening: 1 to 15, 17, 18." An accepted one "zeroes the history" and sets all
+/// "Opening: 1 to 15, 17, 18." And 23, 24. An accepted one "zeroes the history" and sets all
 /// bytes of the state; at this boundary it is lent the table only to be read.
 pub fn opening(
     library: &dyn Library,

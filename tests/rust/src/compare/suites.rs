@@ -6,15 +6,14 @@ use super::runs::{run, Plan, Tally};
 use super::{Check, Numbers};
 use crate::library::Library;
 use crate::paper::{self, read_body, Bound, Formula, CELL_WORDS, MAX_HISTORY, MAX_RECORDING};
-use crate::random::{self, Random, Rule};
+use crate::random::{self, Random, Rule, NEIGHBOURS};
 
 /// Bodies of all kinds: figures, and the evaluator's refusals.
 pub fn bodies(library: &dyn Library, seed: u64, count: usize) -> Check<Numbers> {
     let mut random = Random::new(seed);
     let mut numbers = Numbers::default();
     for round in 0..count {
-        let number = 4 + (round % 12) as u32;
-        let pair = random::neighbours(&mut random, number);
+        let pair = random::neighbours(&mut random, NEIGHBOURS[round % NEIGHBOURS.len()]);
         for body in [pair.outside, pair.inside, random::any_body(&mut random)] {
             numbers.add(figures(library, &body)?);
             short_recording(library, &mut random, &body)?;
@@ -23,7 +22,7 @@ pub fn bodies(library: &dyn Library, seed: u64, count: usize) -> Check<Numbers> 
     Ok(numbers)
 }
 
-/// The evaluator over three ticks: the same refusals 4 to 10, before 16.
+/// The evaluator over three ticks: the same refusals 4 to 10, 23, 24, before 16.
 fn short_recording(library: &dyn Library, random: &mut Random, body: &[u8]) -> Check {
     let recording = random.bytes(3);
     outcome(library, body, &recording, random.pick(&[0, 1, 2, 3, usize::MAX]))?;
@@ -181,7 +180,7 @@ fn some_sheet(random: &mut Random) -> (Vec<u8>, usize) {
             (sheet, random.below(3))
         }
         1 => {
-            let number = random.size(4, 15) as u32;
+            let number = random.pick(&NEIGHBOURS);
             let mut body = random::neighbours(random, number).outside;
             if body.is_empty() {
                 body.push(2);

@@ -1,4 +1,5 @@
-//! "The body": formulas, their reader with refusals 4 to 10, their writer.
+//! "The body": formulas, their reader with refusals 4 to 10, 23 and 24, their
+//! writer.
 
 use super::{Refusal, MAX_FORMULAS, MAX_NESTED, MAX_OFFSET};
 
@@ -109,7 +110,8 @@ impl Reader<'_> {
     }
 }
 
-/// "For each bound 5, 6, 8."
+/// "For each bound 5, 6", and then: "In the place of 8, the variable byte is looked
+/// at first with 23, then an infinity's offset with 24, then 8."
 fn bound(bytes: &[u8], nested: usize) -> Result<Bound, Refusal> {
     let (kind, variable) = (bytes[0], bytes[1] as usize);
     let offset = i16::from_le_bytes([bytes[2], bytes[3]]) as i64;
@@ -119,12 +121,15 @@ fn bound(bytes: &[u8], nested: usize) -> Result<Bound, Refusal> {
     if kind == 2 && variable > nested {
         return Err(6);
     }
-    // "8: offset out of range, or a byte that should be 0 isn't": "For kinds 0
-    // and 1 the variable byte is 0; for infinity the offset is 0."
-    let out_of_range = !(-MAX_OFFSET..=MAX_OFFSET).contains(&offset);
-    let variable_not_0 = kind != 2 && variable != 0;
-    let offset_not_0 = kind == 1 && offset != 0;
-    if out_of_range || variable_not_0 || offset_not_0 {
+    // "For kinds 0 and 1 the variable byte is 0; for infinity the offset is 0."
+    if kind != 2 && variable != 0 {
+        return Err(23);
+    }
+    if kind == 1 && offset != 0 {
+        return Err(24);
+    }
+    // "8 means an offset outside -4,095 to 4,095."
+    if !(-MAX_OFFSET..=MAX_OFFSET).contains(&offset) {
         return Err(8);
     }
     Ok(match kind {

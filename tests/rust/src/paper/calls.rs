@@ -28,7 +28,7 @@ impl Opened {
 }
 
 /// "Opening takes a sheet, a rule number, a lent history of L bytes and a lent
-/// cell table". "Opening: 1 to 15, 17, 18."
+/// cell table". "Opening: 1 to 15, 17, 18." And 23 and 24.
 pub fn open(
     sheet: &[u8],
     rule: usize,

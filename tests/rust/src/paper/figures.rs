@@ -26,7 +26,7 @@ struct Pair {
 }
 
 /// "Asked for a body's figures, the library answers all three or a refusal from
-/// 4 to 15."
+/// 4 to 15." And 23 and 24, with 4 to 10.
 pub fn figures(body: &[u8]) -> Result<Figures, Refusal> {
     formula_figures(&read_body(body)?)
 }

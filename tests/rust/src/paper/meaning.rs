@@ -22,7 +22,7 @@ use Verdict::{False, True};
 
 /// "The recording evaluator takes a body, a lent recording of up to 65,535
 /// bytes and a tick, and answers this outcome, also for a body that the engine
-/// refuses to open." Refusals 4 to 10, 16.
+/// refuses to open." Refusals 4 to 10, 23, 24, 16.
 pub fn evaluate(body: &[u8], recording: &[u8], tick: usize) -> Result<Outcome, Refusal> {
     let formula = read_body(body)?;
     // "16: recording too long, or tick not in it."

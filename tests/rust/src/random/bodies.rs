@@ -4,9 +4,12 @@
 use super::formulas::{accepted_rule, depth, quantifiers, size, wild_formula};
 use super::Random;
 use crate::paper::{
-    formula_figures, read_body, write_body, Bound, Formula, MAX_DELAY, MAX_FORMULAS, MAX_HISTORY,
-    MAX_NESTED, MAX_OFFSET,
+    formula_figures, read_body, write_body, Bound, Formula, BODY_REFUSALS, MAX_DELAY,
+    MAX_FORMULAS, MAX_HISTORY, MAX_NESTED, MAX_OFFSET,
 };
+
+/// The refusals that have neighbours: those of a body's bytes and of its figures.
+pub const NEIGHBOURS: [u32; 14] = [4, 5, 6, 7, 8, 9, 10, 11, 12, 13, 14, 15, 23, 24];
 
 /// Two bodies that differ in little: `outside` is refused with the number aimed
 /// at, `inside` is not.
@@ -66,18 +69,19 @@ fn walk(body: &[u8], at: usize, nested: usize, found: &mut Vec<(usize, Place)>) 
 
 /// A body of any sort, most of them refused.
 pub fn any_body(random: &mut Random) -> Vec<u8> {
-    match random.below(10) {
+    match random.below(11) {
         0 => loose_bytes(random),
         1 => write_body(&wild_formula(random)),
         2 => accepted_rule(random).body,
         3 | 4 => one_byte_damaged(random),
         5 => twice_damaged(random),
         6 | 7 => {
-            let number = random.size(4, 15) as u32;
+            let number = random.pick(&NEIGHBOURS);
             neighbours(random, number).outside
         }
+        8 => faulty_bounds(random),
         _ => {
-            let number = random.size(4, 15) as u32;
+            let number = random.pick(&NEIGHBOURS);
             neighbours(random, number).inside
         }
     }
@@ -102,11 +106,36 @@ fn one_byte_damaged(random: &mut Random) -> Vec<u8> {
 pub fn twice_damaged(random: &mut Random) -> Vec<u8> {
     let mut body = one_byte_damaged(random);
     if random.one_in(2) && read_body(&body).is_ok() {
-        let number = random.size(5, 8) as u32;
+        let number = random.pick(&[5, 6, 7, 8, 23, 24]);
         spoil(random, &mut body, number);
     }
     damage(random, &mut body);
     body
+}
+
+/// A body with one or both bounds of a range written anew, each byte right or
+/// wrong by itself, so that the order of a bound's own refusals counts.
+pub fn faulty_bounds(random: &mut Random) -> Vec<u8> {
+    loop {
+        let mut body = write_body(&wild_formula(random));
+        let kinds: Vec<usize> = places(&body)
+            .iter()
+            .filter(|(_, place)| *place == Place::BoundKind)
+            .map(|(at, _)| *at)
+            .collect();
+        if kinds.is_empty() {
+            continue;
+        }
+        let first = 2 * random.below(kinds.len() / 2);
+        let (from, to) = random.pick(&[(0, 1), (1, 2), (0, 2)]);
+        for &at in &kinds[first + from..first + to] {
+            body[at] = random.pick(&[0, 1, 1, 2, 2, 3]);
+            body[at + 1] = random.pick(&[0, 0, 1, 5, 255]);
+            let offset = random.pick(&[0, 0, 1, -1, 4095, -4095, 4096, -4096, 5000, -32768]);
+            put_offset(&mut body, at + 2, offset);
+        }
+        return body;
+    }
 }
 
 fn damage(random: &mut Random, body: &mut Vec<u8>) {
@@ -126,21 +155,21 @@ fn damage(random: &mut Random, body: &mut Vec<u8>) {
     }
 }
 
-/// Neighbours at refusal `number`, 4 to 15.
+/// Neighbours at one of the refusals `NEIGHBOURS`.
 pub fn neighbours(random: &mut Random, number: u32) -> Neighbours {
-    if number <= 10 {
+    if BODY_REFUSALS.contains(&number) {
         aimed(random, number)
     } else {
         figure_boundary(random, number)
     }
 }
 
-/// Neighbours at refusal `number`, 4 to 10. The inner one is accepted by the
+/// Neighbours at a refusal of a body's bytes. The inner one is accepted by the
 /// body reader.
 pub fn aimed(random: &mut Random, number: u32) -> Neighbours {
     match number {
         4 => too_short(random),
-        5..=8 => spoilt(random, number),
+        5..=8 | 23 | 24 => spoilt(random, number),
         9 => too_many(random),
         10 => left_over(random),
         _ => panic!("refusal {number} is not the body reader's"),
@@ -162,8 +191,8 @@ fn left_over(random: &mut Random) -> Neighbours {
     Neighbours { inside, outside }
 }
 
-/// A body with a place that refusal `number`, 5 to 8, looks at: its inner
-/// neighbour has the last good value there.
+/// A body with a place that refusal `number`, 5 to 8, 23 or 24, looks at: its
+/// inner neighbour has the last good value there.
 fn spoilt(random: &mut Random, number: u32) -> Neighbours {
     loop {
         let mut inside = write_body(&wild_formula(random));
@@ -199,7 +228,7 @@ fn spoil_both(random: &mut Random, inside: &mut [u8], outside: &mut [u8], number
             outside[at] = random.pick(&[8, 9, 128, 255]);
         }
         Place::BoundVariable(..) => outside[at] = random.pick(&[1, 2, 255]),
-        Place::Offset(1) => put_offset(outside, at, random.pick(&[1, -1, 256, 4096])),
+        Place::Offset(1) => put_offset(outside, at, random.pick(&[1, -1, 256, 4096, 5000])),
         Place::Offset(_) => {
             let (last, beyond) = random.pick(&[
                 (MAX_OFFSET, MAX_OFFSET + 1),
@@ -219,7 +248,9 @@ fn looks_at(number: u32, place: Place) -> bool {
         Place::Code | Place::BoundKind => number == 5,
         Place::FlagVariable(_) | Place::BoundVariable(2, _) => number == 6,
         Place::FlagNumber => number == 7,
-        Place::BoundVariable(..) | Place::Offset(_) => number == 8,
+        Place::BoundVariable(..) => number == 23,
+        Place::Offset(1) => number == 24,
+        Place::Offset(_) => number == 8,
     }
 }
 

@@ -1,7 +1,8 @@
 -- `reader::checks::bounds_check` meets its contract: the first bound's refusal comes before the second's.
 use mathlib.Core.Path.{sym, ap, _∙_}
 use Rattle.reader.specs.Checks.{check-number}
-use Rattle.reader.proofs.Refusals.{number-positive, contents-first, contents-second}
+use Rattle.refusal.proofs.Positive.{number-positive}
+use Rattle.reader.proofs.Refusals.{contents-first, contents-second}
 use borrow.Author.Needs.{needs}
 use Rattle.reader.proofs.checks.bounds_check.Statement.{statement}
 use Rattle.reader.proofs.checks.bounds_check.Tie as tie
