@@ -84,7 +84,7 @@ extern "C" {
 #define SW_NO_SUCH_FLAG 7
 
 /* "an offset outside -4,095 to 4,095"
- * Offsets are signed 16-bit numbers, low byte first. */
+ * Keep it within that; it is a signed 16-bit number, low byte first. */
 #define SW_OFFSET_OUT_OF_RANGE 8
 
 /* "a 65th formula or a 5th nested quantifier"

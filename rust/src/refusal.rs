@@ -5,7 +5,7 @@ use crate::raw;
 use core::error::Error;
 use core::fmt;
 
-/// Why a call was refused, with the scope document's number. Nothing that was lent to
+/// Why a call was refused, with its number. Nothing that was lent to
 /// the call has changed; only `Watch::steps` may have taken some of its flags.
 ///
 /// ```
@@ -109,7 +109,7 @@ const NAMED: [Refusal; 24] = [
 ];
 
 impl Refusal {
-    /// The scope document's number.
+    /// The number that the library answers.
     ///
     /// ```
     /// use station_watch::Refusal;

@@ -1,10 +1,10 @@
 #!/usr/bin/env python3
-"""The figures of bodies, worked out from "Figures" of document 01 alone, for crates/figures_cases.
+"""The figures of bodies, worked out from the papers alone ("Figures" of document 01), for crates/figures_cases.
 
   python3 tests/oracle/figures.py crates/figures_cases/src/{marked,layout,limits}.rt     what that program must write (its file stdout)
 
 It takes the names and bodies of the calls `case(b"name", b"body")` out of the program's sources, in order, and writes the line that
-document 01 asks for each. Bodies are read by paper.py beside it.
+the papers ask for each. Bodies are read by paper.py beside it.
 """
 import re
 import sys

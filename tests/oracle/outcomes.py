@@ -1,5 +1,5 @@
 #!/usr/bin/env python3
-"""The recording evaluator's outcomes, worked out a second time from document 01 alone.
+"""The recording evaluator's outcomes, worked out a second time from the papers alone.
 
   outcomes.py cases     what crates/recording_cases must write (its file stdout)
   outcomes.py long      what crates/recording_long must write (its file stdout)

@@ -1,5 +1,5 @@
 #!/usr/bin/env python3
-"""What the program `watch` prints, worked out a second time from document 01 alone ("The sheet", "The program `watch`").
+"""What the program `watch` prints, worked out a second time from the papers alone ("The sheet", "The program `watch`").
 
   watch.py print SHEET FLAGS      what watch prints for these two files; one that is missing counts as empty
   watch.py refusals SOURCE        what crates/watch_refusals must print, from the names and sheets in its source

@@ -1,5 +1,5 @@
 #!/usr/bin/env python3
-"""The examples' blocks of docs/RULES.md, made from their inputs by document 01 alone, as tests/oracle has it. For whoever writes the page:
+"""The examples' blocks of docs/RULES.md, made from their inputs by the papers alone, as tests/oracle has it. For whoever writes the page:
 
   blocks.py rule TEXT FLAGS           a rule in the notation, and flag bytes in hexadecimal
   blocks.py outcomes FLAGS TEXT..     several rules on one stream

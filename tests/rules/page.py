@@ -1,7 +1,7 @@
 #!/usr/bin/env python3
 """The examples of docs/RULES.md: taken out of the page, worked out anew, and run.
 
-  page.py paper PAGE FOLDER         makes each block anew from its inputs (notation, flag bytes, bytes of a body) by document 01 alone, as tests/oracle has
+  page.py paper PAGE FOLDER         makes each block anew from its inputs (notation, flag bytes, bytes of a body) by the papers alone, as tests/oracle has
                                     it, and compares the whole text, comments and columns included
   page.py programs PAGE FOLDER      runs `station-watch` and `watch` of the folder on each block, and compares lines and exit statuses with the page
 
@@ -102,7 +102,7 @@ class Tools:
             out.write(content)
 
     def sheet(self, parts):
-        """Writes watch.sheet by the command, which must write what document 01 says."""
+        """Writes watch.sheet by the command, which must write what the papers say."""
         sheet = sheet_of(parts)
         self.call(0, ["sheet watch.sheet rules %d bytes %d" % (len(parts), len(sheet))], "station-watch", "sheet", "watch.sheet", *map(shown, parts))
         with open(os.path.join(self.work, "watch.sheet"), "rb") as written:
@@ -242,7 +242,7 @@ def refusals_told(path):
     """The page's table has each refusal of a body with its sentence."""
     with open(path, encoding="ascii") as page:
         text = page.read()
-    for number in range(4, 16):
+    for number in [*range(4, 16), 23, 24]:
         if text.count("\n| %d | %s | " % (number, SENTENCES[number])) != 1:
             raise Wrong("no row, or two, for refusal %d" % number)
 
@@ -264,14 +264,14 @@ def known(path):
 
 
 def check(path, folder, with_programs):
-    """Against document 01 the blocks are made anew; against programs they are run. Sessions are typed either way."""
+    """Against the papers the blocks are made anew; against programs they are run. Sessions are typed either way."""
     found, failed, runs = known(path), 0, 0
     with tempfile.TemporaryDirectory() as work, tempfile.TemporaryDirectory() as sessions:
         tools = Tools(folder, work)
         for kind, start, block in found:
             if kind in KINDS:
                 worked_out, run = KINDS[kind]
-                tried = (lambda: run(block, tools)) if with_programs else (lambda: same(block, worked_out(block), "document 01"))
+                tried = (lambda: run(block, tools)) if with_programs else (lambda: same(block, worked_out(block), "the papers"))
                 failed += attempt("%s:%d" % (path, start), tried)
         failed += attempt(path, lambda: refusals_told(path))
         typed = [block for kind, _, block in found if kind == "console"]

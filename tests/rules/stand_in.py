@@ -1,5 +1,5 @@
 #!/usr/bin/env python3
-"""The commands `station-watch` and `watch`, worked out from document 01 alone by tests/oracle: what the examples of docs/RULES.md are compared with first.
+"""The commands `station-watch` and `watch`, worked out from the papers alone by tests/oracle: what the examples of docs/RULES.md are compared with first.
 
 Called by either name (a link in a folder that tests/rules/run makes). The lines are those of the commands' usage, the sentences those
 of include/station_watch.h.

@@ -1,4 +1,4 @@
-// The library for C and Rust: functions on numbers and lent slices (include/station_watch.h). Each answers 0 or document 01's refusal number; on a
+// The library for C and Rust: functions on numbers and lent slices (include/station_watch.h). Each answers 0 or a refusal's number; on a
 // refusal nothing lent is changed, answers included. A state is 544 bytes that the caller lends and each call looks at anew.
 mod batch;
 mod bodies;

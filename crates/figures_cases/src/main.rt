@@ -1,5 +1,5 @@
 // Figures of bodies: each refusal from 4 to 15, 23 and 24 at its boundary and just inside it, and the cases of document 01. The file stdout is what
-// tests/oracle/figures.py works out from document 01 alone, from the names and bodies of the cases (tests/oracle/run runs it).
+// tests/oracle/figures.py works out from the papers alone, from the names and bodies of the cases (tests/oracle/run runs it).
 // X is the rule's tick, Y the variable of the first range; A is X..X+2, B is X-1..X, both over a flag.
 mod layout;
 mod limits;

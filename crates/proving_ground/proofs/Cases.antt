@@ -116,6 +116,12 @@ bounds =
       infinity-then-variable = refl;
       unbound-then-infinity = refl;
       infinity-then-part = refl;
+      variable-before-rest = refl;
+      infinity-before-rest = refl;
+      cut-before-variable = refl;
+      cut-before-infinity = refl;
+      nesting-before-variable = refl;
+      left-before-variable = refl;
     }
 
 pub run : Run

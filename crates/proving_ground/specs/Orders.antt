@@ -131,3 +131,10 @@ pub record Bounds : Type 0 where
   pub infinity-then-variable : body (over (from-never 0 1 0) (from-start 1 0 0) []) ≡ refused 24
   pub unbound-then-infinity : body (over (var 1 0 0) (from-never 0 1 0) []) ≡ refused 6
   pub infinity-then-part : body (over start (from-never 0 1 0) (9 ∷ [])) ≡ refused 24
+  -- before 10, and after the bounds' 4, 9 and what stands to the left
+  pub variable-before-rest : body (over (from-start 1 0 0) start (up-at 1) ++ (0 ∷ [])) ≡ refused 23
+  pub infinity-before-rest : body (over (from-never 0 1 0) start (up-at 1) ++ (0 ∷ [])) ≡ refused 24
+  pub cut-before-variable : body (5 ∷ 0 ∷ 1 ∷ 0 ∷ 0 ∷ 0 ∷ 0 ∷ 0 ∷ []) ≡ refused 4
+  pub cut-before-infinity : body (5 ∷ 1 ∷ 0 ∷ 1 ∷ 0 ∷ 0 ∷ 0 ∷ 0 ∷ []) ≡ refused 4
+  pub nesting-before-variable : body (over start start (over start start (over start start (over start start (over (from-start 1 0 0) start (up-at 1)))))) ≡ refused 9
+  pub left-before-variable : body (4 ∷ (1 ∷ 0 ∷ 8 ∷ []) ++ over (from-start 1 0 0) start (up-at 1)) ≡ refused 7

@@ -7,7 +7,7 @@ use native.Mathlib.Omega.{arith}
 use lib.Dec.{leb, ltb, eqb}
 use lib.ListN.{length}
 use lib.IntN.{natAbs, pos, negsuc}
-use borrow.Author.Tests.{le-leb, lt-leb, le-ltb, lt-ltb, ne-eqb}
+use borrow.Author.Tests.{le-leb, lt-leb, le-ltb, lt-ltb}
 use Rattle.words.specs.Words.{byte, word}
 use Rattle.rule.specs.Body.{Head, negate-head, forall-head, require, signed, bound, require-bound, fixed, contents, head}
 use mathlib.Core.Logic.{_⊎_, inl, inr}

@@ -1,4 +1,5 @@
-// The refusals of one bound, in the order 5, 6, 23, 24, 8 of document 02, point 1. Each test is a function of its own, and is the definition's.
+// The refusals of one bound, in the order 5, 6, 23, 24, 8 of document 02, point 1. The tests of 6 to 8 are functions of their own, each equal to the
+// definition's.
 ghost use mathlib.Core.Path.{_≡_};
 ghost use mathlib.Core.Bool.{not, _||_};
 ghost use Prim.Native.Nat.{_+_, _≤_};
@@ -12,28 +13,28 @@ use refusal::Refusal;
 use words::byte_after;
 use words::word_at;
 
-// A variable is bound here, inside m quantifiers.
-fn variable_bound(kind: u8, v: usize, m: usize) -> bool
+// Kind 2 names a variable that is bound here, inside m quantifiers; the other kinds name none.
+fn variable_is_bound(kind: u8, v: usize, m: usize) -> bool
     ensures { λ r. ⌜ r ≡ (not (eqb kind 2) || leb v m) ⌝ }
 {
     if kind == 2 { v <= m } else { true }
 }
 
-// Position 0 and infinity name no variable: their variable byte is 0.
+// The variable byte of position 0 and infinity is 0.
 fn variable_byte_fits(kind: u8, v: usize) -> bool
     ensures { λ r. ⌜ r ≡ (eqb kind 2 || eqb v 0) ⌝ }
 {
     if kind == 2 { true } else { v == 0 }
 }
 
-// Infinity has no offset, w as 16 bits.
+// Infinity has no offset: its 16 bits w are 0.
 fn offset_allowed(kind: u8, w: usize) -> bool
     ensures { λ r. ⌜ r ≡ (not (eqb kind 1) || eqb w 0) ⌝ }
 {
     if kind == 1 { w == 0 } else { true }
 }
 
-// An offset, w as 16 bits, lies from -4,095 to 4,095.
+// An offset of 16 bits w lies from -4,095 to 4,095.
 fn offset_in_range(w: usize) -> bool
     ensures { λ r. ⌜ r ≡ leb (natAbs (signed w)) 4095 ⌝ }
 {
@@ -51,21 +52,23 @@ pub(crate) fn bound_check(s: &[u8], at: usize, m: usize) -> Check
     let kind = s[at];
     let v = byte_after(s, at, 1);
     let w = word_at(s, at + 2);
+    let is_bound = variable_is_bound(kind, v, m);
+    let byte_fits = variable_byte_fits(kind, v);
     let allowed = offset_allowed(kind, w);
-    let near = offset_in_range(w);
+    let in_range = offset_in_range(w);
     if 2 < kind {
         return Check::Refused(Refusal::UnknownCode);
     }
-    if !variable_bound(kind, v, m) {
+    if !is_bound {
         return Check::Refused(Refusal::UnboundVariable);
     }
-    if !variable_byte_fits(kind, v) {
+    if !byte_fits {
         return Check::Refused(Refusal::VariableByteNotZero);
     }
     if !allowed {
         return Check::Refused(Refusal::OffsetOnInfinity);
     }
-    if !near {
+    if !in_range {
         return Check::Refused(Refusal::OffsetOutOfRange);
     }
     Check::Fine

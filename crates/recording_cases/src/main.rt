@@ -1,5 +1,5 @@
 // Outcomes over short recordings, at every tick and one after the end, and refused bodies. The file stdout is what
-// tests/oracle/outcomes.py worked out from document 01 alone; each body and its flags are written before its outcomes.
+// tests/oracle/outcomes.py worked out from the papers alone; each body and its flags are written before its outcomes.
 use outcome_text::bytes;
 use outcome_text::outcome;
 use outcome_text::text;

@@ -1,5 +1,5 @@
 // The longest recording, 65,535 ticks: ranges over all of it end soon, and one tick more is refused. The file stdout is what
-// tests/oracle/outcomes.py worked out from document 01 alone.
+// tests/oracle/outcomes.py worked out from the papers alone.
 
 // A body at the first and last ticks, in the middle, and after the end.
 fn at_ticks(body: &[u8], flags: &[u8]) {

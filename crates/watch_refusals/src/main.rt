@@ -1,5 +1,5 @@
 // Sheets, the program `watch` over each of them with no flag byte: each refusal from 1 to 15, 23, 24, and rules just inside the limits. The file stdout is
-// what tests/oracle/watch.py worked out from document 01 alone, from the names and sheets below.
+// what tests/oracle/watch.py worked out from the papers alone, from the names and sheets below.
 use libc::STDOUT_FILENO;
 
 // One line or two: the sheet's name, and what `watch` prints.

@@ -140,14 +140,19 @@ fn variable_bytes_that_are_not_0() {
     refused(&two_bounds("01 01 01 00", "02 00 00 00"), 23);
     refused(&two_bounds("01 01 88 13", "02 00 00 00"), 23);
     refused(&two_bounds("00 01 88 13", "02 00 00 00"), 23);
+    refused(&two_bounds("01 00 00 00", "00 01 00 10"), 23);
     // All of the first bound's before the second's.
     refused(&two_bounds("00 01 00 00", "03 00 00 00"), 23);
     refused(&two_bounds("01 00 01 00", "00 01 00 00"), 24);
     refused(&two_bounds("02 00 88 13", "00 01 00 00"), 8);
-    refused(&two_bounds("01 00 00 00", "00 01 00 10"), 23);
-    // Before the body's 4 and what comes to its right.
+    // Before the body's 4, what comes to its right, and 10.
     refused("05 00 01 00 00 02 00 00 00", 23);
     refused(&("04 ".to_string() + &two_bounds("00 01 00 00", "02 00 00 00") + "06"), 23);
+    refused(&(two_bounds("00 01 00 00", "02 00 00 00") + "00"), 23);
+    // After the bounds' 4, 9, and what comes to its left.
+    refused("05 00 01 00 00 02 00 00", 4);
+    refused(&(RANGE.repeat(4) + &two_bounds("00 01 00 00", "02 00 00 00")), 9);
+    refused(&("04 01 00 08 ".to_string() + &two_bounds("00 01 00 00", "02 00 00 00")), 7);
 }
 
 #[test]
@@ -167,8 +172,12 @@ fn offsets_on_infinity() {
     refused(&two_bounds("02 00 88 13", "01 00 01 00"), 8);
     refused(&two_bounds("02 01 00 00", "01 00 01 00"), 6);
     refused(&two_bounds("01 00 01 00", "03 00 00 00"), 24);
-    // Before the body's 4.
+    // Before the body's 4 and 10; after the bounds' 4, 9, and what comes to its left.
     refused("05 01 00 01 00 02 00 00 00", 24);
+    refused(&(two_bounds("01 00 01 00", "02 00 00 00") + "00"), 24);
+    refused("05 01 00 01 00 02 00 00", 4);
+    refused(&(RANGE.repeat(4) + &two_bounds("01 00 01 00", "02 00 00 00")), 9);
+    refused(&("04 01 00 08 ".to_string() + &two_bounds("01 00 01 00", "02 00 00 00")), 7);
 }
 
 #[test]
