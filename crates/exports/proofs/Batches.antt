@@ -15,7 +15,7 @@ use borrow.Rule.Slice.PartMut.{putMid}
 use Rattle.refusal.specs.declared.Refusal.{Refusal}
 use Rattle.refusal.specs.Answer.{Answer, refused, accepted}
 use Rattle.refusal.specs.Numbers.{number-of}
-use Rattle.refusal.proofs.Positive.{not-zero}
+use Rattle.refusal.proofs.Positive.{positive}
 use Rattle.rule.specs.declared.Figures.{Figures}
 use Rattle.figures.specs.declared.answer.FigureAnswer.{FigureAnswer}
 use Rattle.figures.specs.declared.answer.FigureAnswer.the-variants as sized
@@ -315,7 +315,7 @@ module _ (flags st history cells report : List ℕ) (taken pairs live : ℕ) (a 
   pub batch-refused : {x : Refusal} (n : ℕ) → a ≡ sized.Refused x → n ≡ number-of x
       → BatchPromise n flags st history cells report taken pairs live st history cells report taken pairs live
   batch-refused {x} n e i =
-      let z = not-zero x in
+      let z = positive x in
       rw (i, z .1) (sym told-is ∙ ap told e ∙ ap refused (z .1), (refl, (refl, (refl, (refl, (refl, (refl, refl)))))))
 
   module _ {f : Figures} (e : a ≡ sized.Sized f) where

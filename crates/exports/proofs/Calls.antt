@@ -1,6 +1,6 @@
 -- Opening and step on state bytes keep their promises, by what the engine answered.
 -- Assumes nothing.
-use Prim.Native.Nat.{ℕ, suc, _*_, _≤_, _<_}
+use Prim.Native.Nat.{ℕ, _*_, _≤_, _<_}
 use mathlib.Core.Path.{_≡_, refl, sym, ap, subst, _∙_}
 use mathlib.Core.List.{List}
 use lib.ListN.{length, take}
@@ -8,7 +8,7 @@ use borrow.Author.Tests.{le-leb, lt-leb}
 use Rattle.refusal.specs.declared.Refusal.{Refusal}
 use Rattle.refusal.specs.Answer.{Answer, refused, accepted}
 use Rattle.refusal.specs.Numbers.{number-of}
-use Rattle.refusal.proofs.Positive.{not-zero}
+use Rattle.refusal.proofs.Positive.{positive}
 use Rattle.sheet.specs.Sheet.{rule-body, body-part}
 use Rattle.sheet.proofs.Bodies.{body-size}
 use Rattle.rule.specs.declared.Figures.{Figures}
@@ -30,10 +30,10 @@ use Rattle.exports.specs.Calls.{opening, LentOpening, admit-bytes, LentS
 use Rattle.exports.proofs.States.{fresh-read, next-read}
 
 pub answered-refused : {A : Type 0} (x : Refusal) (n : ℕ) (a : A) → n ≡ number-of x → answered n a ≡ refused (number-of x)
-answered-refused x n a e = let z = not-zero x in rw (e, z .1)
+answered-refused x n a e = let z = positive x in rw (e, z .1)
 
 pub kept-if-refused : (x : Refusal) (n old : ℕ) → n ≡ number-of x → KeptIfRefused n old old
-kept-if-refused x n old e = let z = not-zero x in rw (e, z .1) refl
+kept-if-refused x n old e = let z = positive x in rw (e, z .1) refl
 
 -- ---- opening
 
@@ -44,7 +44,7 @@ module _ (sheet : List ℕ) (rule : ℕ) (history table : List ℕ) (r : OpenRes
   pub open-refused : {x : Refusal} (n : ℕ) → r .answer ≡ opens.Refused x → n ≡ number-of x
       → LentOpening (opening sheet rule history table n st history′) n st st
   open-refused {x} n e i =
-      let z = not-zero x in
+      let z = positive x in
       let k : Kept (opens.Refused x) = subst Kept e (p .keeps) in
       rw (i, z .1) (record { keeps = rw (z .1) at k; bytes = refl })
 

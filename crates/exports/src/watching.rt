@@ -1,5 +1,4 @@
 // Opening a rule, and stepping it by one flag byte.
-ghost use mathlib.Core.Path.{_≡_};
 ghost use Rattle.exports.specs.Answers.{answered, KeptIfRefused};
 ghost use Rattle.exports.specs.Calls.{opening, LentOpening, LentStep, taken-as, step-with, step-answer};
 use crate::bytes::number_at;

@@ -98,6 +98,14 @@ pub(crate) fn offsets() {
         b"second offset 4096",
         b"\x05\x02\x00\x00\x00\x02\x00\x00\x10\x01\x01\x00",
     );
+    case(
+        b"position 0 plus 4095",
+        b"\x05\x02\x00\x00\x00\x00\x00\xff\x0f\x01\x01\x00",
+    );
+    case(
+        b"position 0 plus 4096",
+        b"\x05\x02\x00\x00\x00\x00\x00\x00\x10\x01\x01\x00",
+    );
 }
 
 // 23 for a variable byte of position 0 or infinity, bound or not, before 24 and 8.
@@ -132,8 +140,8 @@ pub(crate) fn variable_bytes() {
     );
 }
 
-// 24 for an infinity's offset, also one out of range; 8 for that of position 0.
-pub(crate) fn infinite_offsets() {
+// 24 for an infinity's offset, also one out of range.
+pub(crate) fn offsets_on_infinity() {
     case(
         b"infinity with offset 1",
         b"\x05\x01\x00\x01\x00\x02\x00\x00\x00\x01\x01\x00",
@@ -149,14 +157,6 @@ pub(crate) fn infinite_offsets() {
     case(
         b"second bound infinity with offset -4096",
         b"\x05\x02\x00\x00\x00\x01\x00\x00\xf0\x01\x01\x00",
-    );
-    case(
-        b"position 0 plus 4095",
-        b"\x05\x02\x00\x00\x00\x00\x00\xff\x0f\x01\x01\x00",
-    );
-    case(
-        b"position 0 plus 4096",
-        b"\x05\x02\x00\x00\x00\x00\x00\x00\x10\x01\x01\x00",
     );
 }
 

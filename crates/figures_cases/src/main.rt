@@ -14,7 +14,7 @@ fn main() {
     layout::kinds_and_variables();
     layout::offsets();
     layout::variable_bytes();
-    layout::infinite_offsets();
+    layout::offsets_on_infinity();
     layout::bound_after_bound();
     layout::formulas_left();
     layout::nested_ranges();

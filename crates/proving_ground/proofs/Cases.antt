@@ -91,37 +91,34 @@ orders =
     }
 
 pub bounds : Bounds
-unfolding and-then word require signed bound require-bound fixed contents head one two parts formula formula-at whole body larger plus times shift at-tick anywhere bound-pair range-pair N N-back positions-from width delay history cells needed limit-cells limit-history limit-delay figures body-figures
+unfolding word require signed bound require-bound fixed contents head one two parts formula formula-at whole body
 bounds =
     record {
-      start-variable = refl;
-      never-variable = refl;
-      second-variable = refl;
-      bound-variable = refl;
-      kind-before-variable = refl;
-      variable-before-infinity = refl;
-      variable-before-both = refl;
-      variable-before-range = refl;
-      never-offset = refl;
-      never-high-byte = refl;
-      never-below = refl;
-      infinity-before-range = refl;
+      start-byte = refl;
+      infinity-byte = refl;
+      second-byte = refl;
+      byte-of-outer = refl;
+      byte-before-infinity = refl;
+      byte-before-both = refl;
+      byte-before-offset = refl;
+      infinity-above = refl;
+      infinity-high-byte = refl;
+      infinity-below = refl;
+      infinity-before-offset = refl;
       second-infinity = refl;
       start-offset = refl;
       start-within = refl;
-      unbound = refl;
-      inner-bound = refl;
-      range-then-variable = refl;
-      variable-then-kind = refl;
-      infinity-then-variable = refl;
-      unbound-then-infinity = refl;
+      offset-then-byte = refl;
+      byte-then-kind = refl;
+      infinity-then-byte = refl;
+      variable-then-infinity = refl;
       infinity-then-part = refl;
-      variable-before-rest = refl;
+      byte-before-rest = refl;
       infinity-before-rest = refl;
-      cut-before-variable = refl;
+      cut-before-byte = refl;
       cut-before-infinity = refl;
-      nesting-before-variable = refl;
-      left-before-variable = refl;
+      nesting-before-byte = refl;
+      left-before-byte = refl;
     }
 
 pub run : Run

@@ -18,15 +18,22 @@ up-at v = 1 ∷ v ∷ 0 ∷ []
 abbrev pub over : List ℕ → List ℕ → List ℕ → List ℕ
 over b₁ b₂ part = 5 ∷ (b₁ ++ (b₂ ++ part))
 
--- The bounds "variable v plus an offset of these two bytes", position 0 and infinity.
+-- The bounds of the three kinds, with variable byte v and an offset of these two bytes: a variable, position 0, infinity.
 abbrev pub var : ℕ → ℕ → ℕ → List ℕ
 var v low high = 2 ∷ v ∷ low ∷ high ∷ []
 
+abbrev pub start-with : ℕ → ℕ → ℕ → List ℕ
+start-with v low high = 0 ∷ v ∷ low ∷ high ∷ []
+
+abbrev pub infinity-with : ℕ → ℕ → ℕ → List ℕ
+infinity-with v low high = 1 ∷ v ∷ low ∷ high ∷ []
+
+-- Position 0 and infinity, as they should be.
 abbrev pub start : List ℕ
-start = 0 ∷ 0 ∷ 0 ∷ 0 ∷ []
+start = start-with 0 0 0
 
 abbrev pub never : List ℕ
-never = 1 ∷ 0 ∷ 0 ∷ 0 ∷ []
+never = infinity-with 0 0 0
 
 -- n times "not" before a flag; n times "flag beside"; n nested quantifiers from position 0 to X.
 unfoldable pub nots : ℕ → List ℕ
@@ -95,46 +102,36 @@ pub record Orders : Type 0 where
   pub one-byte-more : rule-body (example ++ (0 ∷ [])) 9 ≡ refused 2
   pub no-such-rule : rule-body example 1 ≡ refused 3
 
--- The bounds "position 0 or infinity with variable byte v, plus an offset of these two bytes".
-abbrev pub from-start : ℕ → ℕ → ℕ → List ℕ
-from-start v low high = 0 ∷ v ∷ low ∷ high ∷ []
-
-abbrev pub from-never : ℕ → ℕ → ℕ → List ℕ
-from-never v low high = 1 ∷ v ∷ low ∷ high ∷ []
-
--- "In the place of 8, the variable byte is looked at first with 23, then an infinity's offset with 24, then 8"; 5,000 is 0x88 0x13.
+-- "In the place of 8, the variable byte is looked at first with 23, then an infinity's offset with 24, then 8"; 5,000 is 0x88 0x13. In the names, "byte" is a
+-- variable byte that gets 23, "infinity" an offset on infinity that gets 24, and "offset" one out of range that gets 8.
 pub record Bounds : Type 0 where
   -- 23: the variable byte of position 0 or infinity, also where that variable is bound, and before 24 and 8
-  pub start-variable : body (over (from-start 1 0 0) start []) ≡ refused 23
-  pub never-variable : body (over (from-never 1 0 0) start []) ≡ refused 23
-  pub second-variable : body (over start (from-never 255 0 0) (up-at 1)) ≡ refused 23
-  pub bound-variable : body (over start start (over (from-start 1 0 0) start (up-at 2))) ≡ refused 23
-  pub kind-before-variable : body (over (3 ∷ 1 ∷ 0 ∷ 0 ∷ []) start []) ≡ refused 5
-  pub variable-before-infinity : body (over (from-never 1 1 0) start []) ≡ refused 23
-  pub variable-before-both : body (over (from-never 1 0x88 0x13) start []) ≡ refused 23
-  pub variable-before-range : body (over (from-start 1 0x88 0x13) start []) ≡ refused 23
+  pub start-byte : body (over (start-with 1 0 0) start []) ≡ refused 23
+  pub infinity-byte : body (over (infinity-with 1 0 0) start []) ≡ refused 23
+  pub second-byte : body (over start (infinity-with 255 0 0) (up-at 1)) ≡ refused 23
+  pub byte-of-outer : body (over start start (over (start-with 1 0 0) start (up-at 2))) ≡ refused 23
+  pub byte-before-infinity : body (over (infinity-with 1 1 0) start []) ≡ refused 23
+  pub byte-before-both : body (over (infinity-with 1 0x88 0x13) start []) ≡ refused 23
+  pub byte-before-offset : body (over (start-with 1 0x88 0x13) start []) ≡ refused 23
   -- 24: an offset on infinity, also one out of range
-  pub never-offset : body (over (from-never 0 1 0) start []) ≡ refused 24
-  pub never-high-byte : body (over (from-never 0 0 1) start []) ≡ refused 24
-  pub never-below : body (over (from-never 0 0xFF 0xFF) start []) ≡ refused 24
-  pub infinity-before-range : body (over (from-never 0 0x88 0x13) start []) ≡ refused 24
-  pub second-infinity : body (over never (from-never 0 0 0x80) (up-at 1)) ≡ refused 24
-  -- 8: only an offset out of range, on position 0 or a variable
-  pub start-offset : body (over (from-start 0 0x88 0x13) start []) ≡ refused 8
-  pub start-within : body (over (from-start 0 0xFF 0x0F) (from-start 0 1 0xF0) []) ≡ refused 4
-  -- a variable's own byte is no 23: 6 where it is not bound, read where it is
-  pub unbound : body (over (var 1 0x88 0x13) start []) ≡ refused 6
-  pub inner-bound : body-figures (over (var 0 0 0) (var 0 0 0) (over (var 1 0 0) (var 1 0 0) (up-at 2))) ≡ sized 0 0 5
+  pub infinity-above : body (over (infinity-with 0 1 0) start []) ≡ refused 24
+  pub infinity-high-byte : body (over (infinity-with 0 0 1) start []) ≡ refused 24
+  pub infinity-below : body (over (infinity-with 0 0xFF 0xFF) start []) ≡ refused 24
+  pub infinity-before-offset : body (over (infinity-with 0 0x88 0x13) start []) ≡ refused 24
+  pub second-infinity : body (over never (infinity-with 0 0 0x80) (up-at 1)) ≡ refused 24
+  -- 8: only an offset out of range, on position 0 as on a variable
+  pub start-offset : body (over (start-with 0 0x88 0x13) start []) ≡ refused 8
+  pub start-within : body (over (start-with 0 0xFF 0x0F) (start-with 0 1 0xF0) []) ≡ refused 4
   -- all of the first bound's before the second's, and these before the part's
-  pub range-then-variable : body (over (var 0 0x88 0x13) (from-start 1 0 0) []) ≡ refused 8
-  pub variable-then-kind : body (over (from-start 1 0 0) (3 ∷ 0 ∷ 0 ∷ 0 ∷ []) []) ≡ refused 23
-  pub infinity-then-variable : body (over (from-never 0 1 0) (from-start 1 0 0) []) ≡ refused 24
-  pub unbound-then-infinity : body (over (var 1 0 0) (from-never 0 1 0) []) ≡ refused 6
-  pub infinity-then-part : body (over start (from-never 0 1 0) (9 ∷ [])) ≡ refused 24
+  pub offset-then-byte : body (over (var 0 0x88 0x13) (start-with 1 0 0) []) ≡ refused 8
+  pub byte-then-kind : body (over (start-with 1 0 0) (3 ∷ 0 ∷ 0 ∷ 0 ∷ []) []) ≡ refused 23
+  pub infinity-then-byte : body (over (infinity-with 0 1 0) (start-with 1 0 0) []) ≡ refused 24
+  pub variable-then-infinity : body (over (var 1 0 0) (infinity-with 0 1 0) []) ≡ refused 6
+  pub infinity-then-part : body (over start (infinity-with 0 1 0) (9 ∷ [])) ≡ refused 24
   -- before 10, and after the bounds' 4, 9 and what stands to the left
-  pub variable-before-rest : body (over (from-start 1 0 0) start (up-at 1) ++ (0 ∷ [])) ≡ refused 23
-  pub infinity-before-rest : body (over (from-never 0 1 0) start (up-at 1) ++ (0 ∷ [])) ≡ refused 24
-  pub cut-before-variable : body (5 ∷ 0 ∷ 1 ∷ 0 ∷ 0 ∷ 0 ∷ 0 ∷ 0 ∷ []) ≡ refused 4
+  pub byte-before-rest : body (over (start-with 1 0 0) start (up-at 1) ++ (0 ∷ [])) ≡ refused 23
+  pub infinity-before-rest : body (over (infinity-with 0 1 0) start (up-at 1) ++ (0 ∷ [])) ≡ refused 24
+  pub cut-before-byte : body (5 ∷ 0 ∷ 1 ∷ 0 ∷ 0 ∷ 0 ∷ 0 ∷ 0 ∷ []) ≡ refused 4
   pub cut-before-infinity : body (5 ∷ 1 ∷ 0 ∷ 1 ∷ 0 ∷ 0 ∷ 0 ∷ 0 ∷ []) ≡ refused 4
-  pub nesting-before-variable : body (over start start (over start start (over start start (over start start (over (from-start 1 0 0) start (up-at 1)))))) ≡ refused 9
-  pub left-before-variable : body (4 ∷ (1 ∷ 0 ∷ 8 ∷ []) ++ over (from-start 1 0 0) start (up-at 1)) ≡ refused 7
+  pub nesting-before-byte : body (over start start (over start start (over start start (over start start (over (start-with 1 0 0) start (up-at 1)))))) ≡ refused 9
+  pub left-before-byte : body (4 ∷ ((1 ∷ 0 ∷ 8 ∷ []) ++ over (start-with 1 0 0) start (up-at 1))) ≡ refused 7

@@ -10,7 +10,7 @@ use Rattle.words.specs.Words.{byte}
 use Rattle.refusal.specs.Answer.{refused, accepted}
 use Rattle.refusal.specs.Numbers.{number-of}
 use Rattle.refusal.specs.declared.Refusal.{Refusal}
-use Rattle.refusal.proofs.Positive.{number-positive}
+use Rattle.refusal.proofs.Positive.{not-zero}
 use Rattle.rule.specs.Formula.{Formula, flag, negate, then, beside, forall}
 use Rattle.rule.specs.Body.{Head, refuse, flag-head, negate-head, then-head, beside-head, forall-head, bound, contents, head, Read, stop, read, one, two, parts, formula-at}
 use Rattle.rule.proofs.Order.{by-order}
@@ -30,18 +30,18 @@ pub refused-fill : (s : List ℕ) (at m left : ℕ) (ns : List ℕ) (x : Refusal
 unfolding parts
 refused-fill s at m left ns x e =
     record {
-      answer = refused-end s at m left (number-of x) e (number-positive x);
+      answer = refused-end s at m left (number-of x) e (not-zero x);
       below = λ k i. refl;
       placed = subst (Placed ns m left) (sym (formula-step s at m left)) (go (head s at m left) e);
     }
   where
     go : (g : Head) → number-of x ≡ head-number g → Placed ns m left (parts (formula-at s) g at m (left - 1))
     go (refuse k) e = tt
-    go (flag-head v k) e = absurd (number-positive x e)
-    go negate-head e = absurd (number-positive x e)
-    go then-head e = absurd (number-positive x e)
-    go beside-head e = absurd (number-positive x e)
-    go (forall-head B₁ B₂) e = absurd (number-positive x e)
+    go (flag-head v k) e = absurd (not-zero x e)
+    go negate-head e = absurd (not-zero x e)
+    go then-head e = absurd (not-zero x e)
+    go beside-head e = absurd (not-zero x e)
+    go (forall-head B₁ B₂) e = absurd (not-zero x e)
 
 -- a node's words
 module _ (s : List ℕ) (at i : ℕ) (old new : List ℕ) (h : Headed s at i old new) where

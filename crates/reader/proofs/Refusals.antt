@@ -46,50 +46,49 @@ offset-above w h = go (by-order 61441 w)
     go (inl i) = simp (le-leb 61441 w i, le-leb _ 4095 (offset-high i))
     go (inr i) = simp (lt-leb 61441 w i, lt-leb _ 4095 (offset-far h i))
 
--- ---- a bound, with its variable byte v and its offset w
+-- ---- a bound
+
+-- The number of the first test that fails, of 5, 6, 23, 24 and 8; x where none does.
+abbrev in-order : Bool → Bool → Bool → Bool → Bool → ℕ → ℕ
+in-order a b c d e x = cond a (cond b (cond c (cond d (cond e x 8) 24) 23) 6) 5
+
+-- The same for a bound inside m quantifiers, with kind k, variable byte v and offset w.
+abbrev bound-order : ℕ → ℕ → ℕ → ℕ → ℕ → ℕ
+bound-order m k v w x = in-order (leb k 2) (not (eqb k 2) || leb v m) (eqb k 2 || eqb v 0) (not (eqb k 1) || eqb w 0) (leb (natAbs (signed w)) 4095) x
 
 module _ (s : List ℕ) (at m : ℕ) where
-  bound-number : (next : Head) → head-number (require-bound s at m next) ≡
-      cond (leb (byte s at) 2) (cond (not (eqb (byte s at) 2) || leb (byte s (at + 1)) m) (cond (eqb (byte s at) 2 || eqb (byte s (at + 1)) 0)
-      (cond (not (eqb (byte s at) 1) || eqb (word s (at + 2)) 0) (cond (leb (natAbs (signed (word s (at + 2)))) 4095) (head-number next) 8) 24) 23) 6) 5
+  bound-number : (next : Head) → head-number (require-bound s at m next) ≡ bound-order m (byte s at) (byte s (at + 1)) (word s (at + 2)) (head-number next)
   unfolding require-bound
   bound-number next = simp require-number
 
-  module _ (v w : ℕ) (variable : v ≡ byte s (at + 1)) (offset : w ≡ word s (at + 2)) where
-    bound-tests : head-number (require-bound s at m negate-head) ≡
-        cond (leb (byte s at) 2) (cond (not (eqb (byte s at) 2) || leb v m) (cond (eqb (byte s at) 2 || eqb v 0)
-        (cond (not (eqb (byte s at) 1) || eqb w 0) (cond (leb (natAbs (signed w)) 4095) 0 8) 24) 23) 6) 5
+  pub bound-5 : 2 < byte s at → head-number (require-bound s at m negate-head) ≡ 5
+  bound-5 h = bound-number negate-head ∙ simp (lt-leb (byte s at) 2 h)
+
+  module _ (v w : ℕ) (variable : v ≡ byte s (at + 1)) (offset : w ≡ word s (at + 2)) (a : byte s at ≤ 2) where
+    bound-tests : head-number (require-bound s at m negate-head) ≡ bound-order m (byte s at) v w 0
     bound-tests = rw (variable, offset) (bound-number negate-head)
 
-    pub bound-5 : 2 < byte s at → head-number (require-bound s at m negate-head) ≡ 5
-    bound-5 h = bound-tests ∙ simp (lt-leb (byte s at) 2 h)
+    pub bound-6 : (not (eqb (byte s at) 2) || leb v m) ≡ false → head-number (require-bound s at m negate-head) ≡ 6
+    bound-6 h = bound-tests ∙ simp (le-leb (byte s at) 2 a, h)
 
-    module _ (a : byte s at ≤ 2) where
-      pub bound-6 : (not (eqb (byte s at) 2) || leb v m) ≡ false → head-number (require-bound s at m negate-head) ≡ 6
-      bound-6 h = bound-tests ∙ simp (le-leb (byte s at) 2 a, h)
+    module _ (b : (not (eqb (byte s at) 2) || leb v m) ≡ true) where
+      pub bound-23 : (eqb (byte s at) 2 || eqb v 0) ≡ false → head-number (require-bound s at m negate-head) ≡ 23
+      bound-23 h = bound-tests ∙ simp (le-leb (byte s at) 2 a, b, h)
 
-      module _ (b : (not (eqb (byte s at) 2) || leb v m) ≡ true) where
-        pub bound-23 : (eqb (byte s at) 2 || eqb v 0) ≡ false → head-number (require-bound s at m negate-head) ≡ 23
-        bound-23 h = bound-tests ∙ simp (le-leb (byte s at) 2 a, b, h)
+      module _ (c : (eqb (byte s at) 2 || eqb v 0) ≡ true) where
+        pub bound-24 : (not (eqb (byte s at) 1) || eqb w 0) ≡ false → head-number (require-bound s at m negate-head) ≡ 24
+        bound-24 h = bound-tests ∙ simp (le-leb (byte s at) 2 a, b, c, h)
 
-        module _ (c : (eqb (byte s at) 2 || eqb v 0) ≡ true) where
-          pub bound-24 : (not (eqb (byte s at) 1) || eqb w 0) ≡ false → head-number (require-bound s at m negate-head) ≡ 24
-          bound-24 h = bound-tests ∙ simp (le-leb (byte s at) 2 a, b, c, h)
+        module _ (d : (not (eqb (byte s at) 1) || eqb w 0) ≡ true) where
+          pub bound-8 : leb (natAbs (signed w)) 4095 ≡ false → head-number (require-bound s at m negate-head) ≡ 8
+          bound-8 h = bound-tests ∙ simp (le-leb (byte s at) 2 a, b, c, d, h)
 
-          module _ (d : (not (eqb (byte s at) 1) || eqb w 0) ≡ true) where
-            pub bound-8 : leb (natAbs (signed w)) 4095 ≡ false → head-number (require-bound s at m negate-head) ≡ 8
-            bound-8 h = bound-tests ∙ simp (le-leb (byte s at) 2 a, b, c, d, h)
-
-            pub bound-fine : leb (natAbs (signed w)) 4095 ≡ true → head-number (require-bound s at m negate-head) ≡ 0
-            bound-fine h = bound-tests ∙ simp (le-leb (byte s at) 2 a, b, c, d, h)
+          pub bound-fine : leb (natAbs (signed w)) 4095 ≡ true → head-number (require-bound s at m negate-head) ≡ 0
+          bound-fine h = bound-tests ∙ simp (le-leb (byte s at) 2 a, b, c, d, h)
 
 -- ---- two bounds, one after the other
 
-f : Bool → Bool → Bool → Bool → Bool → ℕ → ℕ
-f a b c d e x = cond a (cond b (cond c (cond d (cond e x 8) 24) 23) 6) 5
-
-passes : (a b c d e : Bool) (x : ℕ) → f a b c d e 0 ≡ 0 → f a b c d e x ≡ x
-unfolding f
+passes : (a b c d e : Bool) (x : ℕ) → in-order a b c d e 0 ≡ 0 → in-order a b c d e x ≡ x
 passes true true true true true x h = refl
 passes true true true true false x h = absurd (omega arith)
 passes true true true false e x h = absurd (omega arith)
@@ -97,8 +96,7 @@ passes true true false d e x h = absurd (omega arith)
 passes true false c d e x h = absurd (omega arith)
 passes false b c d e x h = absurd (omega arith)
 
-stops : (a b c d e : Bool) (x : ℕ) → (f a b c d e 0 ≡ 0 → ⊥) → f a b c d e x ≡ f a b c d e 0
-unfolding f
+stops : (a b c d e : Bool) (x : ℕ) → (in-order a b c d e 0 ≡ 0 → ⊥) → in-order a b c d e x ≡ in-order a b c d e 0
 stops true true true true true x h = absurd (h refl)
 stops true true true true false x h = refl
 stops true true true false e x h = refl
@@ -106,14 +104,18 @@ stops true true false d e x h = refl
 stops true false c d e x h = refl
 stops false b c d e x h = refl
 
+bound-passes : (m k v w x : ℕ) → bound-order m k v w 0 ≡ 0 → bound-order m k v w x ≡ x
+bound-passes m k v w x = passes (leb k 2) (not (eqb k 2) || leb v m) (eqb k 2 || eqb v 0) (not (eqb k 1) || eqb w 0) (leb (natAbs (signed w)) 4095) x
+
+bound-stops : (m k v w x : ℕ) → (bound-order m k v w 0 ≡ 0 → ⊥) → bound-order m k v w x ≡ bound-order m k v w 0
+bound-stops m k v w x = stops (leb k 2) (not (eqb k 2) || leb v m) (eqb k 2 || eqb v 0) (not (eqb k 1) || eqb w 0) (leb (natAbs (signed w)) 4095) x
+
 module _ (s : List ℕ) (at m : ℕ) (next : Head) where
   first-passes : head-number (require-bound s at m negate-head) ≡ 0 → head-number (require-bound s at m next) ≡ head-number next
-  unfolding f
-  first-passes h = bound-number s at m next ∙ passes (leb (byte s at) 2) (not (eqb (byte s at) 2) || leb (byte s (at + 1)) m) (eqb (byte s at) 2 || eqb (byte s (at + 1)) 0) (not (eqb (byte s at) 1) || eqb (word s (at + 2)) 0) (leb (natAbs (signed (word s (at + 2)))) 4095) (head-number next) (sym (bound-number s at m negate-head) ∙ h)
+  first-passes h = bound-number s at m next ∙ bound-passes m (byte s at) (byte s (at + 1)) (word s (at + 2)) (head-number next) (sym (bound-number s at m negate-head) ∙ h)
 
   first-stops : (head-number (require-bound s at m negate-head) ≡ 0 → ⊥) → head-number (require-bound s at m next) ≡ head-number (require-bound s at m negate-head)
-  unfolding f
-  first-stops h = bound-number s at m next ∙ stops (leb (byte s at) 2) (not (eqb (byte s at) 2) || leb (byte s (at + 1)) m) (eqb (byte s at) 2 || eqb (byte s (at + 1)) 0) (not (eqb (byte s at) 1) || eqb (word s (at + 2)) 0) (leb (natAbs (signed (word s (at + 2)))) 4095) (head-number next) (λ e. h (bound-number s at m negate-head ∙ e)) ∙ sym (bound-number s at m negate-head)
+  first-stops h = bound-number s at m next ∙ bound-stops m (byte s at) (byte s (at + 1)) (word s (at + 2)) (head-number next) (λ e. h (bound-number s at m negate-head ∙ e)) ∙ sym (bound-number s at m negate-head)
 
 -- ---- the contents
 

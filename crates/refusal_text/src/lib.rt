@@ -14,7 +14,7 @@ fn put(text: &[u8], out: &mut [u8; 128]) -> usize
     bytes::copy(text, out)
 }
 
-// What a bound may not hold.
+// A bound's variable byte, and an infinity's offset.
 fn of_bound(number: u32, out: &mut [u8; 128]) -> usize
     requires { ⌜ Past 22 number ⌝ }
     ensures { λ r. ⌜ r < 128 ⌝ }

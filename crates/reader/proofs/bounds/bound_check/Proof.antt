@@ -9,10 +9,8 @@ use Rattle.reader.proofs.bounds.bound_check.Tie as tie
 
 returns : tie.Need-returns
 returns c =
-    let w = c .before .before .before .before .before .word-at in
-    let v = c .before .before .before .before .before .before .byte-after in
     let s₀ = c .before .before .before .before .before .before .before .before .before in
-    sym (bound-5 (s₀ .args .s .now) (s₀ .args .at) (s₀ .args .m) (v .result) (w .result) (v .ensures .0) (w .ensures .0) (c .if1 .taken))
+    sym (bound-5 (s₀ .args .s .now) (s₀ .args .at) (s₀ .args .m) (c .if1 .taken))
 
 returns-2 : tie.Need-returns-2
 returns-2 c =

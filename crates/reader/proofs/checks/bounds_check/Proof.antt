@@ -1,7 +1,7 @@
 -- `reader::checks::bounds_check` meets its contract: the first bound's refusal comes before the second's.
 use mathlib.Core.Path.{sym, ap, _∙_}
 use Rattle.reader.specs.Checks.{check-number}
-use Rattle.refusal.proofs.Positive.{number-positive}
+use Rattle.refusal.proofs.Positive.{not-zero}
 use Rattle.reader.proofs.Refusals.{contents-first, contents-second}
 use borrow.Author.Needs.{needs}
 use Rattle.reader.proofs.checks.bounds_check.Statement.{statement}
@@ -29,7 +29,7 @@ returns : tie.Need-returns
 returns c =
     let s₀ = c .before .before .before .before .before in
     let e = sym (ap check-number (c .before .first .given .1)) ∙ c .before .before .before .bound-check .ensures in
-    e ∙ sym (contents-first (s₀ .args .s .now) (s₀ .args .at) (s₀ .args .m) (s₀ .pre .0) (λ z. number-positive (c .before .first .given .0 .0) (e ∙ z)))
+    e ∙ sym (contents-first (s₀ .args .s .now) (s₀ .args .at) (s₀ .args .m) (s₀ .pre .0) (λ z. not-zero (c .before .first .given .0 .0) (e ∙ z)))
 
 returns-2 : tie.Need-returns-2
 returns-2 c =
