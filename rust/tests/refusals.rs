@@ -12,7 +12,7 @@ use std::error::Error;
 /// The last number with a name.
 const LAST: u32 = 24;
 
-/// Numbers 1 to 24 have names, and the docs of each name are the library's sentence.
+/// Numbers 1 to `LAST` have names, and the docs of each name are the library's sentence.
 #[test]
 fn names_numbers_and_sentences() {
     let source = include_str!("../src/refusal.rs");

@@ -147,7 +147,7 @@ static void bodies(void)
     REFUSED(SW_UNKNOWN_CODE, 5, 3, 0, 0, 0, 2, 0, 0, 0, 1, 1, 0);
     REFUSED(SW_UNBOUND_VARIABLE, 1, 1, 0);
     REFUSED(SW_NO_SUCH_FLAG, 1, 0, 8);
-    REFUSED(SW_OFFSET_OUT_OF_RANGE, 5, 2, 0, 0x00, 0x10, 2, 0, 0x00, 0x10, 1, 1, 0); /* offset 4,096 */
+    REFUSED(SW_OFFSET_OUT_OF_RANGE, 5, 2, 0, 0x00, 0x10, 2, 0, 0, 0, 1, 1, 0);     /* offset 4,096 */
     REFUSED(SW_VARIABLE_BYTE_NOT_ZERO, 5, 0, 1, 0, 0, 2, 0, 0, 0, 1, 1, 0);        /* position 0, variable 1 */
     REFUSED(SW_VARIABLE_BYTE_NOT_ZERO, 5, 1, 1, 0x88, 0x13, 2, 0, 0, 0, 1, 1, 0);  /* infinity, variable 1, offset 5,000 */
     REFUSED(SW_OFFSET_ON_INFINITY, 5, 1, 0, 1, 0, 2, 0, 0, 0, 1, 1, 0);            /* infinity + 1 */

@@ -83,6 +83,8 @@ class Signals(Station):
                 self.ended(program)
 
     def test_interrupt_from_the_terminal(self):
+        # Where the tests themselves run in the background of a script, they ignore the signal, and so would the command.
+        self.addCleanup(signal.signal, signal.SIGINT, signal.signal(signal.SIGINT, signal.default_int_handler))
         run, program = self.watching()
         os.killpg(run.pid, signal.SIGINT)
         self.assertIn(run.wait(60), (-signal.SIGINT, 128 + signal.SIGINT))

@@ -1,8 +1,8 @@
-//! Another evaluator of document 01 ("The station watch engine"), written on
-//! its own from the paper, and the random tests of the Rattle library against
+//! Another evaluator of the papers (document 01, with what document 02 changed), written
+//! on its own from them, and the random tests of the Rattle library against
 //! it.
 //!
-//! - `paper`: document 01 read literally; plain and slow.
+//! - `paper`: the papers read literally; plain and slow.
 //! - `random`: fixed-seed generators of rules, bodies, sheets and streams.
 //! - `lent`: buffers with guards around them, to be lent to the library.
 //! - `library`: the boundary to the library.

@@ -14,13 +14,14 @@ pub use figures::{figures, formula_figures, Figures};
 pub use meaning::{evaluate, outcome, rule_outcome, Outcome, Verdict};
 pub use sheet::{rule_body, rule_place, write_sheet};
 
-/// A refusal is its number in documents 01 and 02, 1 to 24.
+/// A refusal is its number in documents 01 and 02.
 pub type Refusal = u32;
 
 /// The last one.
 pub const LAST_REFUSAL: Refusal = 24;
-/// What the bytes of a body are refused with.
-pub const BODY_REFUSALS: [Refusal; 9] = [4, 5, 6, 7, 8, 9, 10, 23, 24];
+/// What a rule is refused with: for its bytes, then for its figures.
+pub const RULE_REFUSALS: &[Refusal] = &[4, 5, 6, 7, 8, 9, 10, 23, 24, 11, 12, 13, 14, 15];
+pub const BODY_REFUSALS: &[Refusal] = RULE_REFUSALS.split_at(9).0;
 
 /// "A lent history of L bytes": at most this many (refusals 14 and 17).
 pub const MAX_HISTORY: usize = 4096;

@@ -8,7 +8,7 @@ mod streams;
 
 pub use bodies::{
     aimed, any_body, faulty_bounds, figure_boundary, loose_bytes, neighbours, places,
-    twice_damaged, Neighbours, Place, NEIGHBOURS,
+    twice_damaged, Neighbours, Place,
 };
 pub use formulas::{accepted_rule, depth, quantifiers, size, visits, wild_formula, Rule};
 pub use sheets::{damaged_sheet, sheet_bodies, sheet_of, sheet_with, writer_input, WriterInput};

@@ -50,8 +50,8 @@ pub enum Flaw {
     CellsUpTo4097,
     FourBeforeNine,
     Exchanges23And24,
-    EightBefore24,
-    VariablesGet23,
+    FarInfinityIs8,
+    InnerBoundIs23,
     HistoryBeforeDelay,
     FalseAtHorizon,
     OpenBeforeTrying,
@@ -98,13 +98,12 @@ impl StandIn {
     }
 
     fn read_figures(&self, body: &[u8]) -> Result<Figures, Refusal> {
-        let read = paper::read_body(body);
-        match read {
+        match paper::read_body(body) {
             Err(9) if self.has(Flaw::FourBeforeNine) && ends_with_code(body) => Err(4),
             Err(23) if self.has(Flaw::Exchanges23And24) => Err(24),
             Err(24) if self.has(Flaw::Exchanges23And24) => Err(23),
-            Err(24) if self.has(Flaw::EightBefore24) && has_far_infinity(body) => Err(8),
-            Ok(_) if self.has(Flaw::VariablesGet23) && has_inner_bound(body) => Err(23),
+            Err(24) if self.has(Flaw::FarInfinityIs8) && has_far_infinity(body) => Err(8),
+            Ok(_) if self.has(Flaw::InnerBoundIs23) && has_inner_bound(body) => Err(23),
             other => self.formula_figures(&other?),
         }
     }

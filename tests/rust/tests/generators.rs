@@ -3,11 +3,11 @@
 
 use rust_tests::paper::{
     evaluate, figures, read_body, rule_place, write_sheet, Bound, Formula, BODY_REFUSALS,
-    LAST_REFUSAL, MAX_HISTORY, MAX_OFFSET,
+    LAST_REFUSAL, MAX_HISTORY, MAX_OFFSET, RULE_REFUSALS,
 };
 use rust_tests::random::{
     accepted_rule, aimed, any_body, damaged_sheet, depth, faulty_bounds, figure_boundary, size,
-    stream, twice_damaged, wild_formula, writer_input, Random, NEIGHBOURS,
+    stream, twice_damaged, wild_formula, writer_input, Random,
 };
 
 /// How often each number was answered, 0 for none.
@@ -21,7 +21,7 @@ fn all_above(counts: &Counts, numbers: &[u32], least: u64) -> bool {
 #[test]
 fn aimed_bodies() {
     let mut random = Random::new(201);
-    for number in BODY_REFUSALS {
+    for &number in BODY_REFUSALS {
         for _ in 0..1_000 {
             let pair = aimed(&mut random, number);
             assert_eq!(read_body(&pair.outside).err(), Some(number), "{pair:?}");
@@ -189,7 +189,7 @@ fn any_bodies_hit_every_number() {
         twice[figures(&twice_damaged(&mut random)).err().unwrap_or(0) as usize] += 1;
         bounds[figures(&faulty_bounds(&mut random)).err().unwrap_or(0) as usize] += 1;
     }
-    assert!(all_above(&any, &NEIGHBOURS, 100) && any[0] > 1_000, "{any:?}");
+    assert!(all_above(&any, RULE_REFUSALS, 100) && any[0] > 1_000, "{any:?}");
     assert!(all_above(&twice, &[4, 5, 6, 7, 8, 10, 23, 24], 50), "{twice:?}");
     assert!(all_above(&bounds, &[5, 6, 8, 23, 24], 500), "{bounds:?}");
 }

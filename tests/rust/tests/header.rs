@@ -47,7 +47,8 @@ fn wrapped() -> BTreeMap<String, String> {
 /// `RuleCount` is `SW_RULE_COUNT` in C.
 fn refusals() -> impl Iterator<Item = (String, String)> {
     (1..=LAST_REFUSAL).map(|number| {
-        let name = format!("{:?}", Refusal::from_number(number).expect("every number but 0 is a refusal"));
+        let name =
+            format!("{:?}", Refusal::from_number(number).expect("every number but 0 is a refusal"));
         let words = name.chars().map(|c| match c.is_uppercase() {
             true => format!("_{c}"),
             false => c.to_uppercase().to_string(),

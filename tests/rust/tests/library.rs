@@ -4,8 +4,7 @@
 use rust_tests::compare::{self, Tally};
 use rust_tests::library::{Library, Linked};
 use rust_tests::notation::*;
-use rust_tests::paper::write_body;
-use rust_tests::random::NEIGHBOURS;
+use rust_tests::paper::{write_body, RULE_REFUSALS};
 
 /// Together at least 20,000 rules and 2,000,000 steps, in two tests that run
 /// beside each other.
@@ -14,7 +13,7 @@ const STEPS: u64 = 1_000_000;
 /// Every history length from 1 to 4,096 for one rule, so many steps each.
 const STEPS_A_LENGTH: usize = 40;
 /// Rounds of three bodies each.
-const BODIES: usize = 24_000;
+const BODIES: usize = 28_000;
 /// Bodies whose recordings are asked for every tick.
 const RECORDINGS: usize = 4_000;
 const LONG_RECORDINGS: usize = 20;
@@ -59,8 +58,8 @@ fn every_history_length() {
 #[test]
 fn bodies() {
     let numbers = compare::bodies(&Linked, 1_004, BODIES).unwrap();
-    let each = (BODIES / NEIGHBOURS.len()) as u64;
-    assert!(numbers.each_at_least(&NEIGHBOURS, each), "{numbers:?}");
+    let each = (BODIES / RULE_REFUSALS.len()) as u64;
+    assert!(numbers.each_at_least(RULE_REFUSALS, each), "{numbers:?}");
     assert!(numbers.of(0) > 5 * each, "{numbers:?}");
 }
 
@@ -123,5 +122,5 @@ fn openings() {
     let numbers = compare::openings(&Linked, 1_009, OPENINGS).unwrap();
     let often = OPENINGS as u64 / 200;
     assert!(numbers.each_at_least(&[0, 1, 2, 3, 17, 18], often), "{numbers:?}");
-    assert!(numbers.each_at_least(&NEIGHBOURS, often), "{numbers:?}");
+    assert!(numbers.each_at_least(RULE_REFUSALS, often), "{numbers:?}");
 }

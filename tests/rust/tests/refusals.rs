@@ -28,6 +28,11 @@ fn two_bounds(first: &str, second: &str) -> String {
     format!("05 {first} {second} 01 00 00 ")
 }
 
+/// The same with X for the second bound.
+fn first_bound(bound: &str) -> String {
+    two_bounds(bound, "02 00 00 00")
+}
+
 /// The beginning of a range X..X.
 const RANGE: &str = "05 02 00 00 00 02 00 00 00 ";
 
@@ -103,17 +108,16 @@ fn flags_above_7() {
 
 #[test]
 fn offsets_out_of_range() {
-    let with = |bound: &str| "05 ".to_string() + bound + " 02 00 00 00 01 00 00";
     // 4,095 is FF 0F, -4,095 is 01 F0.
-    body_gets(&with("02 00 FF 0F"), Ok(()));
-    body_gets(&with("02 00 01 F0"), Ok(()));
-    refused(&with("02 00 00 10"), 8);
-    refused(&with("02 00 00 F0"), 8);
-    refused(&with("02 00 FF 7F"), 8);
-    refused(&with("02 00 00 80"), 8);
+    body_gets(&first_bound("02 00 FF 0F"), Ok(()));
+    body_gets(&first_bound("02 00 01 F0"), Ok(()));
+    refused(&first_bound("02 00 00 10"), 8);
+    refused(&first_bound("02 00 00 F0"), 8);
+    refused(&first_bound("02 00 FF 7F"), 8);
+    refused(&first_bound("02 00 00 80"), 8);
     // Position 0 has an offset too.
-    body_gets(&with("00 00 FF 0F"), Ok(()));
-    refused(&with("00 00 00 10"), 8);
+    body_gets(&first_bound("00 00 FF 0F"), Ok(()));
+    refused(&first_bound("00 00 00 10"), 8);
     // The first bound's 8 comes before all of the second's.
     refused(&two_bounds("02 00 00 10", "03 00 00 00"), 8);
     refused(&two_bounds("02 00 00 10", "02 01 00 00"), 8);
@@ -127,57 +131,55 @@ fn offsets_out_of_range() {
 fn variable_bytes_that_are_not_0() {
     // Kinds 0 and 1 never give 6: their variable byte gives 23, also where a range
     // around it has bound that variable.
-    refused(&two_bounds("00 01 00 00", "02 00 00 00"), 23);
-    refused(&two_bounds("00 FF 00 00", "02 00 00 00"), 23);
-    refused(&two_bounds("01 01 00 00", "02 00 00 00"), 23);
+    refused(&first_bound("00 01 00 00"), 23);
+    refused(&first_bound("00 FF 00 00"), 23);
+    refused(&first_bound("01 01 00 00"), 23);
     refused(&two_bounds("02 00 00 00", "01 01 00 00"), 23);
     refused(&(RANGE.to_string() + &two_bounds("00 01 00 00", "02 01 00 00")), 23);
     // Kind 2 has its variable, and 6 for one that is not bound.
     body_gets(&(RANGE.to_string() + &two_bounds("02 01 00 00", "02 01 00 00")), Ok(()));
     refused(&(RANGE.to_string() + &two_bounds("02 02 00 00", "02 01 00 00")), 6);
     // After 5, before 24 and 8.
-    refused(&two_bounds("03 01 00 00", "02 00 00 00"), 5);
-    refused(&two_bounds("01 01 01 00", "02 00 00 00"), 23);
-    refused(&two_bounds("01 01 88 13", "02 00 00 00"), 23);
-    refused(&two_bounds("00 01 88 13", "02 00 00 00"), 23);
+    refused(&first_bound("03 01 00 00"), 5);
+    refused(&first_bound("01 01 01 00"), 23);
+    refused(&first_bound("01 01 88 13"), 23);
+    refused(&first_bound("00 01 88 13"), 23);
     refused(&two_bounds("01 00 00 00", "00 01 00 10"), 23);
     // All of the first bound's before the second's.
     refused(&two_bounds("00 01 00 00", "03 00 00 00"), 23);
     refused(&two_bounds("01 00 01 00", "00 01 00 00"), 24);
-    refused(&two_bounds("02 00 88 13", "00 01 00 00"), 8);
     // Before the body's 4, what comes to its right, and 10.
     refused("05 00 01 00 00 02 00 00 00", 23);
-    refused(&("04 ".to_string() + &two_bounds("00 01 00 00", "02 00 00 00") + "06"), 23);
-    refused(&(two_bounds("00 01 00 00", "02 00 00 00") + "00"), 23);
+    refused(&("04 ".to_string() + &first_bound("00 01 00 00") + "06"), 23);
+    refused(&(first_bound("00 01 00 00") + "00"), 23);
     // After the bounds' 4, 9, and what comes to its left.
     refused("05 00 01 00 00 02 00 00", 4);
-    refused(&(RANGE.repeat(4) + &two_bounds("00 01 00 00", "02 00 00 00")), 9);
-    refused(&("04 01 00 08 ".to_string() + &two_bounds("00 01 00 00", "02 00 00 00")), 7);
+    refused(&(RANGE.repeat(4) + &first_bound("00 01 00 00")), 9);
+    refused(&("04 01 00 08 ".to_string() + &first_bound("00 01 00 00")), 7);
 }
 
 #[test]
 fn offsets_on_infinity() {
     body_gets(&two_bounds("01 00 00 00", "01 00 00 00"), Ok(()));
     // Either byte, either sign, either bound; also one out of range.
-    refused(&two_bounds("01 00 01 00", "02 00 00 00"), 24);
-    refused(&two_bounds("01 00 00 01", "02 00 00 00"), 24);
-    refused(&two_bounds("01 00 FF FF", "02 00 00 00"), 24);
+    refused(&first_bound("01 00 01 00"), 24);
+    refused(&first_bound("01 00 00 01"), 24);
+    refused(&first_bound("01 00 FF FF"), 24);
     refused(&two_bounds("02 00 00 00", "01 00 01 00"), 24);
-    refused(&two_bounds("01 00 FF 0F", "02 00 00 00"), 24);
-    refused(&two_bounds("01 00 00 10", "02 00 00 00"), 24);
-    refused(&two_bounds("01 00 88 13", "02 00 00 00"), 24);
+    refused(&first_bound("01 00 FF 0F"), 24);
+    refused(&first_bound("01 00 00 10"), 24);
+    refused(&first_bound("01 00 88 13"), 24);
     refused(&two_bounds("02 00 00 00", "01 00 00 80"), 24);
     // All of the first bound's before the second's.
     refused(&two_bounds("01 00 88 13", "02 00 88 13"), 24);
-    refused(&two_bounds("02 00 88 13", "01 00 01 00"), 8);
     refused(&two_bounds("02 01 00 00", "01 00 01 00"), 6);
     refused(&two_bounds("01 00 01 00", "03 00 00 00"), 24);
     // Before the body's 4 and 10; after the bounds' 4, 9, and what comes to its left.
     refused("05 01 00 01 00 02 00 00 00", 24);
-    refused(&(two_bounds("01 00 01 00", "02 00 00 00") + "00"), 24);
+    refused(&(first_bound("01 00 01 00") + "00"), 24);
     refused("05 01 00 01 00 02 00 00", 4);
-    refused(&(RANGE.repeat(4) + &two_bounds("01 00 01 00", "02 00 00 00")), 9);
-    refused(&("04 01 00 08 ".to_string() + &two_bounds("01 00 01 00", "02 00 00 00")), 7);
+    refused(&(RANGE.repeat(4) + &first_bound("01 00 01 00")), 9);
+    refused(&("04 01 00 08 ".to_string() + &first_bound("01 00 01 00")), 7);
 }
 
 #[test]
@@ -344,8 +346,8 @@ fn recordings() {
     // 4 to 10, 23 and 24 before 16.
     assert_eq!(evaluate(&[], &[], 0), Err(4));
     assert_eq!(evaluate(&[1, 0, 0, 0], &vec![0; 65_536], 0), Err(10));
-    assert_eq!(evaluate(&bytes(&two_bounds("00 01 00 00", "02 00 00 00")), &[], 0), Err(23));
-    assert_eq!(evaluate(&bytes(&two_bounds("01 00 01 00", "02 00 00 00")), &[], 0), Err(24));
+    assert_eq!(evaluate(&bytes(&first_bound("00 01 00 00")), &[], 0), Err(23));
+    assert_eq!(evaluate(&bytes(&first_bound("01 00 01 00")), &[], 0), Err(24));
     // "Also for a body that the engine refuses to open": 11, 12, 13, 15.
     for rule in [
         all(x(0), INFINITY, flag(0, Y)),

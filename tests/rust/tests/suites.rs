@@ -4,7 +4,7 @@
 use rust_tests::compare::{self, Check};
 use rust_tests::hostile;
 use rust_tests::library::Library;
-use rust_tests::random::NEIGHBOURS;
+use rust_tests::paper::RULE_REFUSALS;
 use rust_tests::stand_in::{Flaw, StandIn};
 
 const RIGHT: StandIn = StandIn { flaw: Flaw::None };
@@ -12,7 +12,7 @@ const RIGHT: StandIn = StandIn { flaw: Flaw::None };
 #[test]
 fn the_right_one_passes_bodies() {
     let numbers = compare::bodies(&RIGHT, 301, 2_800).unwrap();
-    assert!(numbers.each_at_least(&NEIGHBOURS, 200), "{numbers:?}");
+    assert!(numbers.each_at_least(RULE_REFUSALS, 200), "{numbers:?}");
     assert!(numbers.of(0) > 1_000, "{numbers:?}");
     let numbers = compare::limits(&RIGHT).unwrap();
     assert!(numbers.each_at_least(&[0, 11, 12, 13, 14, 15], 1), "{numbers:?}");
@@ -154,8 +154,8 @@ const CAUGHT: &[(Flaw, Suite, &str)] = &[
     (Flaw::CellsUpTo4097, limits, "answered 0, due is 15"),
     (Flaw::FourBeforeNine, bodies, "answered 4, due is 9"),
     (Flaw::Exchanges23And24, bodies, "answered 24, due is 23"),
-    (Flaw::EightBefore24, bodies, "answered 8, due is 24"),
-    (Flaw::VariablesGet23, bodies, "answered 23, due is"),
+    (Flaw::FarInfinityIs8, bodies, "answered 8, due is 24"),
+    (Flaw::InnerBoundIs23, bodies, "answered 23, due is"),
     (Flaw::HistoryBeforeDelay, limits, "answered 13, due is 12"),
     (Flaw::FalseAtHorizon, recordings, "due is"),
     (Flaw::OpenBeforeTrying, recordings, "due is"),

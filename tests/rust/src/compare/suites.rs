@@ -5,15 +5,17 @@ use super::calls::{figures, opening, outcome, place, round_trip, write};
 use super::runs::{run, Plan, Tally};
 use super::{Check, Numbers};
 use crate::library::Library;
-use crate::paper::{self, read_body, Bound, Formula, CELL_WORDS, MAX_HISTORY, MAX_RECORDING};
-use crate::random::{self, Random, Rule, NEIGHBOURS};
+use crate::paper::{
+    self, read_body, Bound, Formula, CELL_WORDS, MAX_HISTORY, MAX_RECORDING, RULE_REFUSALS,
+};
+use crate::random::{self, Random, Rule};
 
 /// Bodies of all kinds: figures, and the evaluator's refusals.
 pub fn bodies(library: &dyn Library, seed: u64, count: usize) -> Check<Numbers> {
     let mut random = Random::new(seed);
     let mut numbers = Numbers::default();
     for round in 0..count {
-        let pair = random::neighbours(&mut random, NEIGHBOURS[round % NEIGHBOURS.len()]);
+        let pair = random::neighbours(&mut random, RULE_REFUSALS[round % RULE_REFUSALS.len()]);
         for body in [pair.outside, pair.inside, random::any_body(&mut random)] {
             numbers.add(figures(library, &body)?);
             short_recording(library, &mut random, &body)?;
@@ -180,7 +182,7 @@ fn some_sheet(random: &mut Random) -> (Vec<u8>, usize) {
             (sheet, random.below(3))
         }
         1 => {
-            let number = random.pick(&NEIGHBOURS);
+            let number = random.pick(RULE_REFUSALS);
             let mut body = random::neighbours(random, number).outside;
             if body.is_empty() {
                 body.push(2);

@@ -4,12 +4,9 @@
 use super::formulas::{accepted_rule, depth, quantifiers, size, wild_formula};
 use super::Random;
 use crate::paper::{
-    formula_figures, read_body, write_body, Bound, Formula, BODY_REFUSALS, MAX_DELAY,
-    MAX_FORMULAS, MAX_HISTORY, MAX_NESTED, MAX_OFFSET,
+    formula_figures, read_body, write_body, Bound, Formula, BODY_REFUSALS, MAX_DELAY, MAX_FORMULAS,
+    MAX_HISTORY, MAX_NESTED, MAX_OFFSET, RULE_REFUSALS,
 };
-
-/// The refusals that have neighbours: those of a body's bytes and of its figures.
-pub const NEIGHBOURS: [u32; 14] = [4, 5, 6, 7, 8, 9, 10, 11, 12, 13, 14, 15, 23, 24];
 
 /// Two bodies that differ in little: `outside` is refused with the number aimed
 /// at, `inside` is not.
@@ -40,6 +37,11 @@ pub fn places(body: &[u8]) -> Vec<(usize, Place)> {
     let end = walk(body, 0, 0, &mut found);
     assert_eq!(end, body.len(), "the body is an accepted one");
     found
+}
+
+/// Where the places of one kind begin.
+fn starts(body: &[u8], kind: Place) -> Vec<usize> {
+    places(body).iter().filter(|(_, place)| *place == kind).map(|(at, _)| *at).collect()
 }
 
 fn walk(body: &[u8], at: usize, nested: usize, found: &mut Vec<(usize, Place)>) -> usize {
@@ -76,12 +78,12 @@ pub fn any_body(random: &mut Random) -> Vec<u8> {
         3 | 4 => one_byte_damaged(random),
         5 => twice_damaged(random),
         6 | 7 => {
-            let number = random.pick(&NEIGHBOURS);
+            let number = random.pick(RULE_REFUSALS);
             neighbours(random, number).outside
         }
         8 => faulty_bounds(random),
         _ => {
-            let number = random.pick(&NEIGHBOURS);
+            let number = random.pick(RULE_REFUSALS);
             neighbours(random, number).inside
         }
     }
@@ -116,25 +118,27 @@ pub fn twice_damaged(random: &mut Random) -> Vec<u8> {
 /// A body with one or both bounds of a range written anew, each byte right or
 /// wrong by itself, so that the order of a bound's own refusals counts.
 pub fn faulty_bounds(random: &mut Random) -> Vec<u8> {
+    let mut body = body_with_a_range(random);
+    let bounds = starts(&body, Place::BoundKind);
+    let first = 2 * random.below(bounds.len() / 2);
+    let (from, to) = random.pick(&[(0, 1), (1, 2), (0, 2)]);
+    let near = [0, 0, 1, -1, MAX_OFFSET, -MAX_OFFSET];
+    let far = [MAX_OFFSET + 1, -MAX_OFFSET - 1, 5000, i16::MIN as i64];
+    for &at in &bounds[first + from..first + to] {
+        body[at] = random.pick(&[0, 1, 1, 2, 2, 3]);
+        body[at + 1] = random.pick(&[0, 0, 1, 5, 255]);
+        let offset = if random.one_in(3) { random.pick(&far) } else { random.pick(&near) };
+        put_offset(&mut body, at + 2, offset);
+    }
+    body
+}
+
+fn body_with_a_range(random: &mut Random) -> Vec<u8> {
     loop {
-        let mut body = write_body(&wild_formula(random));
-        let kinds: Vec<usize> = places(&body)
-            .iter()
-            .filter(|(_, place)| *place == Place::BoundKind)
-            .map(|(at, _)| *at)
-            .collect();
-        if kinds.is_empty() {
-            continue;
+        let formula = wild_formula(random);
+        if quantifiers(&formula) > 0 {
+            return write_body(&formula);
         }
-        let first = 2 * random.below(kinds.len() / 2);
-        let (from, to) = random.pick(&[(0, 1), (1, 2), (0, 2)]);
-        for &at in &kinds[first + from..first + to] {
-            body[at] = random.pick(&[0, 1, 1, 2, 2, 3]);
-            body[at + 1] = random.pick(&[0, 0, 1, 5, 255]);
-            let offset = random.pick(&[0, 0, 1, -1, 4095, -4095, 4096, -4096, 5000, -32768]);
-            put_offset(&mut body, at + 2, offset);
-        }
-        return body;
     }
 }
 
@@ -155,7 +159,7 @@ fn damage(random: &mut Random, body: &mut Vec<u8>) {
     }
 }
 
-/// Neighbours at one of the refusals `NEIGHBOURS`.
+/// Neighbours at one of `RULE_REFUSALS`.
 pub fn neighbours(random: &mut Random, number: u32) -> Neighbours {
     if BODY_REFUSALS.contains(&number) {
         aimed(random, number)
@@ -276,11 +280,7 @@ fn too_many(random: &mut Random) -> Neighbours {
 /// The formula with nots put before it or inside it, up to `count` formulas.
 fn pad(random: &mut Random, formula: &Formula, count: usize) -> Vec<u8> {
     let body = write_body(formula);
-    let codes: Vec<usize> = places(&body)
-        .iter()
-        .filter(|(_, place)| *place == Place::Code)
-        .map(|(at, _)| *at)
-        .collect();
+    let codes = starts(&body, Place::Code);
     let at = random.pick(&codes);
     let mut padded = body[..at].to_vec();
     padded.extend(vec![2u8; count - codes.len()]);
@@ -289,7 +289,7 @@ fn pad(random: &mut Random, formula: &Formula, count: usize) -> Vec<u8> {
 }
 
 fn last_code(body: &[u8]) -> usize {
-    places(body).iter().filter(|(_, place)| *place == Place::Code).map(|(at, _)| *at).max().unwrap()
+    starts(body, Place::Code).into_iter().max().unwrap()
 }
 
 fn nested_too_deep(random: &mut Random, formula: &Formula) -> Neighbours {
