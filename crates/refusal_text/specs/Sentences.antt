@@ -43,6 +43,8 @@ sentences =
     ∷ "the buffer is too short"  -- 22
     ∷ "a bound of kind 0 or 1 whose variable byte is not 0"  -- 23
     ∷ "an infinity with an offset"  -- 24
+    ∷ "the text is misspelt or above 4,096 bytes"  -- 25
+    ∷ "a name that is not bound here"  -- 26
     ∷ []
 
 -- The sentence of a number; every other number has that of 0.

@@ -14,6 +14,20 @@ fn put(text: &[u8], out: &mut [u8; 128]) -> usize
     bytes::copy(text, out)
 }
 
+// A rule's text.
+fn of_text(number: u32, out: &mut [u8; 128]) -> usize
+    requires { ⌜ Past 24 number ⌝ }
+    ensures { λ r. ⌜ r < 128 ⌝ }
+    ensures { λ r. ⌜ r ≡ length (sentence-of number) ⌝ }
+    ensures { λ r. ⌜ now (out .exit) ≡ sentence-of number ++ drop r (now (out .entry)) ⌝ }
+{
+    match number {
+        25 => put(b"the text is misspelt or above 4,096 bytes", out),
+        26 => put(b"a name that is not bound here", out),
+        _ => put(b"no such refusal", out),
+    }
+}
+
 // A bound's variable byte, and an infinity's offset.
 fn of_bound(number: u32, out: &mut [u8; 128]) -> usize
     requires { ⌜ Past 22 number ⌝ }
@@ -24,7 +38,7 @@ fn of_bound(number: u32, out: &mut [u8; 128]) -> usize
     match number {
         23 => put(b"a bound of kind 0 or 1 whose variable byte is not 0", out),
         24 => put(b"an infinity with an offset", out),
-        _ => put(b"no such refusal", out),
+        _ => of_text(number, out),
     }
 }
 
