@@ -1,11 +1,11 @@
 -- A body's figures from what reading and measuring it give.
 use Prim.Native.Nat.{ℕ, zero, suc, _*_, _≤_}
-use mathlib.Core.Path.{_≡_, refl, sym, ap, _∙_, subst}
+use mathlib.Core.Path.{_≡_, sym, ap, _∙_, subst}
 use mathlib.Core.List.{List, [], _∷_}
 use native.Mathlib.Omega.{arith}
 use lib.ListN.{length}
-use Rattle.refusal.specs.Answer.{Answer, refused, accepted, and-then}
-use Rattle.rule.specs.Formula.{Formula}
+use Rattle.refusal.specs.Answer.{Answer, accepted, and-then}
+use Rattle.rule.specs.Formula.{Formula, formulas}
 use Rattle.rule.specs.Body.{body}
 use Rattle.rule.specs.Figures.{at-tick, anywhere, delay, history, cells, limit-delay, figures, body-figures}
 use Rattle.rule.specs.declared.Size.the-variants.{Finite}
@@ -13,12 +13,10 @@ use Rattle.rule.specs.declared.Pair.{Pair}
 use Rattle.nodes.proofs.Nodes.{tabled}
 use Rattle.reader.specs.declared.Reading.{Reading}
 use Rattle.reader.specs.declared.Reading.the-variants as reading
-use Rattle.reader.specs.Decoded as read
-use Rattle.refusal.specs.Numbers.{number-of}
 use Rattle.refusal.specs.declared.Refusal.{Refusal}
-use Rattle.refusal.proofs.Answers.{not-accepted, same-refusal}
 use Rattle.figures.specs.declared.answer.FigureAnswer.the-variants.{Refused}
-use Rattle.reader.specs.Decoded.{formulas, Tabled, Decoded}
+use Rattle.reader.specs.Decoded.{Stands, Decoded}
+use Rattle.reader.proofs.Told.{refused-body, read-formula}
 use Rattle.figures.specs.declared.measure.Figure.{Figure}
 use Rattle.figures.specs.declared.answer.FigureAnswer.{FigureAnswer}
 use Rattle.figures.specs.Capped.{capped-needed, Within, FigureOf}
@@ -43,23 +41,23 @@ rule-limited F r f =
 -- the reader refused the body
 pub refused-prepared : (s ns : List ℕ) (q : Reading) (x : Refusal) → Decoded s q ns → q ≡ reading.Refused x → Prepared s (Refused x) ns
 unfolding body-figures and-then
-refused-prepared s ns q x d e = go (body s) refl (sym (ap read.told e) ∙ d .answer)
-  where
-    go : (b : Answer Formula) → b ≡ body s → refused (number-of x) ≡ and-then b (λ F. accepted (formulas F)) → Prepared s (Refused x) ns
-    go (refused k) q w = record { answer = ap refused (same-refusal w) ∙ ap (λ (b : Answer Formula). and-then b figures) q; laid = subst (Laid ns) q tt }
-    go (accepted F) q w = absurd (not-accepted w)
+refused-prepared s ns q x d e =
+    let b = sym (refused-body d e) in
+    record { answer = ap (λ (y : Answer Formula). and-then y figures) b; laid = subst (Laid ns) b tt }
 
 -- the reader read it, and its formula was measured
 pub measured-prepared : (s old new : List ℕ) (q : Reading) (n : ℕ) (r : Figure) (a : FigureAnswer) → Decoded s q old → q ≡ reading.Formulas n → 768 ≤ length old
     → Promise 64 0 0 (at-tick ∷ []) (Finite 0) old new r → told a ≡ limit-delay (r .history) (r .delay) (capped-needed (r .delay) (r .cells)) → Prepared s a new
 unfolding body-figures and-then
-measured-prepared s old new q n r a d eq room p ea = go (body s) refl (sym (ap read.told eq) ∙ d .answer) (d .tabled)
+measured-prepared s old new q n r a d eq room p ea = go (f .0) (sym (f .1)) (f .2)
   where
-    go : (b : Answer Formula) → b ≡ body s → accepted n ≡ and-then b (λ F. accepted (formulas F)) → Tabled old b → Prepared s a new
-    go (refused k) q w t = absurd (not-accepted (sym w))
-    go (accepted F) q w t =
+    f : (F : Formula) × (body s ≡ accepted F) × Stands F old
+    f = read-formula d eq
+
+    go : (F : Formula) → accepted F ≡ body s → Stands F old → Prepared s a new
+    go F b t =
         let x : Measured F (at-tick ∷ []) (Finite 0) 0 0 (12 * formulas F) old new r = p F (12 * formulas F) (t .holds) (omega (arith, t .room)) (omega (arith, t .room)) in
         record {
-          answer = ea ∙ rule-limited F r (x .figure) ∙ ap (λ (b : Answer Formula). and-then b figures) q;
-          laid = subst (Laid new) q (record { holds = x .holds; room = t .room; is = tabled F 64 new 0 0 (12 * formulas F) (omega (arith, t .room)) (x .holds) }, x .sizes);
+          answer = ea ∙ rule-limited F r (x .figure) ∙ ap (λ (y : Answer Formula). and-then y figures) b;
+          laid = subst (Laid new) b (record { holds = x .holds; room = t .room; is = tabled F 64 new 0 0 (12 * formulas F) (omega (arith, t .room)) (x .holds) }, x .sizes);
         }

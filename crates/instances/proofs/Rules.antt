@@ -9,7 +9,7 @@ use lib.ListN.{length, take, drop}
 use lib.Seq.{take-at}
 use Rattle.rule.specs.declared.Size.{Size}
 use Rattle.rule.specs.declared.Figures.{Figures}
-use Rattle.rule.specs.Formula.{Formula}
+use Rattle.rule.specs.Formula.{Formula, formulas}
 use Rattle.rule.specs.Meaning.{rule}
 use Rattle.rule.specs.Figures.{at-tick, cells}
 use Rattle.rule.specs.Steps.{false-at, is-open, passing, report, live}
@@ -17,7 +17,6 @@ use Rattle.rule.specs.Positions.{Within}
 use Rattle.rule.specs.Started.{Reach}
 use Rattle.rule.proofs.Reach.{rule-reach}
 use Rattle.rule.proofs.Recent.{report-recent, live-recent}
-use Rattle.reader.specs.Decoded.{formulas}
 use Rattle.demand.specs.Contract.{Kept}
 use Rattle.instances.specs.Tree.{Tree, formula-of, tree-at, words}
 use Rattle.instances.specs.Cells.{slot}

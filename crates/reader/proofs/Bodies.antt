@@ -8,7 +8,7 @@ use borrow.Author.Tests.{eq-eqb, ne-eqb}
 use Rattle.refusal.specs.Answer.{Answer, refused, accepted, and-then}
 use Rattle.refusal.specs.Numbers.{number-of}
 use Rattle.refusal.specs.declared.Refusal.{Refusal}
-use Rattle.rule.specs.Formula.{Formula}
+use Rattle.rule.specs.Formula.{Formula, formulas}
 use Rattle.rule.specs.Body.{Read, stop, read, formula-at, whole, body}
 use Rattle.rule.proofs.Reading.{Advances, advances}
 use Rattle.nodes.specs.Table.{Holds}
@@ -18,7 +18,7 @@ use Rattle.reader.specs.declared.Part.the-variants.{Refused, Ended}
 use Rattle.reader.specs.declared.Reading.{Reading}
 use Rattle.reader.specs.Written.{place}
 use Rattle.reader.specs.Filled.{ending, end-of, ended, Placed, Filled}
-use Rattle.reader.specs.Decoded.{formulas, told, Tabled, Decoded}
+use Rattle.reader.specs.Decoded.{told, Tabled, Decoded}
 use Rattle.reader.proofs.Nodes.{end-at}
 
 counted : Answer Formula → Answer ℕ

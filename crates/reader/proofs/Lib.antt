@@ -3,3 +3,4 @@ mod Nodes
 mod Ends
 mod Fills
 mod Bodies
+pub mod Told

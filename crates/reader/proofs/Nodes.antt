@@ -6,11 +6,10 @@ use mathlib.Core.List.{List}
 use native.Mathlib.Omega.{arith}
 use lib.ListN.{length, getD, set}
 use lib.Seq.{getD-set-same, getD-set-other}
-use Rattle.rule.specs.Formula.{Formula, flag, negate, then, beside, forall}
+use Rattle.rule.specs.Formula.{Formula, flag, negate, then, beside, forall, formulas}
 use Rattle.rule.proofs.Order.{by-order}
 use Rattle.nodes.specs.Table.{Holds}
 use Rattle.reader.specs.Written.{head-word}
-use Rattle.reader.specs.Decoded.{formulas}
 
 -- The first k words of the node at word i are written, and no word before it changed.
 abbrev pub Written : List ℕ → ℕ → ℕ → List ℕ → List ℕ → ℕ → Type 0

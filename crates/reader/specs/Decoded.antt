@@ -1,22 +1,14 @@
 -- What reading a whole body answers and leaves in the node table.
-use Prim.Native.Nat.{ℕ, _+_, _*_, _≤_}
+use Prim.Native.Nat.{ℕ, _*_, _≤_}
 use mathlib.Core.Path.{_≡_}
 use mathlib.Core.List.{List}
 use Rattle.refusal.specs.Answer.{Answer, refused, accepted, and-then}
 use Rattle.refusal.specs.Numbers.{number-of}
-use Rattle.rule.specs.Formula.{Formula, flag, negate, then, beside, forall}
+use Rattle.rule.specs.Formula.{Formula, formulas}
 use Rattle.rule.specs.Body.{body}
 use Rattle.nodes.specs.Table.{formula-in, Holds}
 use Rattle.reader.specs.declared.Reading.{Reading}
 use Rattle.reader.specs.declared.Reading.the-variants.{Formulas, Refused}
-
--- How many formulas a formula has, itself counted.
-unfoldable pub formulas : Formula → ℕ
-formulas (flag v k) = 1
-formulas (negate F) = 1 + formulas F
-formulas (then F G) = 1 + (formulas F + formulas G)
-formulas (beside F G) = 1 + (formulas F + formulas G)
-formulas (forall B₁ B₂ F) = 1 + formulas F
 
 -- What each case of the code's answer stands for.
 abbrev pub told : Reading → Answer ℕ

@@ -10,16 +10,15 @@ use borrow.Author.Tests.{le-leb, lt-leb, lt-ltb, le-ltb}
 use Rattle.refusal.specs.Answer.{Answer, refused, accepted, and-then}
 use Rattle.refusal.specs.Numbers.{number-of}
 use Rattle.refusal.specs.declared.Refusal.{Refusal}
-use Rattle.refusal.proofs.Answers.{not-accepted, same-refusal}
 use Rattle.rule.specs.declared.Outcome.{Outcome}
 use Rattle.rule.specs.Formula.{Formula}
-use Rattle.rule.specs.Body.{body}
 use Rattle.rule.specs.Meaning.{outcome, rule}
 use Rattle.rule.specs.Recording.{recorded, over-recording, recording-outcome}
 use Rattle.nodes.specs.Table.{formula-in}
 use Rattle.reader.specs.declared.Reading.{Reading}
 use Rattle.reader.specs.declared.Reading.the-variants.{Formulas, Refused}
-use Rattle.reader.specs.Decoded as reader
+use Rattle.reader.specs.Decoded.{Decoded}
+use Rattle.reader.proofs.Told.{refused-body, read-formula}
 use Rattle.recording.specs.declared.env.Env.{Env}
 use Rattle.recording.specs.Evaluating.{places, started, Ready}
 
@@ -78,19 +77,11 @@ by-rule ns rec t p e x y = y ∙ ap (λ (w : Env). outcome (formula-in 64 ns (w 
 
 -- ---- after the body is read
 
-module _ (s rec : List ℕ) (p : ℕ) {r : Reading} {ns : List ℕ} (d : reader.Decoded s r ns) where
+module _ (s rec : List ℕ) (p : ℕ) {r : Reading} {ns : List ℕ} (d : Decoded s r ns) where
   pub read-well : {n : ℕ} {a : Answer Outcome} → r ≡ Formulas n → a ≡ over-recording (formula-in 64 ns 0 0) rec p → a ≡ recording-outcome s rec p
   unfolding recording-outcome and-then
-  read-well {n} {a} x y = go (body s) (ap reader.told (sym x) ∙ d .answer) (d .tabled)
-    where
-      go : (b : Answer Formula) → accepted n ≡ and-then b (λ F. accepted (reader.formulas F)) → reader.Tabled ns b → a ≡ and-then b (λ F. over-recording F rec p)
-      go (refused k) z w = absurd (not-accepted (sym z))
-      go (accepted F) z w = y ∙ ap (λ (G : Formula). over-recording G rec p) (w .is)
+  read-well x y = let f = read-formula d x in rw (f .1) (y ∙ ap (λ (G : Formula). over-recording G rec p) (f .2 .is))
 
   pub read-ill : {x : Refusal} → r ≡ Refused x → refused (number-of x) ≡ recording-outcome s rec p
   unfolding recording-outcome and-then
-  read-ill {x} y = go (body s) (ap reader.told (sym y) ∙ d .answer)
-    where
-      go : (b : Answer Formula) → refused (number-of x) ≡ and-then b (λ F. accepted (reader.formulas F)) → refused (number-of x) ≡ and-then b (λ F. over-recording F rec p)
-      go (refused k) z = ap refused (same-refusal z)
-      go (accepted F) z = absurd (not-accepted z)
+  read-ill y = rw (refused-body d y) refl
