@@ -1,0 +1,5 @@
+pub mod Storing
+pub mod Spellings
+pub mod Follows
+pub mod Places
+pub mod Bodies

@@ -1,0 +1,27 @@
+// Storing bytes one after another. Each function answers the next position, and stops at the buffer's end: no caller has to show that there is room.
+ghost use mathlib.Core.List.{[], _∷_};
+ghost use Rattle.body_to_text.specs.Storing.{Wrote};
+
+// Stores a byte.
+pub(crate) fn put(out: &mut [u8], at: usize, b: u8) -> usize
+    ensures { λ r. ⌜ Wrote (b ∷ []) (now (out .entry)) at (now (out .exit)) r ⌝ }
+{
+    if out.len() <= at {
+        return at;
+    }
+    out[at] = b;
+    at + 1
+}
+
+// Stores a word.
+pub(crate) fn put_word(out: &mut [u8], at: usize, word: &[u8]) -> usize
+    ensures { λ r. ⌜ Wrote (now (word .entry)) (now (out .entry)) at (now (out .exit)) r ⌝ }
+{
+    let mut next = at;
+    let mut i: usize = 0;
+    while i < word.len() {
+        next = put(out, next, word[i]);
+        i += 1;
+    }
+    next
+}

@@ -1,0 +1,11 @@
+pub mod Spelling
+pub mod Printed
+pub mod Sound
+pub mod OneReading
+pub mod PrintedOffsets
+pub mod PrintedBounds
+pub mod PrintedFormulas
+pub mod RoundTrip
+pub mod Answered
+pub mod Examples
+pub mod Written

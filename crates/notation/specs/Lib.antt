@@ -1,0 +1,4 @@
+pub mod Notation
+pub mod Reading
+pub mod Bodies
+pub mod Printing

@@ -1,0 +1,4 @@
+pub mod Scanning
+pub mod Finding
+mod Parsing
+mod Starting

@@ -1,0 +1,48 @@
+// Bounds in a text.
+ghost use Prim.Native.Nat.{_≤_};
+ghost use lib.ListN.{length, drop};
+ghost use Rattle.notation.specs.Reading.{base, offset, end-of};
+ghost use Rattle.text_pieces.specs.Spots.{Found};
+use crate::names::is_word;
+use crate::names::name_end;
+use crate::names::numeral_end;
+use crate::scan::run_end;
+use crate::scan::starts_at;
+
+// The position after 0, infinity or a name; 0 where there is none.
+pub fn base_end(s: &[u8], at: usize) -> usize
+    ensures { λ r. ⌜ Found (now (s .entry)) r (base (drop at (now (s .entry)))) ⌝ }
+{
+    if starts_at(s, at, b"0") {
+        return at + 1;
+    }
+    if is_word(s, at, b"infinity") {
+        return run_end(s, at, 97, 122);
+    }
+    name_end(s, at)
+}
+
+// The position after an offset or none; 0 where its digits are missing.
+fn offset_end(s: &[u8], at: usize) -> usize
+    requires { ⌜ (1 ≤ at) × (at ≤ length (now s)) ⌝ }
+    ensures { λ r. ⌜ Found (now (s .entry)) r (offset (drop at (now (s .entry)))) ⌝ }
+{
+    if starts_at(s, at, b"+") {
+        return numeral_end(s, at + 1);
+    }
+    if starts_at(s, at, b"-") {
+        return numeral_end(s, at + 1);
+    }
+    at
+}
+
+// The position after a bound; 0 where there is none.
+pub fn bound_end(s: &[u8], at: usize) -> usize
+    ensures { λ r. ⌜ Found (now (s .entry)) r (end-of (drop at (now (s .entry)))) ⌝ }
+{
+    let b = base_end(s, at);
+    if b == 0 {
+        return 0;
+    }
+    offset_end(s, b)
+}

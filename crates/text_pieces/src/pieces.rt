@@ -1,0 +1,99 @@
+// A formula's text before its first part, and the text between two parts.
+ghost use lib.ListN.{drop};
+ghost use Rattle.notation.specs.Reading.{flag-head, forall-head, head, joint};
+ghost use Rattle.text_pieces.specs.Spots.{Found, Pieced};
+use crate::bounds::bound_end;
+use crate::names::name_end;
+use crate::scan::digit_end;
+use crate::scan::starts_at;
+
+// How a formula starts, and the position after that.
+pub enum Piece {
+    Wrong,
+    Flag(usize),
+    Negate(usize),
+    Open(usize),
+    Forall(usize),
+}
+
+// The position after a name, a point and a digit; 0 where they are not there.
+fn flag_end(s: &[u8], at: usize) -> usize
+    ensures { λ r. ⌜ Found (now (s .entry)) r (flag-head (drop at (now (s .entry)))) ⌝ }
+{
+    let n = name_end(s, at);
+    if n == 0 {
+        return 0;
+    }
+    if !starts_at(s, n, b".") {
+        return 0;
+    }
+    digit_end(s, n + 1)
+}
+
+// The position after what stands between "forall " and its formula; 0 where it is not there.
+fn forall_end(s: &[u8], at: usize) -> usize
+    ensures { λ r. ⌜ Found (now (s .entry)) r (forall-head (drop at (now (s .entry)))) ⌝ }
+{
+    let n = name_end(s, at);
+    if n == 0 {
+        return 0;
+    }
+    if !starts_at(s, n, b" in ") {
+        return 0;
+    }
+    let a = bound_end(s, n + 4);
+    if a == 0 {
+        return 0;
+    }
+    if !starts_at(s, a, b"..") {
+        return 0;
+    }
+    let b = bound_end(s, a + 2);
+    if b == 0 {
+        return 0;
+    }
+    if !starts_at(s, b, b" : ") {
+        return 0;
+    }
+    b + 3
+}
+
+// The start of a formula at a position.
+pub fn piece_at(s: &[u8], at: usize) -> Piece
+    ensures { λ r. ⌜ Pieced (now (s .entry)) at r (head (drop at (now (s .entry)))) ⌝ }
+{
+    if starts_at(s, at, b"@") {
+        let q = flag_end(s, at + 1);
+        if q == 0 {
+            return Piece::Wrong;
+        }
+        return Piece::Flag(q);
+    }
+    if starts_at(s, at, b"~") {
+        return Piece::Negate(at + 1);
+    }
+    if starts_at(s, at, b"(") {
+        return Piece::Open(at + 1);
+    }
+    if !starts_at(s, at, b"forall ") {
+        return Piece::Wrong;
+    }
+    let q = forall_end(s, at + 7);
+    if q == 0 {
+        return Piece::Wrong;
+    }
+    Piece::Forall(q)
+}
+
+// The position after a connective; 0 where there is none.
+pub fn joint_end(s: &[u8], at: usize) -> usize
+    ensures { λ r. ⌜ Found (now (s .entry)) r (joint (drop at (now (s .entry)))) ⌝ }
+{
+    if starts_at(s, at, b" && ") {
+        return at + 4;
+    }
+    if starts_at(s, at, b" /\\ ") {
+        return at + 4;
+    }
+    0
+}

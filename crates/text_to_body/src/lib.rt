@@ -1,0 +1,43 @@
+// A rule's text turned into its body, without recursion: the text is read from left to right, with the open brackets and quantifiers in a table.
+mod begin;
+mod end;
+mod point;
+mod scope;
+mod stores;
+mod translate;
+mod values;
+
+ghost use mathlib.Core.List.{List};
+ghost use lib.ListN.{length};
+ghost use Rattle.refusal.specs.Answer.{and-then};
+ghost use Rattle.sheet.specs.Writing.{written};
+ghost use Rattle.notation.specs.Bodies.{checked, fitted, body-of-text, Writes};
+use notation::deliver;
+use reader::Reading;
+use reader::read_body;
+use sheet::Written;
+use translate::translate;
+
+// Puts a body at the start of a lent buffer if the body reader takes it: refusals 4 to 10, 23, 24, and last 22.
+fn write_if_legal(body: &[u8], out: &mut [u8]) -> Written
+    ensures { λ r. ⌜ Writes (and-then (checked (now (body .entry))) (fitted (length (now (out .entry))))) (written r) (now (out .entry)) (now (out .exit)) ⌝ }
+{
+    let mut nodes = [0u32; 768];
+    let reading = read_body(body, &mut nodes);
+    match reading {
+        Reading::Refused(x) => Written::Refused(x),
+        Reading::Formulas(_) => deliver(body, out),
+    }
+}
+
+// Writes the body of a rule's text at the start of a lent buffer and answers its length: refusals 25, 26, 4 to 10, 23, 24, and last 22.
+pub fn write_body(text: &[u8], out: &mut [u8]) -> Written
+    ensures { λ r. ⌜ Writes (body-of-text (now (text .entry)) (length (now (out .entry)))) (written r) (now (out .entry)) (now (out .exit)) ⌝ }
+{
+    let mut bytes = [0u8; 4096];
+    let translated = translate(text, &mut bytes);
+    match translated {
+        Written::Refused(x) => Written::Refused(x),
+        Written::Length(n) => write_if_legal(&bytes[..n], out),
+    }
+}

@@ -1,0 +1,37 @@
+// A point of the way through a text.
+ghost use mathlib.Core.Path.{_≡_};
+ghost use Prim.Native.Nat.{suc, _≤_};
+ghost use Rattle.text_to_body.specs.Points.{Nowhere};
+
+// Before a formula (mode 0), after one (1), at the text's end with nothing open (2), or misspelt (3); the position in the text, how many frames are
+// open, how many names are in scope, how many bytes of the body are written, and whether all names so far are bound.
+pub(crate) struct Point {
+    pub mode: u8,
+    pub at: usize,
+    pub depth: usize,
+    pub scope: usize,
+    pub written: usize,
+    pub resolved: bool,
+}
+
+// Where a misspelt text leads.
+pub(crate) fn misspelt() -> Point
+    ensures { λ r. ⌜ Nowhere r ⌝ }
+{
+    Point {
+        mode: 3,
+        at: 0,
+        depth: 0,
+        scope: 0,
+        written: 0,
+        resolved: true,
+    }
+}
+
+// The frame of a bracket whose code is to stand at a byte of the body.
+pub(crate) fn bracket_frame(byte: usize) -> u16
+    requires { ⌜ byte ≤ 4096 ⌝ }
+    ensures { λ r. ⌜ r ≡ suc (suc byte) ⌝ }
+{
+    (byte + 2) as u16
+}

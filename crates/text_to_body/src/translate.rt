@@ -1,0 +1,77 @@
+// A whole text: one step after another, up to its end or to what is misspelt.
+ghost use mathlib.Core.Path.{_≡_};
+ghost use mathlib.Core.List.{List};
+ghost use Prim.Native.Nat.{ℕ, _≤_, _<_};
+ghost use lib.ListN.{length};
+ghost use Rattle.sheet.specs.Writing.{written};
+ghost use Rattle.notation.specs.Bodies.{length-of};
+ghost use Rattle.text_to_body.specs.Points.{answer-at, Within, Rooms, Moved, settled, Reached, Translated};
+use crate::begin::begin_formula;
+use crate::end::end_formula;
+use crate::point::Point;
+use refusal::Refusal;
+use sheet::Written;
+use text_pieces::rule_start;
+
+// One step from a point before or after a formula.
+fn step(s: &[u8], frames: &mut [u16], names: &mut [usize], out: &mut [u8], p: Point) -> Point
+    requires { ⌜ (p .mode < 2) × Within (now s) p × Rooms (now s) (now frames) (now names) (now out) ⌝ }
+    ensures { λ r. ⌜ Moved (now (s .entry)) (now (frames .entry)) (now (names .entry)) (now (out .entry)) p (now (frames .exit)) (now (names .exit)) (now (out .exit)) r ⌝ }
+{
+    if p.mode == 0 {
+        return begin_formula(s, frames, names, out, p);
+    }
+    end_formula(s, frames, out, p)
+}
+
+// From a point to the text's end, or to what is misspelt.
+fn go_on(s: &[u8], frames: &mut [u16], names: &mut [usize], out: &mut [u8], start: Point) -> Point
+    requires { ⌜ Within (now s) start × Rooms (now s) (now frames) (now names) (now out) ⌝ }
+    ensures { λ r. ⌜ (length (now (out .exit)) ≡ length (now (out .entry))) × Reached (answer-at (now (s .entry)) (now (frames .entry)) (now (names .entry)) (now (out .entry)) start) (now (out .exit)) r ⌝ }
+{
+    let mut p = start;
+    while p.mode < 2 {
+        p = step(s, frames, names, out, p);
+    }
+    p
+}
+
+// What a point past the last step answers: 25, 26, or how many bytes are written.
+fn answer_at_end(p: Point) -> Written
+    ensures { λ r. ⌜ ((l : List ℕ) → length l ≡ p .written → written r ≡ length-of (settled (p .mode) (p .resolved) l)) ⌝ }
+{
+    if p.mode != 2 {
+        return Written::Refused(Refusal::Misspelt);
+    }
+    if !p.resolved {
+        return Written::Refused(Refusal::UnboundName);
+    }
+    Written::Length(p.written)
+}
+
+// Writes the body of a rule's text, whose bytes may still be refused, and answers its length: refusals 25, 26. The rule's own name stands at byte 8.
+pub(crate) fn translate(text: &[u8], out: &mut [u8]) -> Written
+    requires { ⌜ 4096 ≤ length (now out) ⌝ }
+    ensures { λ r. ⌜ (length (now (out .exit)) ≡ length (now (out .entry))) × Translated (now (text .entry)) (written r) (now (out .exit)) ⌝ }
+{
+    if 4096 < text.len() {
+        return Written::Refused(Refusal::Misspelt);
+    }
+    let start = rule_start(text);
+    if start == 0 {
+        return Written::Refused(Refusal::Misspelt);
+    }
+    let mut frames = [0u16; 4096];
+    let mut names = [0usize; 256];
+    names[0] = 8;
+    let p = Point {
+        mode: 0,
+        at: start,
+        depth: 0,
+        scope: 1,
+        written: 0,
+        resolved: true,
+    };
+    let last = go_on(text, &mut frames, &mut names, out, p);
+    answer_at_end(last)
+}
