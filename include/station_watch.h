@@ -11,10 +11,12 @@
  *
  * To watch a stream: sw_rule_place finds the body of a rule in a sheet, sw_figures says
  * how much memory it needs, sw_open opens it, sw_step takes a flag byte. sw_steps takes
- * many at once. sw_outcome evaluates a rule at one tick of a recording, and
- * sw_write_sheet makes a sheet. Examples: examples/c.
+ * many at once. sw_outcome evaluates a rule at one tick of a recording.
  *
- * ANSWERS. Every function answers SW_OK (0) or the number of a refusal (1 to 24, below).
+ * To write a sheet: sw_rule_from_text makes a rule's body from its text, sw_write_sheet a
+ * sheet from bodies; sw_rule_to_text shows a body as text. Examples: examples/c.
+ *
+ * ANSWERS. Every function answers SW_OK (0) or the number of a refusal (1 to 26, below).
  * On a refusal nothing that was lent is changed: no buffer, no state, and none of the
  * numbers that answers are written to.
  *
@@ -27,8 +29,8 @@
  * on memory of its own.
  *
  * COST. Every call returns, and waits for nothing. As measured (docs/PERFORMANCE.md names
- * the machine): a call uses at most SW_MAX_STACK bytes of stack, also for a body that
- * nests as deep as it can. A step of a small rule takes 0.1 to 5 microseconds, the dearest
+ * the machine): a call uses at most SW_MAX_STACK bytes of stack, also for a body or a text
+ * that nests as deep as it can. A step of a small rule takes 0.1 to 5 microseconds, the dearest
  * one found 2 milliseconds; it grows with the positions that the rule looks at, about
  * 20 ns each, and never with the recording. sw_outcome takes about 15 ns for each position
  * of a range; k nested ranges up to infinity whose variables are all named take n^k for n
@@ -46,9 +48,9 @@ extern "C" {
 /* ---- Version ---- */
 
 #define SW_VERSION_MAJOR 0
-#define SW_VERSION_MINOR 3
+#define SW_VERSION_MINOR 4
 #define SW_VERSION_PATCH 0
-#define SW_VERSION "0.3.0"
+#define SW_VERSION "0.4.0"
 
 /* ---- Refusals: the sentence that sw_sentence writes, and what to do ---- */
 
@@ -141,7 +143,8 @@ extern "C" {
 
 /* "the buffer is too short"
  * sw_write_sheet: lend 1 + 4 * count + the bodies' size bytes; SW_MAX_SHEET are always
- * enough. sw_sentence: lend SW_MAX_SENTENCE. */
+ * enough. sw_sentence: lend SW_MAX_SENTENCE. sw_rule_from_text: lend SW_MAX_BODY, and
+ * sw_rule_to_text SW_MAX_TEXT, which are always enough. */
 #define SW_BUFFER_TOO_SHORT 22
 
 /* "a bound of kind 0 or 1 whose variable byte is not 0"
@@ -154,12 +157,26 @@ extern "C" {
  * kind 0; from a variable, kind 2. */
 #define SW_OFFSET_ON_INFINITY 24
 
+/* "the text is misspelt or above 4,096 bytes"
+ * Write it as docs/RULES.md shows: one form, single blanks, names of 1 to 8 small letters,
+ * nothing after it, not even a line end. station-watch compile says the column. */
+#define SW_MISSPELT 25
+
+/* "a name that is not bound here"
+ * Name the tick or a range around this place; bounds see only names bound outside their
+ * own range. */
+#define SW_UNBOUND_NAME 26
+
 /* ---- Limits ---- */
 
 /* A sheet: rules, bytes of a body, bytes of the whole. */
 #define SW_MAX_RULES 32
 #define SW_MAX_BODY 512
 #define SW_MAX_SHEET 16513
+
+/* A rule's text in bytes, as sw_rule_from_text takes it; and enough for any that
+ * sw_rule_to_text writes. */
+#define SW_MAX_TEXT 4096
 
 /* A recording, in flag bytes. */
 #define SW_MAX_RECORDING 65535
@@ -205,7 +222,7 @@ extern "C" {
 
 /* ---- Functions ---- */
 
-/* The sentence of a refusal, in ASCII. A number that is no refusal (SW_OK, 25 and more)
+/* The sentence of a refusal, in ASCII. A number that is no refusal (SW_OK, 27 and more)
  * has the sentence "no such refusal".
  * Answers 0, or 22.
  * After 0, *written is the sentence's length, `out` begins with the sentence and a 0
@@ -227,6 +244,39 @@ uint32_t sw_rule_place(const uint8_t *sheet, size_t sheet_len, size_t rule,
 uint32_t sw_write_sheet(const uint16_t *lengths, size_t count,
                         const uint8_t *bodies, size_t bodies_len,
                         uint8_t *out, size_t out_len, size_t *written);
+
+/* The body of a rule that is typed in the notation of docs/RULES.md, in ASCII with nothing
+ * before or after it:
+ *
+ *   monitor x : F              the rule; F is one of these:
+ *   @x.3                       flag 3 at x
+ *   ~F                         not F
+ *   (F && G)                   F, then G
+ *   (F /\ G)                   F beside G
+ *   forall y in x-1..x+2 : F   for all positions y from x - 1 to x + 2, F
+ *
+ * Blanks stand as shown, and nowhere else. Names are 1 to 8 lower-case letters, but not
+ * monitor, forall, in or infinity. A bound is 0, infinity or a name, and may have one
+ * offset, + or - and 1 to 4 digits; a flag is one digit. A name is that of the innermost
+ * range around it that binds it, or of the rule; a range's own bounds stand outside it.
+ * A text of at most SW_MAX_TEXT bytes has at most one reading, and the body is that one's.
+ * Answers 0, or 25, then 26, then the body's own (4 to 10, 23, 24), last 22: the whole text
+ * is read before a name is looked up, and all names before the body's bytes are judged as
+ * sw_figures judges them. Of the body's own these come: 7 for flags 8 and 9, 8 for offsets
+ * of 4096 and more, 9, and 24 for an infinity with an offset other than 0.
+ * After 0, *written is the body's length; so many bytes of `body` are the body, and those
+ * after them are as they were. */
+uint32_t sw_rule_from_text(const uint8_t *text, size_t text_len,
+                           uint8_t *body, size_t body_len, size_t *written);
+
+/* A body as such a text, with no 0 byte after it. The rule's own name is x, and ranges have
+ * the names y, z, u and v, by how many are around them. An offset of 0 is not written, and
+ * others have no 0 before them. sw_rule_from_text makes the same body of it.
+ * Answers 0, or 4 to 10, 23, 24, 22.
+ * After 0, *written is the text's length; so many bytes of `text` are the text, and those
+ * after them are as they were. */
+uint32_t sw_rule_to_text(const uint8_t *body, size_t body_len,
+                         uint8_t *text, size_t text_len, size_t *written);
 
 /* The figures of a rule's body: how many past flags it needs (history, at most 4096),
  * within how many ticks it is decided (delay, at most 255), and how many cells of four

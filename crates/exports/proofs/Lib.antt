@@ -6,3 +6,4 @@ mod Batches
 mod Steps
 mod Lists
 pub mod Demand3
+mod Sizes

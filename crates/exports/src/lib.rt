@@ -3,6 +3,8 @@
 mod batch;
 mod bodies;
 mod bytes;
+mod lengths;
+mod rules;
 mod sentences;
 mod sheets;
 mod state;
@@ -11,6 +13,8 @@ mod watching;
 pub use batch::sw_steps;
 pub use bodies::sw_figures;
 pub use bodies::sw_outcome;
+pub use rules::sw_rule_from_text;
+pub use rules::sw_rule_to_text;
 pub use sentences::sw_sentence;
 pub use sheets::sw_rule_place;
 pub use sheets::sw_write_sheet;

@@ -4,8 +4,8 @@ ghost use lib.ListN.{length};
 ghost use Rattle.sheet.specs.Sheet.{rule-place};
 ghost use Rattle.sheet.specs.Writing.{sheet-length, buffer-after};
 ghost use Rattle.exports.specs.Answers.{number, or-kept};
+use crate::lengths::answer_length;
 use sheet::Found;
-use sheet::Written;
 
 // Where a rule's body lies in its sheet: refusals 1 to 3.
 #[no_mangle]
@@ -43,11 +43,5 @@ pub extern "C" fn sw_write_sheet(
     ensures { λ n. ⌜ now (written .exit) ≡ or-kept (λ n. n) (sheet-length (now (lengths .entry)) (now (bodies .entry)) (length (now (out .entry)))) (now (written .entry)) ⌝ }
 {
     let answer = sheet::write_sheet(lengths, bodies, out);
-    match answer {
-        Written::Length(n) => {
-            *written = n;
-            0
-        }
-        Written::Refused(x) => refusal::number(x),
-    }
+    answer_length(answer, written)
 }

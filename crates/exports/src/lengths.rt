@@ -1,0 +1,19 @@
+// How long what was written is, as C hears it.
+ghost use mathlib.Core.Path.{_≡_};
+ghost use Rattle.sheet.specs.Writing as sheets;
+ghost use Rattle.exports.specs.Answers.{number, or-kept};
+use sheet::Written;
+
+// Answers 0 and sets the length, or answers the refusal's number and leaves the length as it is.
+pub(crate) fn answer_length(answer: Written, length: &mut usize) -> u32
+    ensures { λ n. ⌜ n ≡ number (sheets.written answer) ⌝ }
+    ensures { λ n. ⌜ now (length .exit) ≡ or-kept (λ k. k) (sheets.written answer) (now (length .entry)) ⌝ }
+{
+    match answer {
+        Written::Length(k) => {
+            *length = k;
+            0
+        }
+        Written::Refused(x) => refusal::number(x),
+    }
+}
