@@ -21,8 +21,8 @@ impl Answer {
         Answer { text, refused: false }
     }
 
-    fn refusal(refusal: Refusal) -> Answer {
-        Answer { text: format!("{refusal}\n"), refused: true }
+    pub fn refused(text: String) -> Answer {
+        Answer { text, refused: true }
     }
 }
 
@@ -58,7 +58,7 @@ impl From<Failure> for Stop {
 pub fn finish(ended: Result<Answer, Stop>) -> ExitCode {
     let printed = match ended {
         Ok(answer) => print(answer),
-        Err(Stop::Refused(refusal)) => print(Answer::refusal(refusal)),
+        Err(Stop::Refused(refusal)) => print(Answer::refused(format!("{refusal}\n"))),
         Err(Stop::Failed(failure)) => Err(failure),
     };
     ExitCode::from(printed.unwrap_or_else(|failure| {

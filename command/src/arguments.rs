@@ -8,8 +8,10 @@ use std::path::PathBuf;
 
 /// What was asked for.
 pub enum Command {
+    Compile { rules: PathBuf, out: PathBuf },
     Figures { sheet: PathBuf },
     Outcome { sheet: PathBuf, rule: usize, flags: PathBuf, tick: usize },
+    Print { sheet: PathBuf },
     Sheet { out: PathBuf, bodies: Vec<Vec<u8>> },
     Help(&'static str),
     Version,
@@ -44,6 +46,7 @@ fn command(name: &str, rest: &[OsString]) -> Result<Command, Failure> {
     match (name, rest) {
         (_, [_]) if asks_help => Ok(Command::Help(usage)),
         _ if asks_help => Err(wrong_number(name, rest, usage::line(usage))),
+        ("compile", [rules, out]) => Ok(Command::Compile { rules: rules.into(), out: out.into() }),
         ("figures", [sheet]) => Ok(Command::Figures { sheet: sheet.into() }),
         ("outcome", [sheet, rule, flags, tick]) => Ok(Command::Outcome {
             sheet: sheet.into(),
@@ -51,6 +54,7 @@ fn command(name: &str, rest: &[OsString]) -> Result<Command, Failure> {
             flags: flags.into(),
             tick: number("TICK", tick, usage)?,
         }),
+        ("print", [sheet]) => Ok(Command::Print { sheet: sheet.into() }),
         ("sheet", [out, bodies @ ..]) => {
             Ok(Command::Sheet { out: out.into(), bodies: all_bytes(bodies, usage)? })
         }

@@ -7,9 +7,13 @@ use station_watch::{MAX_RECORDING, MAX_SHEET};
 use std::fs::File;
 use std::io::{self, ErrorKind, Read, Write};
 use std::os::fd::AsFd;
+use std::os::unix::fs::MetadataExt;
 use std::path::Path;
 use std::thread::sleep;
 use std::time::Duration;
+
+/// The most bytes of a file of rules: 32 of the longest texts, and much room for comments.
+const MAX_RULES_FILE: usize = 1 << 20;
 
 /// How long to wait before a read or a write that would block is tried again.
 const WAIT: Duration = Duration::from_millis(5);
@@ -22,11 +26,47 @@ pub fn read_sheet(path: &Path) -> Result<Vec<u8>, Failure> {
 
 /// The bytes of a recording, in the same way; - is standard input.
 pub fn read_recording(path: &Path) -> Result<Vec<u8>, Failure> {
-    let most = MAX_RECORDING + 1;
-    if path != Path::new("-") {
+    read_or_input(path, MAX_RECORDING + 1)
+}
+
+/// The bytes of a file of rules; - is standard input. No refusal is about one that is too
+/// long: it cannot be read.
+pub fn read_rules(path: &Path) -> Result<Vec<u8>, Failure> {
+    let bytes = read_or_input(path, MAX_RULES_FILE + 1)?;
+    if bytes.len() > MAX_RULES_FILE {
+        let error = io::Error::other("more than 1,048,576 bytes");
+        return Err(Failure::Read(input_name(path), error));
+    }
+    Ok(bytes)
+}
+
+/// What is read may not be written over: a sheet in the place of its rules' text would lose
+/// the text. A path that cannot be looked at is left to whoever reads or writes it.
+pub fn refuse_same(read: &Path, written: &Path) -> Result<(), Failure> {
+    let place = |path: &Path| path.metadata().map(|file| (file.dev(), file.ino()));
+    if is_input(read) || place(read).is_err() || place(read).ok() != place(written).ok() {
+        return Ok(());
+    }
+    let error = io::Error::other("it is the file that is read");
+    Err(Failure::Write(written.display().to_string(), error))
+}
+
+fn is_input(path: &Path) -> bool {
+    path == Path::new("-")
+}
+
+fn input_name(path: &Path) -> String {
+    if is_input(path) {
+        return "standard input".to_string();
+    }
+    path.display().to_string()
+}
+
+fn read_or_input(path: &Path, most: usize) -> Result<Vec<u8>, Failure> {
+    if !is_input(path) {
         return read(path, most);
     }
-    let stop = |error| Failure::Read("standard input".to_string(), error);
+    let stop = |error| Failure::Read(input_name(path), error);
     own(io::stdin()).and_then(|input| read_up_to(input, most)).map_err(stop)
 }
 

@@ -14,6 +14,11 @@ pub fn bytes(text: &str) -> Result<Vec<u8>, String> {
     Ok(bytes)
 }
 
+/// Bytes as such a text, with a blank between two.
+pub fn text(bytes: &[u8]) -> String {
+    bytes.iter().map(|byte| format!("{byte:02X}")).collect::<Vec<_>>().join(" ")
+}
+
 fn digits(part: &str) -> Result<Vec<u8>, String> {
     let digit = |c: char| c.to_digit(16).ok_or(format!("'{c}' is no hexadecimal digit"));
     part.chars().map(|c| digit(c).map(|digit| digit as u8)).collect()

@@ -1,13 +1,15 @@
 //! The command `station-watch`: what a C programmer calls, a person can type. It has no
-//! logic of its own: it reads arguments and files, asks the library, and writes what
-//! that answers. `usage` says what it takes, prints, and ends with.
+//! logic of its own, but for `column`: it reads arguments and files, asks the library, and
+//! writes what that answers. `usage` says what it takes, prints, and ends with.
 
 mod answer;
 mod arguments;
+mod column;
 mod figures;
 mod files;
 mod hexadecimal;
 mod outcome;
+mod rules;
 mod sheet;
 mod usage;
 
@@ -25,10 +27,12 @@ fn main() -> ExitCode {
 
 fn run(command: Command) -> Result<Answer, Stop> {
     match command {
+        Command::Compile { rules, out } => rules::compile(&rules, &out),
         Command::Figures { sheet } => figures::of_sheet(&sheet),
         Command::Outcome { sheet, rule, flags, tick } => {
             outcome::at_tick(&sheet, rule, &flags, tick)
         }
+        Command::Print { sheet } => rules::print(&sheet),
         Command::Sheet { out, bodies } => sheet::write(&out, &bodies),
         Command::Help(text) => Ok(Answer::given(text.to_string())),
         Command::Version => {

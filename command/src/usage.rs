@@ -2,15 +2,19 @@
 //! anything is built.
 
 pub const ALL: &str = include_str!("../usage/station-watch.txt");
+pub const COMPILE: &str = include_str!("../usage/compile.txt");
 pub const FIGURES: &str = include_str!("../usage/figures.txt");
 pub const OUTCOME: &str = include_str!("../usage/outcome.txt");
+pub const PRINT: &str = include_str!("../usage/print.txt");
 pub const SHEET: &str = include_str!("../usage/sheet.txt");
 
 /// The usage of a command by its name.
 pub fn of(command: &str) -> Option<&'static str> {
     match command {
+        "compile" => Some(COMPILE),
         "figures" => Some(FIGURES),
         "outcome" => Some(OUTCOME),
+        "print" => Some(PRINT),
         "sheet" => Some(SHEET),
         _ => None,
     }

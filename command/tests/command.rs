@@ -13,6 +13,7 @@ use std::time::Duration;
 
 /// The scope document's example rule and its flag bytes.
 const EXAMPLE: &str = "02 04 010000 05 0200FFFF 02000200 010100";
+const TYPED: &str = "monitor x : ~(@x.0 /\\ forall y in x-1..x+2 : @y.0)";
 const FLAGS: [u8; 10] = [0, 1, 1, 0, 1, 1, 1, 1, 0, 0];
 /// For all Y from X to X + 63, flag 0 at Y: too many cells.
 const WIDE: &str = "05 02000000 02003F00 010100";
@@ -233,6 +234,178 @@ fn refused_sheets() {
     assert!(!Path::new(&path).exists());
 }
 
+/// Comments, empty lines and both ends of a line; the last line has none.
+#[test]
+fn typed_rules_are_compiled() {
+    let folder = Folder::new("typed_rules_are_compiled");
+    let text = format!("# a rule of the scope document\n\n{TYPED}\r\n\r\n#\nmonitor t : @t.7");
+    let rules = folder.file("rules", text.as_bytes());
+    let out_path = folder.file("typed", &[0xEE; 100]); // what was there before is gone
+    let due = out(&format!("sheet {out_path} rules 2 bytes 29\n"), 0);
+    assert_eq!(ask(&["compile", &rules, &out_path]), due);
+    let sheet = fs::read(&out_path).unwrap();
+    assert_eq!(sheet, fs::read(folder.sheet(&[EXAMPLE, "010007"])).unwrap());
+    let again = folder.path("again");
+    let due = out(&format!("sheet {again} rules 2 bytes 29\n"), 0);
+    assert_eq!(ask_with_input(&["compile", "-", &again], text.as_bytes()), due);
+    assert_eq!(fs::read(&again).unwrap(), sheet);
+}
+
+/// Rules that cannot be watched live are written; `figures` tells.
+/// A text is not lost to the sheet that is compiled from it, by whatever name.
+#[test]
+fn rules_are_not_written_over() {
+    let folder = Folder::new("rules_are_not_written_over");
+    let text = b"monitor x : @x.0\n";
+    let rules = folder.file("rules", text);
+    let link = folder.path("link");
+    std::os::unix::fs::symlink(&rules, &link).unwrap();
+    for out in [&rules, &link] {
+        let due = format!("station-watch: cannot write {out}: it is the file that is read\n");
+        assert_eq!(ask(&["compile", &rules, out]), failed(&due));
+        assert_eq!(fs::read(&rules).unwrap(), text);
+    }
+}
+
+#[test]
+fn rules_without_figures_are_compiled() {
+    let folder = Folder::new("rules_without_figures_are_compiled");
+    let path = folder.path("always");
+    let text = b"monitor x : forall y in x..infinity : @y.0\n";
+    assert_eq!(ask_with_input(&["compile", "-", &path], text).2, 0);
+    assert_eq!(fs::read(&path).unwrap(), fs::read(folder.sheet(&[ALWAYS])).unwrap());
+}
+
+#[test]
+fn refused_lines() {
+    let folder = Folder::new("refused_lines");
+    let (none, kept) = (folder.path("none"), folder.file("kept", b"as it was"));
+    let refused = |text: &[u8], said: &str| {
+        for path in [&none, &kept] {
+            let due = out(&format!("{said}\n"), 1);
+            assert_eq!(ask_with_input(&["compile", "-", path], text), due, "{text:?}");
+        }
+        assert!(!Path::new(&none).exists());
+        assert_eq!(fs::read(&kept).unwrap(), b"as it was");
+    };
+    let misspelt = "refused 25: the text is misspelt or above 4,096 bytes";
+    refused(b"monitor x : @x.0 \n", &format!("line 1 column 17 {misspelt}"));
+    refused(b"monitor x : @x.0\r\r\n", &format!("line 1 column 17 {misspelt}"));
+    refused(b"monitor x : @x.0\r", &format!("line 1 column 17 {misspelt}"));
+    refused(b"#\n\nmonitor x : (@x.0\n", &format!("line 3 column 18 {misspelt}"));
+    refused(b"monitor x : @x.0\n #\n", &format!("line 2 column 1 {misspelt}"));
+    refused(b"monitor x : @x.0\n\xC3\xA9\n", &format!("line 2 column 1 {misspelt}"));
+    refused(&[b'~'; 5_000], &format!("line 1 column 1 {misspelt}"));
+    let deep =
+        |count| ["monitor x : ".to_string(), "~".repeat(count), "@x.0\n".to_string()].concat();
+    refused(deep(4_081).as_bytes(), &format!("line 1 column 4097 {misspelt}"));
+    refused(deep(1_000_000).as_bytes(), &format!("line 1 column 4097 {misspelt}"));
+    let brackets = format!("monitor x : {}", "(".repeat(4_080));
+    refused(brackets.as_bytes(), &format!("line 1 column 4093 {misspelt}"));
+    let line = "line 1 refused";
+    refused(b"monitor x : @y.0\n", &format!("{line} 26: a name that is not bound here"));
+    refused(b"monitor x : @x.8\n", &format!("{line} 7: a flag above 7"));
+    let large = format!("{line} 9: a 65th formula or a 5th nested quantifier");
+    refused(deep(4_080).as_bytes(), &large);
+    // The first refused line is told.
+    refused(b"monitor x : @x.9\nmonitor\n", &format!("{line} 7: a flag above 7"));
+}
+
+#[test]
+fn files_of_no_and_of_too_many_rules() {
+    let folder = Folder::new("files_of_no_and_of_too_many_rules");
+    let path = folder.path("none");
+    let first = "refused 1: sheet empty, not 1 to 32 rules, or its table of contents is cut short";
+    let rules = |count| "monitor x : @x.0\n".repeat(count);
+    for (text, count) in [(String::new(), 0), ("# none\n\n".to_string(), 0), (rules(33), 33)] {
+        let due = out(&format!("rules {count} {first}\n"), 1);
+        assert_eq!(ask_with_input(&["compile", "-", &path], text.as_bytes()), due);
+        assert!(!Path::new(&path).exists());
+    }
+    let due = out(&format!("sheet {path} rules 32 bytes 225\n"), 0);
+    assert_eq!(ask_with_input(&["compile", "-", &path], rules(32).as_bytes()), due);
+}
+
+/// A file of rules has at most a megabyte.
+#[test]
+fn long_files_of_rules() {
+    let folder = Folder::new("long_files_of_rules");
+    let path = folder.path("out");
+    let mut text = format!("{TYPED}\n#").into_bytes();
+    text.resize(1 << 20, b'.');
+    let due = out(&format!("sheet {path} rules 1 bytes 22\n"), 0);
+    assert_eq!(ask(&["compile", &folder.file("long", &text), &path]), due);
+    text.push(b'.');
+    let long = folder.file("long", &text);
+    let due = format!("station-watch: cannot read {long}: more than 1,048,576 bytes\n");
+    assert_eq!(ask(&["compile", &long, &path]), failed(&due));
+    let due = "station-watch: cannot read standard input: more than 1,048,576 bytes\n";
+    let mut command = command(&["compile", "-", &path]);
+    let said = said(command.stdin(File::open("/dev/zero").unwrap()).output().unwrap());
+    assert_eq!(said, failed(due));
+}
+
+#[test]
+fn the_example_is_printed() {
+    let folder = Folder::new("the_example_is_printed");
+    let due = format!("# rule 0 history 1 delay 2 cells 21\n{TYPED}\n");
+    assert_eq!(ask(&["print", &folder.sheet(&[EXAMPLE])]), out(&due, 0));
+}
+
+/// Every rule has its text, also one that cannot be watched live, and the text compiles to
+/// the same sheet.
+#[test]
+fn what_is_printed_compiles_to_the_same_sheet() {
+    let folder = Folder::new("what_is_printed_compiles_to_the_same_sheet");
+    let far = "05 0000FF0F 020001F0 05 02010000 02010000 05 02020000 02020000 \
+               05 02030000 02030000 03 01 04 07 02 01 03 00";
+    let sheet = folder.sheet(&[EXAMPLE, WIDE, "010000", ALWAYS, far]);
+    let due = "# rule 0 history 1 delay 2 cells 21\n\
+               monitor x : ~(@x.0 /\\ forall y in x-1..x+2 : @y.0)\n\
+               # rule 1 refused 15: more than 4,096 cells\n\
+               monitor x : forall y in x..x+63 : @y.0\n\
+               # rule 2 history 0 delay 0 cells 1\n\
+               monitor x : @x.0\n\
+               # rule 3 refused 11: the delay is infinite\n\
+               monitor x : forall y in x..infinity : @y.0\n\
+               # rule 4 refused 13: the history is infinite\n\
+               monitor x : forall y in 0+4095..x-4095 : forall z in y..y : forall u in z..z : \
+               forall v in u..u : (@v.7 && ~@u.0)\n";
+    let printed = ask(&["print", &sheet]);
+    assert_eq!(printed, out(due, 0));
+    let again = folder.path("again");
+    assert_eq!(ask_with_input(&["compile", "-", &again], printed.0.as_bytes()).2, 0);
+    assert_eq!(fs::read(&again).unwrap(), fs::read(&sheet).unwrap());
+}
+
+/// A body that is refused by its bytes has no text, and the status says that it is missing.
+#[test]
+fn bodies_without_a_text() {
+    let folder = Folder::new("bodies_without_a_text");
+    let sheet = folder.sheet(&["010008", EXAMPLE, "00"]);
+    let due = format!(
+        "# rule 0 refused 7: a flag above 7\n\
+         # no text: 01 00 08\n\
+         # rule 1 history 1 delay 2 cells 21\n\
+         {TYPED}\n\
+         # rule 2 refused 5: unknown code or kind\n\
+         # no text: 00\n"
+    );
+    assert_eq!(ask(&["print", &sheet]), out(&due, 1));
+    // What has a text compiles.
+    let rest = folder.path("rest");
+    let due_sheet = out(&format!("sheet {rest} rules 1 bytes 22\n"), 0);
+    assert_eq!(ask_with_input(&["compile", "-", &rest], due.as_bytes()), due_sheet);
+}
+
+#[test]
+fn no_sheet_is_printed() {
+    let folder = Folder::new("no_sheet_is_printed");
+    let first =
+        "refused 1: sheet empty, not 1 to 32 rules, or its table of contents is cut short\n";
+    assert_eq!(ask(&["print", &folder.file("empty", &[])]), out(first, 1));
+}
+
 #[test]
 fn bodies_that_are_no_bytes() {
     let folder = Folder::new("bodies_that_are_no_bytes");
@@ -270,6 +443,12 @@ fn wrong_arguments() {
     let due = "station-watch: sheet: wrong number of arguments (0)\n\
                usage: station-watch sheet OUT BODY..\n";
     assert_eq!(ask(&["sheet"]), failed(due));
+    let due = "station-watch: compile: wrong number of arguments (1)\n\
+               usage: station-watch compile RULES SHEET\n";
+    assert_eq!(ask(&["compile", "-"]), failed(due));
+    let due = "station-watch: print: wrong number of arguments (0)\n\
+               usage: station-watch print SHEET\n";
+    assert_eq!(ask(&["print"]), failed(due));
 }
 
 #[test]
@@ -277,7 +456,14 @@ fn usage() {
     let (all, nothing, status) = ask(&["--help"]);
     assert_eq!((nothing.as_str(), status), ("", 0));
     assert!(all.starts_with("usage: station-watch COMMAND ARGUMENT..\n"));
-    for command in ["figures SHEET", "outcome SHEET RULE FLAGS TICK", "sheet OUT BODY.."] {
+    let commands = [
+        "compile RULES SHEET",
+        "figures SHEET",
+        "outcome SHEET RULE FLAGS TICK",
+        "print SHEET",
+        "sheet OUT BODY..",
+    ];
+    for command in commands {
         assert!(all.contains(&format!("\n  {command} ")), "{command}");
         let name = command.split(' ').next().unwrap();
         let (own, nothing, status) = ask(&["help", name]);
@@ -322,9 +508,31 @@ fn the_example_of_the_usage() {
     assert!(status == 0 && shown.ends_with(&format!("  {line}")), "{line}");
 }
 
+/// The lines that `help compile` and `help print` show are what the commands print.
+#[test]
+fn the_examples_of_rules_in_the_usage() {
+    let folder = Folder::new("the_examples_of_rules_in_the_usage");
+    let shows = |shown: &str, lines: &str| {
+        lines.lines().for_each(|line| assert!(shown.contains(&format!("\n  {line}\n")), "{line}"));
+    };
+    let shown = ask(&["help", "compile"]).0;
+    shows(&shown, TYPED);
+    let here = |words: &[&str], rules: &str| {
+        folder.file("rules.txt", rules.as_bytes());
+        said(command(words).current_dir(&folder.0).output().unwrap()).0
+    };
+    let words = ["compile", "rules.txt", "watch.sheet"];
+    shows(&shown, &format!("station-watch {}", words.join(" ")));
+    shows(&shown, &here(&words, &format!("{TYPED}\n")));
+    shows(&shown, &here(&words, "\n\nmonitor x : @x.0 \n"));
+    shows(&shown, &here(&words, "\n\n\nmonitor x : @y.0\n"));
+    folder.sheet(&[EXAMPLE, "010008"]);
+    shows(&ask(&["help", "print"]).0, &here(&["print", "watch.sheet"], ""));
+}
+
 #[test]
 fn version() {
-    assert_eq!(ask(&["--version"]), out("station-watch 0.3.0\n", 0));
+    assert_eq!(ask(&["--version"]), out("station-watch 0.4.0\n", 0));
 }
 
 #[test]
@@ -334,6 +542,8 @@ fn files_that_cannot_be_read() {
     let missing = format!("cannot read {none}: No such file or directory (os error 2)");
     let missing = failed(&format!("station-watch: {missing}\n"));
     assert_eq!(ask(&["figures", &none]), missing);
+    assert_eq!(ask(&["print", &none]), missing);
+    assert_eq!(ask(&["compile", &none, &sheet]), missing);
     assert_eq!(ask(&["outcome", &none, "0", &sheet, "0"]), missing);
     assert_eq!(ask(&["outcome", &sheet, "0", &none, "0"]), missing);
     let inside = format!("{sheet}/a"); // its folder is a file
@@ -351,6 +561,10 @@ fn input_that_cannot_be_read() {
     let said = said(command.stdin(File::open("/").unwrap()).output().unwrap());
     let due = "station-watch: cannot read standard input: Is a directory (os error 21)\n";
     assert_eq!(said, failed(due));
+    let mut command = self::command(&["compile", "-", &folder.path("none")]);
+    let said = self::said(command.stdin(File::open("/").unwrap()).output().unwrap());
+    assert_eq!(said, failed(due));
+    assert!(!Path::new(&folder.path("none")).exists());
 }
 
 #[test]
@@ -361,6 +575,8 @@ fn files_that_cannot_be_written() {
     assert_eq!(ask(&["sheet", &inside, "010000"]), failed(&format!("station-watch: {due}\n")));
     let due = "station-watch: cannot write /dev/full: No space left on device (os error 28)\n";
     assert_eq!(ask(&["sheet", "/dev/full", "010000"]), failed(due));
+    let rules = folder.file("rules", TYPED.as_bytes());
+    assert_eq!(ask(&["compile", &rules, "/dev/full"]), failed(due));
     // A device that keeps nothing, and never says so late.
     assert_eq!(ask(&["sheet", "/dev/null", "010000"]), out("sheet /dev/null rules 1 bytes 8\n", 0));
 }
@@ -371,7 +587,8 @@ fn output_on_a_full_device() {
     let sheet = folder.sheet(&[EXAMPLE]);
     let due =
         "station-watch: cannot write standard output: No space left on device (os error 28)\n";
-    for words in [&["figures", &sheet][..], &["figures", "/dev/null"], &["help"], &["--version"]] {
+    let words = [&["figures", &sheet][..], &["figures", "/dev/null"], &["help"], &["--version"]];
+    for words in words.into_iter().chain([&["print", &sheet][..]]) {
         let mut command = command(words);
         let full = File::options().write(true).open("/dev/full").unwrap();
         assert_eq!(said(command.stdout(full).output().unwrap()), failed(due), "{words:?}");

@@ -8,11 +8,10 @@
 //! [`Watch`] runs a rule on a live stream:
 //!
 //! ```
-//! use station_watch::{sheet_of, Pair, Refusal, Watch};
+//! use station_watch::{body_from_text, sheet_of, Pair, Refusal, Watch};
 //!
-//! // Not (flag 0 at X, beside: for all Y from X - 1 to X + 2, flag 0 at Y): a detector
-//! // that is up may not stay up from one tick before to two ticks after.
-//! let body = [2, 4, 1, 0, 0, 5, 2, 0, 0xFF, 0xFF, 2, 0, 2, 0, 1, 1, 0];
+//! // A detector that is up may not stay up from one tick before to two ticks after.
+//! let body = body_from_text("monitor x : ~(@x.0 /\\ forall y in x-1..x+2 : @y.0)")?;
 //! let sheet = sheet_of(&[&body])?;
 //!
 //! let mut watch = Watch::open(&sheet, 0)?;
@@ -27,12 +26,14 @@
 //!
 //! [`State`] is the same over memory that the caller lends, as in C. [`figures`] says
 //! what a rule needs, [`outcome`] how it stands at a tick of a recording,
-//! [`rule_body`], [`bodies`] and [`write_sheet`] read and write sheets. A call that cannot be
-//! answered gives a [`Refusal`] and has changed nothing; only [`Watch::steps`] may have
-//! taken some of its flags before tick numbers were used up.
+//! [`rule_body`], [`bodies`] and [`write_sheet`] read and write sheets, [`rule_from_text`] and
+//! [`rule_to_text`] rules as text. A call that cannot be answered gives a [`Refusal`] and has
+//! changed nothing; only [`Watch::steps`] may have taken some of its flags before tick
+//! numbers were used up.
 //!
 //! The crate needs no `std`. Without its feature `alloc`, which is on unless it is
-//! turned off, `Watch` and `sheet_of` are gone and nothing is allocated.
+//! turned off, `Watch`, `sheet_of`, `body_from_text` and `text_from_body` are gone and
+//! nothing is allocated.
 //!
 //! [`raw`] has the functions as C sees them. All `unsafe` of this crate are calls of
 //! these with the pointer and length of a slice, and one view of pairs as words.
@@ -54,13 +55,14 @@ mod sheet;
 mod state;
 #[cfg(feature = "alloc")]
 mod stored;
+mod text;
 #[cfg(feature = "alloc")]
 mod watch;
 
 /// The version of this crate, which is that of the library.
 ///
 /// ```
-/// assert_eq!(station_watch::VERSION, "0.3.0");
+/// assert_eq!(station_watch::VERSION, "0.4.0");
 /// ```
 pub const VERSION: &str = env!("CARGO_PKG_VERSION");
 
@@ -73,5 +75,8 @@ pub use report::{Pair, Step, Steps};
 pub use sheet::sheet_of;
 pub use sheet::{bodies, rule_body, write_sheet};
 pub use state::State;
+#[cfg(feature = "alloc")]
+pub use text::{body_from_text, text_from_body};
+pub use text::{rule_from_text, rule_to_text};
 #[cfg(feature = "alloc")]
 pub use watch::Watch;

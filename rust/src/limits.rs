@@ -1,4 +1,4 @@
-//! The sizes that the scope document fixes, and the library's own.
+//! The sizes that the papers fix, and the library's own.
 
 /// The most rules of a sheet.
 pub const MAX_RULES: usize = 32;
@@ -13,6 +13,9 @@ pub const MAX_BODY: usize = 512;
 /// assert_eq!(station_watch::MAX_SHEET, 16_513);
 /// ```
 pub const MAX_SHEET: usize = 1 + MAX_RULES * (4 + MAX_BODY);
+
+/// The most bytes of a rule's text; enough also for the text of any body.
+pub const MAX_TEXT: usize = 4_096;
 
 /// The most flag bytes of a recording.
 pub const MAX_RECORDING: usize = 65_535;

@@ -43,6 +43,24 @@ extern "C" {
         written: *mut usize,
     ) -> u32;
 
+    /// The body of a rule's text.
+    pub fn sw_rule_from_text(
+        text: *const u8,
+        text_len: usize,
+        body: *mut u8,
+        body_len: usize,
+        written: *mut usize,
+    ) -> u32;
+
+    /// A body as text.
+    pub fn sw_rule_to_text(
+        body: *const u8,
+        body_len: usize,
+        text: *mut u8,
+        text_len: usize,
+        written: *mut usize,
+    ) -> u32;
+
     /// The figures of a body.
     pub fn sw_figures(
         body: *const u8,

@@ -67,6 +67,10 @@ pub enum Refusal {
     VariableByteNotZero,
     /// 24: an infinity with an offset.
     OffsetOnInfinity,
+    /// 25: the text is misspelt or above 4,096 bytes.
+    Misspelt,
+    /// 26: a name that is not bound here.
+    UnboundName,
     /// A number that this version has no name for: the library that was linked is a
     /// later one. Only `from_number` makes it, so that no refusal has two forms:
     ///
@@ -81,7 +85,7 @@ pub enum Refusal {
 }
 
 /// Every refusal that has a name; number n stands at place n - 1.
-const NAMED: [Refusal; 24] = [
+const NAMED: [Refusal; 26] = [
     Refusal::RuleCount,
     Refusal::EntryLayout,
     Refusal::NoSuchRule,
@@ -106,6 +110,8 @@ const NAMED: [Refusal; 24] = [
     Refusal::BufferTooShort,
     Refusal::VariableByteNotZero,
     Refusal::OffsetOnInfinity,
+    Refusal::Misspelt,
+    Refusal::UnboundName,
 ];
 
 impl Refusal {

@@ -3,7 +3,7 @@
 
 mod common;
 
-use common::{sheet, BODY, FIGURES, FLAG, FLAGS, LATE};
+use common::{sheet, BODY, FIGURES, FLAG, FLAGS, LATE, TEXT};
 use station_watch::*;
 
 /// What the caller lends for the example rule.
@@ -48,6 +48,40 @@ fn all_bodies_of_a_sheet() {
 fn entries(count: u16) -> Vec<u8> {
     let entry = |rule: u16| [(1 + 4 * count + 3 * rule).to_le_bytes(), [3, 0]].concat();
     (0..count).flat_map(entry).collect()
+}
+
+#[test]
+fn a_typed_rule_is_its_body() {
+    let mut body = [0xEE; 20];
+    assert_eq!(rule_from_text(TEXT.as_bytes(), &mut body), Ok(17));
+    assert_eq!(body[..17], BODY);
+    assert_eq!(body[17..], [0xEE; 3]);
+    let mut body = [0xEE; 17];
+    assert_eq!(rule_from_text(TEXT.as_bytes(), &mut body), Ok(17));
+    assert_eq!(body, BODY);
+}
+
+#[test]
+fn a_body_is_printed() {
+    let mut text = [0xEE; 60];
+    assert_eq!(rule_to_text(&BODY, &mut text), Ok(TEXT.len()));
+    assert_eq!(text[..TEXT.len()], *TEXT.as_bytes());
+    assert_eq!(text[TEXT.len()..], [0xEE; 60][TEXT.len()..]);
+    let mut text = vec![0xEE; TEXT.len()];
+    assert_eq!(rule_to_text(&BODY, &mut text), Ok(TEXT.len()));
+    assert_eq!(text, TEXT.as_bytes());
+}
+
+#[test]
+fn refused_texts_change_nothing() {
+    let (mut body, mut text) = ([0xEE; 17], [0xEE; 49]);
+    for wrong in ["", "monitor x : @y.0", "monitor x : @x.8", &format!("{TEXT} ")] {
+        assert!(rule_from_text(wrong.as_bytes(), &mut body).is_err(), "{wrong}");
+    }
+    assert!(rule_from_text(TEXT.as_bytes(), &mut body[..16]).is_err());
+    assert!(rule_to_text(&BODY[..16], &mut text).is_err());
+    assert!(rule_to_text(&BODY, &mut text[..TEXT.len() - 1]).is_err());
+    assert_eq!((body, text), ([0xEE; 17], [0xEE; 49]));
 }
 
 #[test]
@@ -183,12 +217,12 @@ fn the_body_of_any_state() {
     assert_eq!(State::from_bytes(longest).body(), [1; 512]);
 }
 
-/// The sizes that document 01 states.
+/// The sizes that the papers state.
 #[test]
 fn limits() {
     assert_eq!((MAX_RULES, MAX_BODY, MAX_SHEET), (32, 512, 16_513));
     assert_eq!((MAX_HISTORY, MAX_DELAY, MAX_CELLS), (4_096, 255, 4_096));
     assert_eq!((CELL_WORDS, MAX_CELL_WORDS, MAX_REPORT), (4, 16_384, 256));
-    assert_eq!((MAX_RECORDING, MAX_TICKS), (65_535, 4_294_967_295));
-    assert_eq!((STATE_BYTES, MAX_SENTENCE, VERSION), (544, 128, "0.3.0"));
+    assert_eq!((MAX_RECORDING, MAX_TICKS, MAX_TEXT), (65_535, 4_294_967_295, 4_096));
+    assert_eq!((STATE_BYTES, MAX_SENTENCE, VERSION), (544, 128, "0.4.0"));
 }

@@ -2,15 +2,15 @@
 
 mod common;
 
-use common::{sheet, BODY, FLAG};
+use common::{sheet, BODY, FLAG, TEXT};
 use station_watch::{
-    figures, outcome, rule_body, write_sheet, Pair, Refusal, State, MAX_RECORDING, MAX_TICKS,
-    STATE_BYTES,
+    figures, outcome, rule_body, rule_from_text, rule_to_text, write_sheet, Pair, Refusal, State,
+    MAX_BODY, MAX_RECORDING, MAX_TEXT, MAX_TICKS, STATE_BYTES,
 };
 use std::error::Error;
 
 /// The last number with a name.
-const LAST: u32 = 24;
+const LAST: u32 = 26;
 
 /// Numbers 1 to `LAST` have names, and the docs of each name are the library's sentence.
 #[test]
@@ -64,6 +64,40 @@ fn of_the_writer() {
     assert_eq!(write_sheet(&[], &BODY, &mut [0; 30]), Err(Refusal::RuleCount));
     assert_eq!(write_sheet(&[16], &BODY, &mut [0; 30]), Err(Refusal::EntryLayout));
     assert_eq!(write_sheet(&[17], &BODY, &mut [0; 21]), Err(Refusal::BufferTooShort));
+}
+
+#[test]
+fn of_a_text() {
+    let refused = |text: &str| rule_from_text(text.as_bytes(), &mut [0; MAX_BODY]).unwrap_err();
+    assert_eq!(refused(""), Refusal::Misspelt);
+    assert_eq!(refused("monitor x : @x.0\n"), Refusal::Misspelt);
+    assert_eq!(refused("monitor in : @in.0"), Refusal::Misspelt);
+    assert_eq!(refused(&format!("monitor x : {}@x.0", "~".repeat(4_081))), Refusal::Misspelt);
+    assert_eq!(refused("monitor x : @y.0"), Refusal::UnboundName);
+    assert_eq!(refused("monitor x : forall y in y..x : @y.0"), Refusal::UnboundName);
+    assert_eq!(refused("monitor x : @x.8"), Refusal::NoSuchFlag);
+    assert_eq!(refused("monitor x : forall y in x..x+4096 : @y.0"), Refusal::OffsetOutOfRange);
+    assert_eq!(refused(&format!("monitor x : {}@x.0", "~".repeat(4_080))), Refusal::BodyTooLarge);
+    assert_eq!(refused("monitor x : forall y in x..infinity+1 : @y.0"), Refusal::OffsetOnInfinity);
+    // In this order.
+    assert_eq!(refused("monitor x : (@x.8 && (@y.0 && @x.0)"), Refusal::Misspelt);
+    assert_eq!(refused("monitor x : (@x.8 && @y.0)"), Refusal::UnboundName);
+    let short = |text: &str| rule_from_text(text.as_bytes(), &mut []).unwrap_err();
+    assert_eq!(short("monitor x : @x.8"), Refusal::NoSuchFlag);
+    assert_eq!(short("monitor x : @x.7"), Refusal::BufferTooShort);
+}
+
+#[test]
+fn of_a_printed_body() {
+    let refused = |body: &[u8]| rule_to_text(body, &mut [0; MAX_TEXT]).unwrap_err();
+    assert_eq!(refused(&[]), Refusal::BodyEndsEarly);
+    assert_eq!(refused(&[6]), Refusal::UnknownCode);
+    assert_eq!(refused(&[1, 1, 0]), Refusal::UnboundVariable);
+    assert_eq!(refused(&[1, 0, 8]), Refusal::NoSuchFlag);
+    assert_eq!(refused(&[1, 0, 0, 0]), Refusal::BytesLeftOver);
+    assert_eq!(rule_to_text(&[1, 0, 8], &mut []), Err(Refusal::NoSuchFlag));
+    let room = TEXT.len() - 1;
+    assert_eq!(rule_to_text(&BODY, &mut vec![0; room]), Err(Refusal::BufferTooShort));
 }
 
 #[test]

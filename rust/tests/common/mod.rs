@@ -4,7 +4,8 @@
 use station_watch::{write_sheet, Figures};
 
 /// Document 01's example: not (flag 0 at X, beside: for all Y from X - 1 to X + 2,
-/// flag 0 at Y), its flag bytes and its figures.
+/// flag 0 at Y), as text and as bytes, its flag bytes and its figures.
+pub const TEXT: &str = "monitor x : ~(@x.0 /\\ forall y in x-1..x+2 : @y.0)";
 pub const BODY: [u8; 17] = [2, 4, 1, 0, 0, 5, 2, 0, 0xFF, 0xFF, 2, 0, 2, 0, 1, 1, 0];
 pub const FLAGS: [u8; 10] = [0, 1, 1, 0, 1, 1, 1, 1, 0, 0];
 pub const FIGURES: Figures = Figures { history: 1, delay: 2, cells: 21 };
