@@ -1,6 +1,7 @@
 /* The deepest stack of each function of the library, over bodies that nest as deep
- * as a body can. Prints for each function the bytes and the body that took them, and
- * fails if one takes more than the header's SW_MAX_STACK.
+ * as a body can, and texts that nest as deep as a text can. Prints for each function the
+ * bytes and the body or text that took them, and fails if one takes more than the header's
+ * SW_MAX_STACK.
  *
  * Each call runs on a thread with a stack of its own, which is painted below the
  * caller's frame before the call. The lowest byte that the call changed says how
@@ -109,9 +110,31 @@ static void make_way(const char *letters, enum place place, char way[MAX_FORMULA
     way[step] = 0;
 }
 
+/* ---- texts: signs again and again before a flag, and their ends after it. No body is
+ * that deep, so that they are refused, but only when all of a text has been read */
+
+static const struct deep {
+    const char *before;
+    const char *after;
+    uint32_t answer;
+} deep_texts[] = {
+    { "~", "", SW_BODY_TOO_LARGE },
+    { "(", " && @x.0)", SW_BODY_TOO_LARGE },
+    { "(@x.0 /\\ ", ")", SW_BODY_TOO_LARGE },
+    { "~(~", " /\\ ~@x.0)", SW_BODY_TOO_LARGE },
+    { "forall y in 0..0 : ", "", SW_BODY_TOO_LARGE },
+    { "~forall y in x..x : ", "", SW_BODY_TOO_LARGE },
+    { "forall y in x..x : (", " && @x.0)", SW_BODY_TOO_LARGE },
+    { "(@x.0 && forall y in x..x : ", ")", SW_BODY_TOO_LARGE },
+    { "(", "", SW_MISSPELT },
+    { "~", " ", SW_MISSPELT },
+};
+
 /* ---- what is lent to the functions, none of it on the thread's stack */
 
 static struct body body;
+static uint8_t text[SW_MAX_TEXT];
+static size_t text_size;
 static uint8_t sheet[MAX_SHEET];
 static size_t sheet_size;
 static uint8_t state[SW_STATE_BYTES];
@@ -143,6 +166,20 @@ static uint32_t call_write(void)
     for (int k = 0; k < SW_MAX_RULES; k++)
         lengths[k] = 16;
     return sw_write_sheet(lengths, SW_MAX_RULES, bodies, sizeof bodies, out, sizeof out, &numbers[0]);
+}
+
+static uint32_t call_from_text(void)
+{
+    static uint8_t out[SW_MAX_BODY];
+
+    return sw_rule_from_text(text, text_size, out, sizeof out, &numbers[0]);
+}
+
+static uint32_t call_to_text(void)
+{
+    static uint8_t out[SW_MAX_TEXT];
+
+    return sw_rule_to_text(body.bytes, body.size, out, sizeof out, &numbers[0]);
 }
 
 static uint32_t call_figures(void)
@@ -191,6 +228,8 @@ static struct function {
 } functions[] = {
     { "sw_rule_place", call_place, 0, "" },
     { "sw_write_sheet", call_write, 0, "" },
+    { "sw_rule_from_text", call_from_text, 0, "" },
+    { "sw_rule_to_text", call_to_text, 0, "" },
     { "sw_figures", call_figures, 0, "" },
     { "sw_outcome", call_outcome, 0, "" },
     { "sw_open", call_open, 0, "" },
@@ -259,11 +298,11 @@ static size_t depth_of(uint32_t (*call)(void))
     return deepest;
 }
 
-static void measure(struct function *f, const char *name)
+static void measure(struct function *f, const char *name, uint32_t due)
 {
     size_t deep = depth_of(f->call);
 
-    if (answered != 0) {
+    if (answered != due) {
         fprintf(stderr, "stack: %s answers %u for %s\n", f->name, (unsigned)answered, name);
         exit(2);
     }
@@ -273,12 +312,14 @@ static void measure(struct function *f, const char *name)
     }
 }
 
-/* The body of one way, its sheet, and its opening. */
+/* The body of one way, its text, its sheet, and its opening. */
 static void prepare(const char *way)
 {
     body.size = 0;
     body.formulas = 0;
     put_way(&body, way, 0);
+    if (sw_rule_to_text(body.bytes, body.size, text, sizeof text, &text_size) != 0)
+        fail("a body has no text");
     sheet_size = sheet_of(&body, sheet);
     if (call_open() != 0)
         fail("a body cannot be opened");
@@ -288,7 +329,7 @@ static void measure_all(const char *way, const char *name)
 {
     for (int k = 0; k < FUNCTIONS; k++) {
         prepare(way);
-        measure(&functions[k], name);
+        measure(&functions[k], name, 0);
     }
 }
 
@@ -303,6 +344,45 @@ static void measure_shapes(void)
             snprintf(name, sizeof name, "%s%s", patterns[k].name, ranges_at[place].name);
             measure_all(way, name);
         }
+}
+
+static void put_text(const char *part, size_t count)
+{
+    size_t size = strlen(part);
+
+    for (size_t k = 0; k < count; k++) {
+        memcpy(text + text_size, part, size);
+        text_size += size;
+    }
+}
+
+/* The signs as often as there is room. */
+static size_t prepare_text(const struct deep *deep)
+{
+    size_t room = sizeof text - strlen("monitor x : @x.0");
+    size_t count = room / (strlen(deep->before) + strlen(deep->after));
+
+    text_size = 0;
+    put_text("monitor x : ", 1);
+    put_text(deep->before, count);
+    put_text("@x.0", 1);
+    put_text(deep->after, count);
+    return count;
+}
+
+static void measure_texts(void)
+{
+    struct function *from_text = functions;
+
+    while (from_text->call != call_from_text)
+        from_text++;
+    for (size_t k = 0; k < sizeof deep_texts / sizeof deep_texts[0]; k++) {
+        char name[NAME];
+        size_t count = prepare_text(&deep_texts[k]);
+
+        snprintf(name, sizeof name, "text, %zu times \"%s\"", count, deep_texts[k].before);
+        measure(from_text, name, deep_texts[k].answer);
+    }
 }
 
 /* Calls everything once, so that the loader has bound what the library calls. */
@@ -322,9 +402,10 @@ int main(void)
         fail("an empty call takes stack");
     bind_calls();
     measure_shapes();
+    measure_texts();
     for (int k = 0; k < FUNCTIONS; k++) {
         const struct function *f = &functions[k];
-        printf("%-14s %6zu bytes  %s\n", f->name, f->deepest, f->body);
+        printf("%-17s %6zu bytes  %s\n", f->name, f->deepest, f->body);
         if (f->deepest > SW_MAX_STACK) {
             printf("%s takes more than %d bytes of stack\n", f->name, SW_MAX_STACK);
             status = 1;

@@ -1,22 +1,18 @@
-/* Opens the example rule of the scope document, takes its ten flag bytes one by one, and
- * prints its figures, violations and end. */
+/* Makes a sheet of the example rule of the scope document, which is typed here, opens it,
+ * takes its ten flag bytes one by one, and prints its figures, violations and end. */
 #include <inttypes.h>
 #include <stdio.h>
+#include <string.h>
 
 #include "station_watch.h"
 
-static const uint8_t sheet[] = {
-    0x01, 0x05, 0x00, 0x11, 0x00, /* one rule: its body begins at 5 and has 17 bytes */
-    0x02, 0x04,                   /* not (.. beside ..) */
-    0x01, 0x00, 0x00,             /* flag 0 at X */
-    0x05, 0x02, 0x00, 0xFF, 0xFF, /* for all Y from X - 1 .. */
-    0x02, 0x00, 0x02, 0x00,       /* .. to X + 2: */
-    0x01, 0x01, 0x00,             /* flag 0 at Y */
-};
+static const char text[] = "monitor x : ~(@x.0 /\\ forall y in x-1..x+2 : @y.0)";
 
 static const uint8_t flags[] = {0, 1, 1, 0, 1, 1, 1, 1, 0, 0};
 
 /* Room for any rule. */
+static uint8_t body[SW_MAX_BODY];
+static uint8_t sheet[SW_MAX_SHEET];
 static uint8_t history[SW_MAX_HISTORY];
 static uint32_t cells[SW_MAX_CELL_WORDS];
 static uint32_t report[SW_MAX_REPORT];
@@ -33,19 +29,26 @@ static int refused(uint32_t number)
 
 int main(void)
 {
-    size_t start, size;
-    uint32_t number = sw_rule_place(sheet, sizeof sheet, 0, &start, &size);
+    size_t size;
+    uint32_t number = sw_rule_from_text((const uint8_t *)text, strlen(text), body, sizeof body, &size);
     if (number != SW_OK)
         return refused(number);
 
     uint64_t h, delay, needed;
-    number = sw_figures(sheet + start, size, &h, &delay, &needed);
+    number = sw_figures(body, size, &h, &delay, &needed);
     if (number != SW_OK)
         return refused(number);
     printf("rule 0 history %" PRIu64 " delay %" PRIu64 " cells %" PRIu64 "\n", h, delay, needed);
 
+    /* A sheet of this one rule. */
+    uint16_t length = (uint16_t)size;
+    size_t sheet_len;
+    number = sw_write_sheet(&length, 1, body, size, sheet, sizeof sheet, &sheet_len);
+    if (number != SW_OK)
+        return refused(number);
+
     /* A history of as many bytes as it needs. */
-    number = sw_open(sheet, sizeof sheet, 0, history, (size_t)h, cells, SW_MAX_CELL_WORDS, state);
+    number = sw_open(sheet, sheet_len, 0, history, (size_t)h, cells, SW_MAX_CELL_WORDS, state);
     if (number != SW_OK)
         return refused(number);
 

@@ -172,6 +172,105 @@ static void bodies(void)
     SAME(SW_BODY_TOO_LARGE, figures_are(nots, 67, 0, 0, 0));
 }
 
+/* ---- 25, 26: rules as text ---- */
+
+static const char example_text[] = "monitor x : ~(@x.0 /\\ forall y in x-1..x+2 : @y.0)";
+
+/* Reads so many bytes of a text into a buffer of `room` bytes. Nothing but the body is
+ * written; it is left in `body_read`. */
+static uint8_t body_read[SW_MAX_BODY + 1];
+
+static uint32_t read_text(const char *text, size_t len, size_t room)
+{
+    size_t written = 80;
+    memset(body_read, 0xAA, sizeof body_read);
+    uint32_t number = sw_rule_from_text((const uint8_t *)text, len, body_read, room, &written);
+    if (number != SW_OK) {
+        SAME(80, written);
+        written = 0;
+    }
+    for (size_t i = written; i < sizeof body_read; i++)
+        SAME(0xAA, body_read[i]);
+    return number;
+}
+
+#define READ(number, text) SAME(number, read_text(text, sizeof text - 1, SW_MAX_BODY))
+
+/* The same for a body that is printed. */
+static uint8_t text_printed[SW_MAX_TEXT + 1];
+
+static uint32_t print_body(const uint8_t *body, size_t len, size_t room)
+{
+    size_t written = 81;
+    memset(text_printed, 0xAA, sizeof text_printed);
+    uint32_t number = sw_rule_to_text(body, len, text_printed, room, &written);
+    if (number != SW_OK) {
+        SAME(81, written);
+        written = 0;
+    }
+    for (size_t i = written; i < sizeof text_printed; i++)
+        SAME(0xAA, text_printed[i]);
+    return number;
+}
+
+/* A rule of so many nots. */
+static char deep_text[SW_MAX_TEXT + 2];
+
+static size_t write_nots(size_t count)
+{
+    static const char begin[] = "monitor x : ", end[] = "@x.0";
+    memcpy(deep_text, begin, sizeof begin - 1);
+    memset(deep_text + sizeof begin - 1, '~', count);
+    memcpy(deep_text + sizeof begin - 1 + count, end, sizeof end - 1);
+    return sizeof begin - 1 + count + sizeof end - 1;
+}
+
+static void texts(void)
+{
+    size_t example_len = sizeof example_text - 1;
+    SAME(SW_OK, read_text(example_text, example_len, SW_MAX_BODY));
+    SAME(0, memcmp(body_read, example, sizeof example));
+    SAME(SW_OK, read_text(example_text, example_len, sizeof example));
+    SAME(0, memcmp(body_read, example, sizeof example));
+    SAME(SW_BUFFER_TOO_SHORT, read_text(example_text, example_len, sizeof example - 1));
+    SAME(SW_BUFFER_TOO_SHORT, read_text(example_text, example_len, 0));
+
+    READ(SW_OK, "monitor x : @x.7");
+    READ(SW_OK, "monitor x : forall y in x-0..x+0001 : @y.7");
+    READ(SW_OK, "monitor x : forall x in infinity+0..0+4095 : @x.7");
+    READ(SW_MISSPELT, "");
+    READ(SW_MISSPELT, "monitor x : @x.7\n");
+    READ(SW_MISSPELT, "monitor x : @x.7\0");
+    READ(SW_MISSPELT, "monitor in : @in.7");
+    READ(SW_MISSPELT, "monitor abcdefghi : @x.7");
+    READ(SW_UNBOUND_NAME, "monitor x : @y.7");
+    READ(SW_UNBOUND_NAME, "monitor x : forall y in y..x : @y.7");
+    READ(SW_NO_SUCH_FLAG, "monitor x : @x.8");
+    READ(SW_OFFSET_OUT_OF_RANGE, "monitor x : forall y in x..x+4096 : @y.7");
+    READ(SW_OFFSET_ON_INFINITY, "monitor x : forall y in x..infinity+1 : @y.7");
+
+    /* In this order. */
+    READ(SW_MISSPELT, "monitor x : (@x.8 && (@y.7 && @x.7)");
+    READ(SW_UNBOUND_NAME, "monitor x : (@x.8 && @y.7)");
+    SAME(SW_NO_SUCH_FLAG, read_text("monitor x : @x.8", 16, 0));
+
+    /* 64 formulas, and one more; the longest text, and one byte more. */
+    SAME(SW_OK, read_text(deep_text, write_nots(63), SW_MAX_BODY));
+    SAME(SW_BODY_TOO_LARGE, read_text(deep_text, write_nots(64), SW_MAX_BODY));
+    SAME(SW_MAX_TEXT, write_nots(4080));
+    SAME(SW_BODY_TOO_LARGE, read_text(deep_text, SW_MAX_TEXT, SW_MAX_BODY));
+    SAME(SW_MAX_TEXT + 1, write_nots(4081));
+    SAME(SW_MISSPELT, read_text(deep_text, SW_MAX_TEXT + 1, SW_MAX_BODY));
+
+    /* The way back. */
+    SAME(SW_OK, print_body(example, sizeof example, SW_MAX_TEXT));
+    SAME(0, memcmp(text_printed, example_text, example_len));
+    SAME(SW_OK, print_body(example, sizeof example, example_len));
+    SAME(SW_BUFFER_TOO_SHORT, print_body(example, sizeof example, example_len - 1));
+    SAME(SW_BODY_ENDS_EARLY, print_body(example, sizeof example - 1, SW_MAX_TEXT));
+    SAME(SW_BODY_ENDS_EARLY, print_body(example, 0, 0));
+}
+
 /* ---- 16: a recording, and the verdicts ---- */
 
 static void recordings(void)
@@ -318,7 +417,7 @@ static void batches(void)
 static void sentences(void)
 {
     uint8_t out[SW_MAX_SENTENCE + 1];
-    for (uint32_t number = 0; number <= SW_OFFSET_ON_INFINITY + 1; number++) {
+    for (uint32_t number = 0; number <= SW_UNBOUND_NAME + 1; number++) {
         size_t written = 99;
         memset(out, 0xAA, sizeof out);
         SAME(SW_OK, sw_sentence(number, out, SW_MAX_SENTENCE, &written));
@@ -347,6 +446,7 @@ int main(void)
 {
     sheets();
     bodies();
+    texts();
     recordings();
     lending();
     dishonest();

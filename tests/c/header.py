@@ -1,5 +1,6 @@
 """Holds include/station_watch.h and the library to each other: both kinds show the header's functions and no others, and the sentence in the comment above
-each refusal's constant is what sw_sentence writes. It loads the shared library as other languages do, and asks for the figures of the scope document's example.
+each refusal's constant is what sw_sentence writes. It loads the shared library as other languages do, and asks for the figures of the scope document's
+example, for its body from its text, and for its text.
 
     python3 header.py SHARED STATIC
 """
@@ -49,22 +50,35 @@ def functions():
 
 
 def sentences():
-    same("numbers of the refusals", list(range(1, 25)), list(SENTENCES))
+    same("numbers of the refusals", list(range(1, 27)), list(SENTENCES))
     for number, text in SENTENCES.items():
         same(f"sentence {number}", text, sentence(number))
-    for number in (constant("SW_OK"), 25, 4294967295):
+    for number in (constant("SW_OK"), 27, 4294967295):
         same(f"sentence {number}", "no such refusal", sentence(number))
 
 
+EXAMPLE = bytes.fromhex("02 04 010000 05 0200FFFF 02000200 010100")
+TEXT = rb"monitor x : ~(@x.0 /\ forall y in x-1..x+2 : @y.0)"
+
+
 def figures():
-    body = bytes.fromhex("02 04 010000 05 0200FFFF 02000200 010100")
+    body = EXAMPLE
     history, delay, cells = (ctypes.c_uint64() for _ in range(3))
     answer = library.sw_figures(body, ctypes.c_size_t(len(body)), ctypes.byref(history), ctypes.byref(delay), ctypes.byref(cells))
     same("figures of the example", (0, 1, 2, 21), (answer, history.value, delay.value, cells.value))
 
 
+def texts():
+    for function, given, due in ((library.sw_rule_from_text, TEXT, EXAMPLE), (library.sw_rule_to_text, EXAMPLE, TEXT)):
+        out = ctypes.create_string_buffer(b"\xaa" * 100, 100)
+        written = ctypes.c_size_t()
+        answer = function(given, ctypes.c_size_t(len(given)), out, ctypes.c_size_t(100), ctypes.byref(written))
+        same("the example's text and body", (0, len(due), due + b"\xaa" * (100 - len(due))), (answer, written.value, out.raw))
+
+
 functions()
 sentences()
 figures()
+texts()
 print("\n".join(failures) if failures else "header.py: ok")
 sys.exit(bool(failures))

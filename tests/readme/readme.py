@@ -1,7 +1,8 @@
-"""README.md against the repository: what is typed in its blocks `console`, its table of refusals, and its version; also that of CHANGELOG.md. A block
-`sh` is not typed here."""
+"""README.md against the repository: what is typed in its blocks `console`, its tables of refusals, commands and functions, and its version; also that of
+CHANGELOG.md. A block `sh` is not typed here."""
 import os
 import re
+import shutil
 import sys
 import tempfile
 
@@ -12,9 +13,13 @@ from sentences import HEADER, SENTENCES  # noqa: E402
 
 README = os.path.join(ROOT, "README.md")
 CHANGELOG = os.path.join(ROOT, "CHANGELOG.md")
+USAGE = os.path.join(ROOT, "command", "usage", "station-watch.txt")
 
 # How many blocks are typed at least, so that one which loses its fence or its kind is seen.
 LEAST = 5
+
+# The folders that a block may use.
+FOLDERS = ("bin", "include", "rust", "target")
 
 
 def found(pattern, path):
@@ -43,15 +48,50 @@ def refusals_told():
             raise Wrong("refusal %s is %r, and its sentence %r" % (number, said, due))
 
 
+def commands_told():
+    """The table of commands has those of the usage, with their arguments."""
+    due = found(r"^  ([a-z]+ [A-Z .]+?) {2,}", USAGE)
+    told = found(r"^\| `([a-z]+ [A-Z .]+)` \|", README)
+    if sorted(told) != sorted(line for line in due if not line.startswith("help ")):
+        raise Wrong("the table of commands has %s, and the usage %s" % (told, due))
+
+
+def functions_told():
+    """The table of functions has those of the header."""
+    due = re.findall(r"^uint32_t (sw_\w+)\(", HEADER, re.MULTILINE)
+    told = [name for row in found(r"^\| (`sw_.*?) \|", README) for name in re.findall(r"`(sw_\w+)`", row)]
+    if sorted(told) != sorted(due):
+        raise Wrong("the table of functions has %s, and the header %s" % (told, due))
+
+
+def session_typed(block):
+    """A block by itself, in a folder that has what the repository has. The examples are a copy, in which it may write over a file only what was there."""
+    stored = os.path.join(ROOT, "examples")
+    with tempfile.TemporaryDirectory() as work:
+        own = shutil.copytree(stored, os.path.join(work, "examples"))
+        sessions_run([block], {name: os.path.join(ROOT, name) for name in FOLDERS}, work)
+        if contents(own) != contents(stored):
+            raise Wrong("what is typed changes the examples")
+
+
+def contents(folder):
+    """Each file below a folder, with its bytes."""
+    found = {}
+    for place, _, names in os.walk(folder):
+        for name in names:
+            path = os.path.join(place, name)
+            with open(path, "rb") as file:
+                found[os.path.relpath(path, folder)] = file.read()
+    return found
+
+
 def sessions_typed():
-    """Each block by itself, in a folder that has what the repository has."""
     typed = 0
     for kind, start, block in examples(README):
         if kind not in ("console", "sh"):
             raise Wrong("line %d: a block of an unknown kind, %r" % (start, kind))
         if kind == "console":
-            with tempfile.TemporaryDirectory() as work:
-                sessions_run([block], {name: os.path.join(ROOT, name) for name in ("bin", "examples", "include", "rust", "target")}, work)
+            session_typed(block)
             typed += 1
     if typed < LEAST:
         raise Wrong("%d blocks are typed, and there were %d" % (typed, LEAST))
@@ -60,6 +100,8 @@ def sessions_typed():
 try:
     version_told()
     refusals_told()
+    commands_told()
+    functions_told()
     sessions_typed()
 except Wrong as why:
     sys.exit("%s: %s" % (README, why))

@@ -1,17 +1,20 @@
 #!/usr/bin/env python3
 """The examples' blocks of docs/RULES.md, made from their inputs by the papers alone, as tests/oracle has it. For whoever writes the page:
 
-  blocks.py rule TEXT FLAGS           a rule in the notation, and flag bytes in hexadecimal
+  blocks.py rule TEXT FLAGS           a rule as it is typed, and flag bytes in hexadecimal
   blocks.py outcomes FLAGS TEXT..     several rules on one stream
   blocks.py figures TEXT..            the figures of several rules
+  blocks.py spellings TEXT..          how several rules are printed
+  blocks.py mistakes TEXT..           why several texts are refused
+  blocks.py bytes TEXT                a rule's bytes
 
 prints the lines that stand between the fences.
 """
 import sys
 
-from notation import NAMES, bound_bytes, body_listing, encode, flags_named, lines, listing, named, parse, parse_bound, shown, unnamed
-from stand_in import bodies, figures_line, outcome_at, sheet_of, watch
-from paper import OPEN, read
+from notation import NAMES, Misspelt, body_listing, bound_bytes, compiled, flags_named, lines, listing, named, parse, parse_bound, printed, shown
+from stand_in import bodies, figures_line, line_refused, outcome_at, sheet_of, watch
+from paper import OPEN, Refused, read
 
 # The width of the column of keys in a block `rule`.
 KEY = 10
@@ -24,14 +27,6 @@ def data(text):
         byte, _, times = piece.partition("*")
         found += bytes.fromhex(byte) * int(times or 1)
     return found
-
-
-def body_of(text):
-    """The bytes of a rule, which document 01 must read as the rule that was written."""
-    body = encode(text)
-    if read(body) != unnamed(parse(text)[1]):
-        raise ValueError("%r has other bytes" % text)
-    return body
 
 
 def mark(body, flags, tick):
@@ -55,10 +50,10 @@ def keyed(key, said):
 
 
 def rule_block(text, given):
-    """A rule, its bytes and what it does on a stream. A stream with * in it is long: it is not drawn."""
-    body, flags = body_of(text), data(given)
+    """A rule and what it does on a stream. A stream with * in it is long: it is not drawn."""
+    body, flags = compiled(text), data(given)
     said = figures_line(body)
-    made = keyed("notation", [text]) + keyed("body", body_listing(text))
+    made = keyed("text", [text])
     if said.startswith("refused"):
         made += keyed("figures", [said])
     if "*" in given:
@@ -72,14 +67,40 @@ def rule_block(text, given):
 def outcomes_block(given, texts):
     """Several rules on one stream."""
     flags, key = data(given), 2 + max(len(text) for text in texts)
-    marked = [(text, [mark(body_of(text), flags, tick) for tick in range(len(flags))]) for text in texts]
+    marked = [(text, [mark(compiled(text), flags, tick) for tick in range(len(flags))]) for text in texts]
     flags_of_all = sorted({flag for text in texts for flag in flags_named(parse(text)[1])})
     return rows(flags, flags_of_all, marked, key)
 
 
 def figures_block(texts):
     key = 2 + max(len(text) for text in texts)
-    return [text.ljust(key) + figures_line(body_of(text)) for text in texts]
+    return [text.ljust(key) + figures_line(compiled(text)) for text in texts]
+
+
+def spellings_block(texts):
+    """Texts, and how their rules are printed."""
+    key = 2 + max(len(text) for text in texts)
+    return [text.ljust(key) + printed(compiled(text)) for text in texts]
+
+
+def mistake(text):
+    """What is said of a refused text; of a misspelt one a mark under its first wrong byte, too."""
+    try:
+        compiled(text)
+    except Misspelt as why:
+        return [text, " " * why.at + "^", line_refused(1, why)]
+    except Refused as why:
+        return [text, line_refused(1, why)]
+    raise ValueError("%r is not refused" % text)
+
+
+def mistakes_block(texts):
+    """Refused texts, an empty line between them."""
+    return [line for i, text in enumerate(texts) for line in [""] * (i > 0) + mistake(text)]
+
+
+def bytes_block(text):
+    return [text] + body_listing(text)
 
 
 def refused_block(given):
@@ -103,5 +124,12 @@ def sheet_block(sheet):
 
 
 if __name__ == "__main__":
-    made = {"rule": rule_block, "outcomes": lambda flags, *texts: outcomes_block(flags, texts), "figures": lambda *texts: figures_block(texts)}
+    made = {
+        "rule": rule_block,
+        "outcomes": lambda flags, *texts: outcomes_block(flags, texts),
+        "figures": lambda *texts: figures_block(texts),
+        "spellings": lambda *texts: spellings_block(texts),
+        "mistakes": lambda *texts: mistakes_block(texts),
+        "bytes": bytes_block,
+    }
     print("\n".join(made[sys.argv[1]](*sys.argv[2:])))

@@ -2,103 +2,174 @@
 
 The text has the one form that document 02 gives in its point 2; bytes are those of "The body" in document 01. This is a test's own reader: nothing is
 shared with the library. A formula is a tuple: ("flag", variable, flag), ("not", F), ("then", F, G), ("beside", F, G) or ("all", name, B1, B2, F), and
-a bound is (kind, variable, offset).
+a bound is (kind, variable, offset). While a text is read, names stand in the places of variables.
 """
-import re
+import os
+import sys
 
+sys.path.insert(0, os.path.join(os.path.dirname(os.path.realpath(__file__)), "..", "oracle"))
+
+from paper import Refused, read  # noqa: E402
+
+# A text can open a bracket with each of its bytes.
+MAX_TEXT = 4096
+sys.setrecursionlimit(4 * MAX_TEXT)
+
+LETTERS = "abcdefghijklmnopqrstuvwxyz"
+DIGITS = "0123456789"
+# "The words monitor, forall, in and infinity are no names"; the last is a bound.
 KEYWORDS = ("monitor", "forall", "in", "infinity")
-# The names that a listing uses where no text gives them, by variable.
-NAMES = ("x", "y", "z", "v", "w")
+# The names of a text or a listing that is made from bytes, by variable.
+NAMES = ("x", "y", "z", "u", "v")
 
 
-class Misspelt(Exception):
-    """The text is no rule."""
+class Misspelt(Refused):
+    """The text is no rule: refusal 25, and the place of its first wrong byte, with which no rule begins."""
+
+    def __init__(self, at):
+        super().__init__(25)
+        self.at = at
+
+
+# ---- a text, read
 
 
 class Text:
-    """A text that is read from left to right."""
+    """A text that is read from left to right, byte by byte."""
 
     def __init__(self, text):
         self.text, self.at = text, 0
 
-    def take(self, pattern, what):
-        found = re.compile(pattern).match(self.text, self.at)
-        if not found:
-            raise Misspelt("%r, at %d: %s is missing" % (self.text, self.at, what))
-        self.at = found.end()
-        return found.group()
+    def next_in(self, some):
+        return self.at < len(self.text) and self.text[self.at] in some
 
-    def next_is(self, piece):
-        return self.text.startswith(piece, self.at)
+    def one_of(self, some):
+        if not self.next_in(some):
+            raise Misspelt(self.at)
+        self.at += 1
+        return self.text[self.at - 1]
 
-    def name(self):
-        name = self.take("[a-z]+", "a name")
-        if len(name) > 8 or name in KEYWORDS:
-            raise Misspelt("%r: %s is no name" % (self.text, name))
+    def word(self, word):
+        for letter in word:
+            self.one_of(letter)
+
+    def name(self, no_names=KEYWORDS):
+        """1 to 8 letters. A word that is no name may become one by its next letter, if it can have one."""
+        name = ""
+        while self.next_in(LETTERS):
+            if len(name) == 8 or name + self.text[self.at] in [word for word in no_names if len(word) == 8]:
+                raise Misspelt(self.at)
+            name += self.one_of(LETTERS)
+        if name == "" or name in no_names:
+            raise Misspelt(self.at)
         return name
 
-    def variable(self, scope):
-        """The variable that a name stands for: the innermost of that name."""
-        name = self.name()
-        if name not in scope:
-            raise Misspelt("%r: %s is not bound" % (self.text, name))
-        return len(scope) - 1 - scope[::-1].index(name)
-
-    def bound(self, scope):
-        if self.next_is("0"):
-            self.take("0", "0")
-            kind, variable = 0, 0
-        elif re.compile("infinity(?![a-z])").match(self.text, self.at):
-            self.take("infinity", "infinity")
-            kind, variable = 1, 0
+    def bound(self):
+        if self.next_in("0"):
+            self.word("0")
+            kind, name = 0, None
         else:
-            kind, variable = 2, self.variable(scope)
-        return (kind, variable, int(self.take("([+-][0-9]{1,4})?", "an offset") or 0))
+            name = self.name(KEYWORDS[:3])
+            kind, name = (1, None) if name == "infinity" else (2, name)
+        return (kind, name, self.offset())
 
-    def formula(self, scope):
-        if self.next_is("@"):
-            self.take("@", "@")
-            variable = self.variable(scope)
-            self.take("[.]", "a dot")
-            return ("flag", variable, int(self.take("[0-9]", "a flag")))
-        if self.next_is("~"):
-            self.take("~", "~")
-            return ("not", self.formula(scope))
-        if self.next_is("("):
-            self.take("[(]", "(")
-            first = self.formula(scope)
-            form = "then" if self.take(r" (&&|/\\) ", "&& or /\\") == " && " else "beside"
-            second = self.formula(scope)
-            self.take("[)]", ")")
-            return (form, first, second)
-        self.take("forall ", "a formula")
+    def offset(self):
+        """ "At most one offset", of "1 to 4 decimal digits". """
+        if not self.next_in("+-"):
+            return 0
+        said = self.one_of("+-") + self.one_of(DIGITS)
+        while len(said) < 5 and self.next_in(DIGITS):
+            said += self.one_of(DIGITS)
+        return int(said)
+
+    def formula(self):
+        if self.next_in("@"):
+            self.word("@")
+            name = self.name()
+            self.word(".")
+            return ("flag", name, int(self.one_of(DIGITS)))
+        if self.next_in("~"):
+            self.word("~")
+            return ("not", self.formula())
+        if self.next_in("("):
+            return self.connective()
+        self.word("forall ")
         name = self.name()
-        self.take(" in ", "in")
-        first = self.bound(scope)
-        self.take("[.][.]", "..")
-        second = self.bound(scope)
-        self.take(" : ", "the colon")
-        return ("all", name, first, second, self.formula(scope + [name]))
+        self.word(" in ")
+        first = self.bound()
+        self.word("..")
+        second = self.bound()
+        self.word(" : ")
+        return ("all", name, first, second, self.formula())
+
+    def connective(self):
+        self.word("(")
+        first = self.formula()
+        self.word(" ")
+        form = "then" if self.next_in("&") else "beside"
+        self.word({"then": "&& ", "beside": "/\\ "}[form])
+        second = self.formula()
+        self.word(")")
+        return (form, first, second)
+
+    def rule(self):
+        self.word("monitor ")
+        name = self.name()
+        self.word(" : ")
+        formula = self.formula()
+        if self.at < len(self.text):
+            raise Misspelt(self.at)
+        return name, formula
+
+
+def spelt(text):
+    """The one reading of a text of at most 4,096 bytes, names in it; else 25."""
+    try:
+        rule = Text(text).rule()
+    except Misspelt as why:
+        raise Misspelt(min(why.at, MAX_TEXT))
+    if len(text) > MAX_TEXT:
+        raise Misspelt(MAX_TEXT)
+    return rule
+
+
+# ---- names
+
+
+def variable(name, scope):
+    """The variable that a name stands for, the innermost of that name; "an unbound name 26"."""
+    if name not in scope:
+        raise Refused(26)
+    return len(scope) - 1 - scope[::-1].index(name)
+
+
+def bound_looked_up(bound, scope):
+    kind, name, offset = bound
+    return (kind, variable(name, scope) if kind == 2 else 0, offset)
+
+
+def looked_up(formula, scope):
+    """The formula with variables in the places of names. A range's own bounds do not see its name."""
+    if formula[0] == "flag":
+        return ("flag", variable(formula[1], scope), formula[2])
+    if formula[0] == "all":
+        _, name, first, second, body = formula
+        return ("all", name, bound_looked_up(first, scope), bound_looked_up(second, scope), looked_up(body, scope + [name]))
+    return (formula[0],) + tuple(looked_up(part, scope) for part in formula[1:])
 
 
 def parse(text):
-    """ "monitor x : F": the name of variable 0, and the formula."""
-    reader = Text(text)
-    reader.take("monitor ", "monitor")
-    name = reader.name()
-    reader.take(" : ", "the colon")
-    formula = reader.formula([name])
-    if reader.at != len(text):
-        raise Misspelt("%r, from %d on: bytes left over" % (text, reader.at))
-    return name, formula
+    """ "monitor x : F": the name of variable 0, and the formula; 25 is told before 26."""
+    name, formula = spelt(text)
+    return name, looked_up(formula, [name])
 
 
 def parse_bound(text, scope):
     reader = Text(text)
-    bound = reader.bound(list(scope))
+    bound = reader.bound()
     if reader.at != len(text):
-        raise Misspelt("%r: no bound" % text)
-    return bound
+        raise Misspelt(reader.at)
+    return bound_looked_up(bound, list(scope))
 
 
 # ---- bytes
@@ -125,14 +196,18 @@ def lines(formula, scope, depth=0):
             yield from lines(part, scope, depth + 1)
 
 
-def spell(bound, scope):
-    kind, variable, offset = bound
-    return ("0", "infinity", scope[variable])[kind] + ("%+d" % offset if offset else "")
-
-
 def encode(text):
+    """The bytes of a text that is spelt and whose names are bound."""
     name, formula = parse(text)
     return b"".join(own for own, _, _ in lines(formula, [name]))
+
+
+def compiled(text):
+    """The body of a text, which document 01 must take and read as the rule that was written: else "refusals 4 to 10, with 23 and 24"."""
+    body = encode(text)
+    if read(body) != unnamed(parse(text)[1]):
+        raise ValueError("%r has other bytes" % text)
+    return body
 
 
 def flags_named(formula):
@@ -160,7 +235,30 @@ def named(formula, depth=0):
     return (formula[0],) + tuple(named(part, depth) for part in formula[1:])
 
 
-# ---- listings
+# ---- texts and listings of bytes
+
+
+def spell(bound, scope):
+    kind, variable, offset = bound
+    return ("0", "infinity", scope[variable])[kind] + ("%+d" % offset if offset else "")
+
+
+def spell_formula(formula, scope):
+    form = formula[0]
+    if form == "flag":
+        return "@%s.%d" % (scope[formula[1]], formula[2])
+    if form == "not":
+        return "~" + spell_formula(formula[1], scope)
+    if form == "all":
+        _, name, first, second, body = formula
+        return "forall %s in %s..%s : %s" % (name, spell(first, scope), spell(second, scope), spell_formula(body, scope + [name]))
+    sign = {"then": "&&", "beside": "/\\"}[form]
+    return "(%s %s %s)" % (spell_formula(formula[1], scope), sign, spell_formula(formula[2], scope))
+
+
+def printed(body):
+    """A body as text, with the usual names."""
+    return "monitor %s : %s" % (NAMES[0], spell_formula(named(read(body)), [NAMES[0]]))
 
 
 def shown(data):

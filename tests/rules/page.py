@@ -1,12 +1,12 @@
 #!/usr/bin/env python3
 """The examples of docs/RULES.md: taken out of the page, worked out anew, and run.
 
-  page.py paper PAGE FOLDER         makes each block anew from its inputs (notation, flag bytes, bytes of a body) by the papers alone, as tests/oracle has
-                                    it, and compares the whole text, comments and columns included
+  page.py paper PAGE FOLDER         makes each block anew from its inputs (text, flag bytes, bytes of a body) by the papers alone, as tests/oracle has
+                                    it, and compares the whole block, comments and columns included
   page.py programs PAGE FOLDER      runs `station-watch` and `watch` of the folder on each block, and compares lines and exit statuses with the page
 
 Each fenced block of the page is an example of one of the kinds below; any other block is a failure. What is typed in blocks `console` is typed in both
-checks, with the commands of the folder.
+checks, with the commands of the folder; a block `file NAME` is put into the file NAME of the folder where the typing stands.
 """
 import difflib
 import os
@@ -15,13 +15,15 @@ import subprocess
 import sys
 import tempfile
 
-from blocks import KEY, bounds_block, data, figures_block, mark, outcomes_block, refused_block, rule_block, sheet_block
-from notation import encode, shown
-from stand_in import bodies, figures_line, sheet_of
+from blocks import (KEY, bounds_block, bytes_block, data, figures_block, mark, mistakes_block, outcomes_block, refused_block, rule_block,
+                    sheet_block, spellings_block)
+from notation import compiled, printed, shown
+from stand_in import bodies, figures_line, print_lines, sheet_of
 from sentences import SENTENCES
 
 # What the page must have at least, so that a block which loses its fence or its kind is seen.
-LEAST = {"rule": 15, "outcomes": 5, "figures": 2, "refused": 1, "bounds": 1, "sheet": 1, "console": 3}
+LEAST = {"rule": 15, "outcomes": 5, "figures": 2, "spellings": 1, "mistakes": 2, "bytes": 4, "refused": 1, "bounds": 1, "sheet": 1, "file": 1,
+         "console": 9}
 
 
 class Wrong(Exception):
@@ -101,13 +103,34 @@ class Tools:
         with open(os.path.join(self.work, name), "wb") as out:
             out.write(content)
 
+    def content(self, name):
+        with open(os.path.join(self.work, name), "rb") as file:
+            return file.read()
+
     def sheet(self, parts):
-        """Writes watch.sheet by the command, which must write what the papers say."""
+        """Writes watch.sheet from bytes by the command."""
+        self.writes("watch.sheet", parts, "sheet", "watch.sheet", *map(shown, parts))
+
+    def rules(self, texts):
+        """Writes watch.sheet from text by the command, has it printed, and has what was printed compiled."""
+        parts = [compiled(text) for text in texts]
+        self.text_file(texts)
+        self.writes("watch.sheet", parts, "compile", "rules.txt", "watch.sheet")
+        said = [line for rule, body in enumerate(parts) for line in print_lines(rule, body)]
+        self.call(0, said, "station-watch", "print", "watch.sheet")
+        self.text_file(said)
+        self.writes("again.sheet", parts, "compile", "rules.txt", "again.sheet")
+
+    def text_file(self, lines):
+        self.file("rules.txt", "".join(line + "\n" for line in lines).encode("ascii"))
+
+    def writes(self, name, parts, *arguments):
+        """Runs a command that must write the sheet of these bodies, as the papers have it."""
         sheet = sheet_of(parts)
-        self.call(0, ["sheet watch.sheet rules %d bytes %d" % (len(parts), len(sheet))], "station-watch", "sheet", "watch.sheet", *map(shown, parts))
-        with open(os.path.join(self.work, "watch.sheet"), "rb") as written:
-            if written.read() != sheet:
-                raise Wrong("station-watch sheet wrote other bytes")
+        self.file(name, b"")
+        self.call(0, ["sheet %s rules %d bytes %d" % (name, len(parts), len(sheet))], "station-watch", *arguments)
+        if self.content(name) != sheet:
+            raise Wrong("station-watch %s wrote other bytes" % arguments[0])
 
     def outcomes(self, flags, marks):
         self.file("flags", flags)
@@ -119,7 +142,7 @@ class Tools:
 
 
 def rule_inputs(block):
-    return field(block, "notation")[0], field(block, "flags")[0].strip()
+    return field(block, "text")[0], field(block, "flags")[0].strip()
 
 
 def rule_due(block):
@@ -127,10 +150,11 @@ def rule_due(block):
 
 
 def rule_run(block, tools):
-    flags = data(rule_inputs(block)[1])
+    text, given = rule_inputs(block)
+    flags = data(given)
     said, refusal = field(block, "watch"), field(block, "figures")
     status = 1 if refusal else 0
-    tools.sheet([data(" ".join(own for own, _ in columns(field(block, "body"))))])
+    tools.rules([text])
     tools.call(status, ["rule 0 " + refusal[0]] if refusal else said[:1], "station-watch", "figures", "watch.sheet")
     for row in field(block, "outcome"):
         tools.outcomes(flags, row.split())
@@ -151,7 +175,7 @@ def outcomes_due(block):
 def outcomes_run(block, tools):
     given, ruled = outcomes_inputs(block)
     for text, marks in ruled:
-        tools.sheet([encode(text)])
+        tools.rules([text])
         tools.outcomes(data(given), marks.split())
 
 
@@ -160,9 +184,53 @@ def figures_due(block):
 
 
 def figures_run(block, tools):
-    tools.sheet([encode(text) for text, _ in columns(block)])
+    tools.rules([text for text, _ in columns(block)])
     said = ["rule %d %s" % (rule, line) for rule, (_, line) in enumerate(columns(block))]
     tools.call(1 if any(" refused " in line for line in said) else 0, said, "station-watch", "figures", "watch.sheet")
+
+
+def spellings_due(block):
+    return spellings_block([text for text, _ in columns(block)])
+
+
+def spellings_run(block, tools):
+    """Both spellings of a rule compile to its sheet, and the second is printed."""
+    for text, again in columns(block):
+        tools.rules([again])
+        tools.rules([text])
+        if printed(compiled(text)) != again:
+            raise Wrong("%r is printed otherwise" % text)
+
+
+def mistakes_inputs(block):
+    """Each text, and the last line below it, which is what is said of it."""
+    return [(lines[0], lines[-1]) for lines in (part.split("\n") for part in "\n".join(block).split("\n\n"))]
+
+
+def mistakes_due(block):
+    return mistakes_block([text for text, _ in mistakes_inputs(block)])
+
+
+def mistakes_run(block, tools):
+    """Nothing is written."""
+    tools.file("watch.sheet", b"as it was")
+    for text, said in mistakes_inputs(block):
+        tools.text_file([text])
+        tools.call(1, [said], "station-watch", "compile", "rules.txt", "watch.sheet")
+        if tools.content("watch.sheet") != b"as it was":
+            raise Wrong("%r is refused, and a sheet is written" % text)
+
+
+def bytes_due(block):
+    return bytes_block(block[0])
+
+
+def bytes_run(block, tools):
+    """The bytes as they stand are those of the text."""
+    body = data(" ".join(own for own, _ in columns(block[1:])))
+    tools.rules(block[:1])
+    if tools.content("watch.sheet") != sheet_of([body]):
+        raise Wrong("%r has other bytes" % block[0])
 
 
 def refused_due(block):
@@ -212,10 +280,18 @@ KINDS = {
     "rule": (rule_due, rule_run),
     "outcomes": (outcomes_due, outcomes_run),
     "figures": (figures_due, figures_run),
+    "spellings": (spellings_due, spellings_run),
+    "mistakes": (mistakes_due, mistakes_run),
+    "bytes": (bytes_due, bytes_run),
     "refused": (refused_due, refused_run),
     "bounds": (bounds_due, bounds_run),
     "sheet": (sheet_due, sheet_run),
 }
+
+
+def typed_file(kind, block):
+    """A block `file NAME` as what is typed to make the file."""
+    return ["$ cat > %s <<'END'\n%s\nEND" % (kind.split()[1], "\n".join(block))]
 
 
 def sessions_run(blocks, links, work):
@@ -239,10 +315,10 @@ def sessions_run(blocks, links, work):
 
 
 def refusals_told(path):
-    """The page's table has each refusal of a body with its sentence."""
+    """The page's table has each refusal of a body or of a text with its sentence."""
     with open(path, encoding="ascii") as page:
         text = page.read()
-    for number in [*range(4, 16), 23, 24]:
+    for number in [*range(4, 16), *range(23, 27)]:
         if text.count("\n| %d | %s | " % (number, SENTENCES[number])) != 1:
             raise Wrong("no row, or two, for refusal %d" % number)
 
@@ -254,10 +330,10 @@ def known(path):
     """The page's examples, all of known kinds and not fewer than there were."""
     found = examples(path)
     for kind, start, _ in found:
-        if kind not in LEAST:
+        if kind not in LEAST and not re.fullmatch(r"file [a-z.]+", kind):
             raise Wrong("line %d: a block of an unknown kind, %r" % (start, kind))
     for kind, least in LEAST.items():
-        count = sum(1 for k, _, _ in found if k == kind)
+        count = sum(1 for k, _, _ in found if k.split()[:1] == [kind])
         if count < least:
             raise Wrong("%d blocks of kind %s, and there were %d" % (count, kind, least))
     return found
@@ -274,7 +350,7 @@ def check(path, folder, with_programs):
                 tried = (lambda: run(block, tools)) if with_programs else (lambda: same(block, worked_out(block), "the papers"))
                 failed += attempt("%s:%d" % (path, start), tried)
         failed += attempt(path, lambda: refusals_told(path))
-        typed = [block for kind, _, block in found if kind == "console"]
+        typed = [block if kind == "console" else typed_file(kind, block) for kind, _, block in found if kind not in KINDS]
         failed += attempt("%s, what is typed" % path, lambda: sessions_run(typed, {"bin": folder}, sessions))
         runs = tools.runs
     print("%d examples, %d failed%s" % (len(found), failed, ", %d runs" % runs if with_programs else ""))

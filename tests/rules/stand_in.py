@@ -11,6 +11,7 @@ sys.path.insert(0, os.path.join(os.path.dirname(os.path.realpath(__file__)), "..
 sys.dont_write_bytecode = True
 
 from figures import figures  # noqa: E402
+from notation import Misspelt, compiled, printed, shown  # noqa: E402
 from outcomes import outcome_at  # noqa: E402
 from paper import OPEN, Refused  # noqa: E402
 from sentences import SENTENCES  # noqa: E402
@@ -37,8 +38,62 @@ def bodies(sheet):
 
 
 def content(path):
+    """- is standard input."""
+    if path == "-":
+        return sys.stdin.buffer.read()
     with open(path, "rb") as file:
         return file.read()
+
+
+def write_sheet(path, parts):
+    sheet = sheet_of(parts)
+    with open(path, "wb") as out:
+        out.write(sheet)
+    print("sheet %s rules %d bytes %d" % (path, len(parts), len(sheet)))
+    return 0
+
+
+def rules_of(data):
+    """The lines that have a rule, by their numbers from 1: neither empty nor a comment. A line ends with LF or CR LF; the last may have no end."""
+    *ended, last = data.decode("latin-1").split("\n")
+    lines = [line.removesuffix("\r") for line in ended] + [last]
+    return [(number, line) for number, line in enumerate(lines, 1) if line and not line.startswith("#")]
+
+
+def line_refused(number, why):
+    """What is said of a refused line: of a misspelt one the column too, from 1."""
+    column = " column %d" % (why.at + 1) if isinstance(why, Misspelt) else ""
+    return "line %d%s %s" % (number, column, refused(why.args[0]))
+
+
+def compile_command(rules, path):
+    parts = []
+    for number, line in rules_of(content(rules)):
+        try:
+            parts.append(compiled(line))
+        except Refused as why:
+            print(line_refused(number, why))
+            return 1
+    if not 1 <= len(parts) <= 32:
+        print("rules %d %s" % (len(parts), refused(1)))
+        return 1
+    return write_sheet(path, parts)
+
+
+def print_lines(rule, body):
+    """A rule's figures or refusal as a comment, and its text; bytes that have none as a comment."""
+    first = "# rule %d %s" % (rule, figures_line(body))
+    try:
+        return [first, printed(body)]
+    except Refused:
+        return [first, "# no text: " + shown(body)]
+
+
+def print_command(path):
+    said = [print_lines(rule, body) for rule, body in enumerate(bodies(content(path)))]
+    for lines in said:
+        print("\n".join(lines))
+    return 1 if any(text.startswith("#") for _, text in said) else 0
 
 
 def figures_command(path):
@@ -52,7 +107,7 @@ def outcome_command(path, rule, flags, tick):
     found = bodies(content(path))
     if int(rule) >= len(found):
         raise Refused(3)
-    o = outcome_at(found[int(rule)], sys.stdin.buffer.read() if flags == "-" else content(flags), int(tick))
+    o = outcome_at(found[int(rule)], content(flags), int(tick))
     print("tick %s %s" % (tick, "open" if o is OPEN else "%s at %d" % ("true" if o[0] else "false", o[1])))
     return 0
 
@@ -63,11 +118,7 @@ def sheet_command(path, *digits):
         raise Refused(1)
     if not all(1 <= len(part) <= 512 for part in parts):
         raise Refused(2)
-    sheet = sheet_of(parts)
-    with open(path, "wb") as out:
-        out.write(sheet)
-    print("sheet %s rules %d bytes %d" % (path, len(parts), len(sheet)))
-    return 0
+    return write_sheet(path, parts)
 
 
 def watch_command():
@@ -76,11 +127,20 @@ def watch_command():
     return 1 if said[0].startswith("refused") else 0
 
 
+COMMANDS = {
+    "compile": compile_command,
+    "figures": figures_command,
+    "outcome": outcome_command,
+    "print": print_command,
+    "sheet": sheet_command,
+}
+
+
 def main(name, arguments):
     if name == "watch":
         return watch_command()
     try:
-        return {"figures": figures_command, "outcome": outcome_command, "sheet": sheet_command}[arguments[0]](*arguments[1:])
+        return COMMANDS[arguments[0]](*arguments[1:])
     except Refused as why:
         print(refused(why.args[0]))
         return 1

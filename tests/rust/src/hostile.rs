@@ -312,6 +312,10 @@ pub fn empty_slices(library: &dyn Library) -> Check {
         ("write", library.write_sheet(&[], &[], &mut [], &mut a), 1),
         ("write no bodies", library.write_sheet(&[1], &[], &mut [], &mut a), 2),
         ("write no room", library.write_sheet(&[1], &[0], &mut [], &mut a), 22),
+        ("text", library.rule_from_text(&[], &mut [], &mut a), 25),
+        ("text no room", library.rule_from_text(b"monitor x : @x.0", &mut [], &mut a), 22),
+        ("print", library.rule_to_text(&[], &mut [], &mut a), 4),
+        ("print no room", library.rule_to_text(&flag, &mut [], &mut a), 22),
         ("figures", library.figures(&[], &mut x, &mut y, &mut z), 4),
         ("outcome", library.outcome(&[], &[], 0, &mut verdict, &mut x), 4),
         ("no recording", library.outcome(&flag, &[], 0, &mut verdict, &mut x), 16),
@@ -375,6 +379,12 @@ pub fn huge_lengths(library: &dyn Library) -> Check {
         ("lengths", compare::write(library, &mut random, &writer(vec![1; HUGE], 9, 9))?, 1),
         ("bodies", compare::write(library, &mut random, &writer(vec![1], HUGE, HUGE))?, 2),
         ("room", compare::write(library, &mut random, &writer(vec![1], 1, HUGE))?, 0),
+        ("text", compare::from_text(library, &vec![b'~'; HUGE], 512)?, 25),
+        ("text that begins well", compare::from_text(library, &typed(HUGE), 512)?, 25),
+        ("room for a body", compare::from_text(library, b"monitor x : @x.0", HUGE)?, 0),
+        ("nots to print", compare::to_text(library, &vec![2; HUGE], 512)?, 9),
+        ("bytes left over to print", compare::to_text(library, &followed, 512)?, 10),
+        ("room for a text", compare::to_text(library, &rule.body, HUGE)?, 0),
     ];
     for (call, number, due) in answers {
         demand!(number == due, "huge {call}: answered {number}, due is {due}");
@@ -384,6 +394,13 @@ pub fn huge_lengths(library: &dyn Library) -> Check {
 
 fn writer(lengths: Vec<u16>, size: usize, room: usize) -> WriterInput {
     WriterInput { lengths, bodies: vec![0xB5; size], room }
+}
+
+/// The beginning of a rule, of so many bytes.
+fn typed(length: usize) -> Vec<u8> {
+    let mut text = b"monitor x : ".to_vec();
+    text.resize(length, b'(');
+    text
 }
 
 /// A step with a huge history, refused; with a huge table and report, taken.

@@ -43,6 +43,12 @@ pub trait Library {
         written: &mut usize,
     ) -> u32;
 
+    /// The body of a rule's text.
+    fn rule_from_text(&self, text: &[u8], body: &mut [u8], written: &mut usize) -> u32;
+
+    /// A body as text.
+    fn rule_to_text(&self, body: &[u8], text: &mut [u8], written: &mut usize) -> u32;
+
     fn figures(&self, body: &[u8], history: &mut u64, delay: &mut u64, cells: &mut u64) -> u32;
 
     fn outcome(
@@ -114,6 +120,18 @@ mod linked {
                     written,
                 )
             }
+        }
+
+        fn rule_from_text(&self, text: &[u8], body: &mut [u8], written: &mut usize) -> u32 {
+            let (out, room) = (body.as_mut_ptr(), body.len());
+            // SAFETY: what slices cover, and what is written is borrowed alone.
+            unsafe { sw_rule_from_text(text.as_ptr(), text.len(), out, room, written) }
+        }
+
+        fn rule_to_text(&self, body: &[u8], text: &mut [u8], written: &mut usize) -> u32 {
+            let (out, room) = (text.as_mut_ptr(), text.len());
+            // SAFETY: what slices cover, and what is written is borrowed alone.
+            unsafe { sw_rule_to_text(body.as_ptr(), body.len(), out, room, written) }
         }
 
         fn figures(&self, body: &[u8], history: &mut u64, delay: &mut u64, cells: &mut u64) -> u32 {

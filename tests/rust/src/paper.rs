@@ -7,18 +7,20 @@ mod calls;
 mod figures;
 mod meaning;
 mod sheet;
+pub mod text;
 
 pub use body::{read_body, write_body, Bound, Formula};
 pub use calls::{answer_at, decided_by, open, step_refusal, Answer, Lengths, Opened, Watch};
 pub use figures::{figures, formula_figures, Figures};
 pub use meaning::{evaluate, outcome, rule_outcome, Outcome, Verdict};
 pub use sheet::{rule_body, rule_place, write_sheet};
+pub use text::{body_of_text, text_of_body};
 
 /// A refusal is its number in documents 01 and 02.
 pub type Refusal = u32;
 
 /// The last one.
-pub const LAST_REFUSAL: Refusal = 24;
+pub const LAST_REFUSAL: Refusal = 26;
 /// What a rule is refused with: for its bytes, then for its figures.
 pub const RULE_REFUSALS: &[Refusal] = &[4, 5, 6, 7, 8, 9, 10, 23, 24, 11, 12, 13, 14, 15];
 pub const BODY_REFUSALS: &[Refusal] = RULE_REFUSALS.split_at(9).0;

@@ -5,6 +5,7 @@ mod bodies;
 mod formulas;
 mod sheets;
 mod streams;
+mod texts;
 
 pub use bodies::{
     aimed, any_body, faulty_bounds, figure_boundary, loose_bytes, neighbours, places,
@@ -13,6 +14,7 @@ pub use bodies::{
 pub use formulas::{accepted_rule, depth, quantifiers, size, visits, wild_formula, Rule};
 pub use sheets::{damaged_sheet, sheet_bodies, sheet_of, sheet_with, writer_input, WriterInput};
 pub use streams::stream;
+pub use texts::{any_text, damage, deep_text, loose_text, typed};
 
 /// The generator "splitmix64".
 pub struct Random {

@@ -6,6 +6,8 @@
 //! It stands on `paper`, so it says nothing about the paper's meaning. What it
 //! tests is the suites: that they ask what they should, and see what differs.
 
+mod texts;
+
 use crate::library::{Library, State, StepAnswer, StepLent, StepsAnswer, FALSE, OPEN, TRUE};
 use crate::paper::{
     self, Bound, Figures, Formula, Lengths, Opened, Outcome, Refusal, Verdict, MAX_BODY,
@@ -61,6 +63,32 @@ pub enum Flaw {
     RuleBeforeLayout,
     ClearsBuffer,
     RoomBeforeLengths,
+    // Texts, read and printed.
+    UnboundBeforeMisspelt,
+    FlagBeforeUnbound,
+    RoomBeforeFlag,
+    OutermostNameWins,
+    BoundsSeeOwnName,
+    NamesOutliveRanges,
+    KeepsSixtyFourNames,
+    NineLetters,
+    KeywordsAreNames,
+    FiveDigits,
+    FourThousandAndNinetySeven,
+    TakesLineEnd,
+    LeadingZeroIsMisspelt,
+    MinusZeroIsMisspelt,
+    InfinityPlusZeroIs24,
+    OffsetsOfOneByte,
+    ExchangesConnectives,
+    ClearsBodyRoom,
+    WritesShortBody,
+    AnswersLengthOn22,
+    PrintsPlusZero,
+    PrintsFourDigits,
+    PrintsWForU,
+    PrintsZeroByte,
+    PrintsUncheckedFlags,
     // Hostile input.
     WritesTwoHistoryBytes,
     RefusesAndWrites,
@@ -347,6 +375,14 @@ impl Library for StandIn {
                 0
             }
         }
+    }
+
+    fn rule_from_text(&self, text: &[u8], body: &mut [u8], written: &mut usize) -> u32 {
+        self.give(self.body_of_text(text, body.len()), body, written)
+    }
+
+    fn rule_to_text(&self, body: &[u8], text: &mut [u8], written: &mut usize) -> u32 {
+        self.give(self.text_of_body(body, text.len()), text, written)
     }
 
     fn figures(&self, body: &[u8], history: &mut u64, delay: &mut u64, cells: &mut u64) -> u32 {

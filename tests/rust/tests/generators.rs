@@ -2,12 +2,12 @@
 //! inside, interesting rules, streams with long runs.
 
 use rust_tests::paper::{
-    evaluate, figures, read_body, rule_place, write_sheet, Bound, Formula, BODY_REFUSALS,
-    LAST_REFUSAL, MAX_HISTORY, MAX_OFFSET, RULE_REFUSALS,
+    body_of_text, evaluate, figures, read_body, rule_place, write_body, write_sheet, Bound,
+    Formula, BODY_REFUSALS, LAST_REFUSAL, MAX_HISTORY, MAX_OFFSET, RULE_REFUSALS,
 };
 use rust_tests::random::{
-    accepted_rule, aimed, any_body, damaged_sheet, depth, faulty_bounds, figure_boundary, size,
-    stream, twice_damaged, wild_formula, writer_input, Random,
+    accepted_rule, aimed, any_body, any_text, damaged_sheet, depth, faulty_bounds, figure_boundary,
+    loose_text, size, stream, twice_damaged, typed, wild_formula, writer_input, Random,
 };
 
 /// How often each number was answered, 0 for none.
@@ -208,6 +208,48 @@ fn sheets_and_writers_hit_every_number() {
     }
     assert!(all_above(&readers, &[0, 1, 2, 3], 20), "{readers:?}");
     assert!(all_above(&writers, &[0, 1, 2, 22], 100), "{writers:?}");
+}
+
+/// A typed rule is read as the formula that it was typed from, whatever names hide others.
+#[test]
+fn typed_rules_mean_their_formula() {
+    let mut random = Random::new(210);
+    let (mut hidden, mut zeros, mut signed) = (0, 0, 0);
+    for _ in 0..6_000 {
+        let formula = wild_formula(&mut random);
+        let text = typed(&mut random, &formula);
+        let body = body_of_text(text.as_bytes(), usize::MAX);
+        assert_eq!(body, Ok(write_body(&formula)), "{text}");
+        hidden += hides(&text) as u64;
+        zeros += (text.contains("+0") || text.contains("-0")) as u64;
+        signed += (text.contains("infinity+0") || text.contains("infinity-0")) as u64;
+    }
+    assert!(hidden > 300 && zeros > 500 && signed > 100, "{hidden}, {zeros}, {signed}");
+}
+
+/// Whether two binders, of which one may stand around the other, have the same name.
+fn hides(text: &str) -> bool {
+    let names = text.split(' ').collect::<Vec<_>>();
+    let binder = |pair: &&[&str]| pair[0] == "monitor" || pair[0].ends_with("forall");
+    let mut bound: Vec<&str> = names.windows(2).filter(binder).map(|pair| pair[1]).collect();
+    let count = bound.len();
+    bound.sort_unstable();
+    bound.dedup();
+    bound.len() < count
+}
+
+/// Texts of any sort hit every number that a text can get, and loose words most.
+#[test]
+fn any_texts_hit_every_number() {
+    let mut random = Random::new(211);
+    let (mut any, mut loose): (Counts, Counts) = Default::default();
+    for _ in 0..8_000 {
+        let number = |text: &[u8]| body_of_text(text, usize::MAX).err().unwrap_or(0) as usize;
+        any[number(&any_text(&mut random))] += 1;
+        loose[number(&loose_text(&mut random))] += 1;
+    }
+    assert!(all_above(&any, &[0, 7, 8, 9, 24, 25, 26], 50), "{any:?}");
+    assert!(all_above(&loose, &[0, 25, 26], 10), "{loose:?}");
 }
 
 /// Long runs, single ups and alternations.

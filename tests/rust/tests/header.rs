@@ -26,6 +26,7 @@ fn wrapped() -> BTreeMap<String, String> {
         ("SW_MAX_RULES", station_watch::MAX_RULES),
         ("SW_MAX_BODY", station_watch::MAX_BODY),
         ("SW_MAX_SHEET", station_watch::MAX_SHEET),
+        ("SW_MAX_TEXT", station_watch::MAX_TEXT),
         ("SW_MAX_RECORDING", station_watch::MAX_RECORDING),
         ("SW_MAX_HISTORY", station_watch::MAX_HISTORY),
         ("SW_MAX_DELAY", station_watch::MAX_DELAY),

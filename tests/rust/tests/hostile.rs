@@ -1,5 +1,6 @@
 //! Hostile input to the Rattle library (feature `library`).
 
+use rust_tests::compare;
 use rust_tests::hostile;
 use rust_tests::library::Linked;
 
@@ -11,6 +12,8 @@ const FORGED_STATES: usize = 20_000;
 const DAMAGED_STATES: usize = 20_000;
 /// Runs of thirty steps with an overwritten history.
 const OVERWRITTEN: usize = 5_000;
+/// Bytes of any sort, as a text, as a body, and as a text that begins well.
+const TEXTS: usize = 20_000;
 
 #[test]
 fn random_states() {
@@ -40,6 +43,14 @@ fn damaged_states() {
 fn overwritten_histories() {
     let steps = hostile::overwritten_histories(&Linked, 2_003, OVERWRITTEN).unwrap();
     assert_eq!(steps, 30 * OVERWRITTEN as u64);
+}
+
+#[test]
+fn texts_and_bodies_of_any_bytes() {
+    let numbers = compare::hostile_texts(&Linked, 2_005, TEXTS).unwrap();
+    assert_eq!(numbers.total(), 3 * TEXTS as u64, "{numbers:?}");
+    assert_eq!(numbers.of(25), 2 * TEXTS as u64, "{numbers:?}"); // chance writes no rule
+    assert!(numbers.each_at_least(&[4, 5, 6, 9], TEXTS as u64 / 100), "{numbers:?}");
 }
 
 #[test]

@@ -4,7 +4,7 @@
 use rust_tests::compare::{self, Tally};
 use rust_tests::library::{Library, Linked};
 use rust_tests::notation::*;
-use rust_tests::paper::{write_body, RULE_REFUSALS};
+use rust_tests::paper::{write_body, BODY_REFUSALS, RULE_REFUSALS};
 
 /// Together at least 20,000 rules and 2,000,000 steps, in two tests that run
 /// beside each other.
@@ -20,6 +20,16 @@ const LONG_RECORDINGS: usize = 20;
 const SHEETS: usize = 6_000;
 const WRITERS: usize = 6_000;
 const OPENINGS: usize = 12_000;
+/// Typed rules, right and wrong, and as many loose words.
+const TEXTS: usize = 60_000;
+/// Typed rules of which every byte is changed in some thirty ways.
+const DAMAGED_TEXTS: usize = 60;
+/// Texts that are deeper than any body.
+const DEEP_TEXTS: usize = 2_000;
+/// Rules read and printed into buffers of every length.
+const TEXT_ROOMS: usize = 1_000;
+/// Bodies printed, and read again.
+const PRINTED: usize = 30_000;
 
 fn check_runs(seed: u64) {
     let tally = compare::runs(&Linked, seed, RULES, STEPS).unwrap();
@@ -123,4 +133,47 @@ fn openings() {
     let often = OPENINGS as u64 / 200;
     assert!(numbers.each_at_least(&[0, 1, 2, 3, 17, 18], often), "{numbers:?}");
     assert!(numbers.each_at_least(RULE_REFUSALS, often), "{numbers:?}");
+}
+
+#[test]
+fn texts() {
+    let numbers = compare::texts(&Linked, 1_010, TEXTS).unwrap();
+    assert_eq!(numbers.total(), 2 * TEXTS as u64, "{numbers:?}");
+    assert!(numbers.each_at_least(&[0, 25, 26], TEXTS as u64 / 20), "{numbers:?}");
+    assert!(numbers.each_at_least(&[7, 8, 9, 24], TEXTS as u64 / 200), "{numbers:?}");
+}
+
+#[test]
+fn damaged_texts() {
+    let numbers = compare::damaged_texts(&Linked, 1_011, DAMAGED_TEXTS).unwrap();
+    assert!(numbers.total() > 1_000 * DAMAGED_TEXTS as u64, "{numbers:?}");
+    assert!(numbers.each_at_least(&[0, 7, 25, 26], DAMAGED_TEXTS as u64), "{numbers:?}");
+}
+
+#[test]
+fn deep_texts() {
+    let numbers = compare::deep_texts(&Linked, 1_014, DEEP_TEXTS).unwrap();
+    assert_eq!(numbers.total(), 2 * DEEP_TEXTS as u64, "{numbers:?}");
+    assert!(numbers.each_at_least(&[9, 25, 26], DEEP_TEXTS as u64 / 10), "{numbers:?}");
+}
+
+#[test]
+fn text_rooms() {
+    let numbers = compare::text_rooms(&Linked, 1_012, TEXT_ROOMS).unwrap();
+    assert!(numbers.each_at_least(&[0, 22], 5 * TEXT_ROOMS as u64), "{numbers:?}");
+    assert!(numbers.each_at_least(&[4, 5, 7, 25, 26], TEXT_ROOMS as u64 / 100), "{numbers:?}");
+}
+
+#[test]
+fn printed_bodies() {
+    let numbers = compare::printed_bodies(&Linked, 1_013, PRINTED).unwrap();
+    assert_eq!(numbers.total(), PRINTED as u64, "{numbers:?}");
+    assert!(numbers.of(0) > PRINTED as u64 / 2, "{numbers:?}");
+    assert!(numbers.each_at_least(BODY_REFUSALS, PRINTED as u64 / 300), "{numbers:?}");
+}
+
+#[test]
+fn text_cases() {
+    let numbers = compare::text_cases(&Linked).unwrap();
+    assert!(numbers.each_at_least(&[0, 7, 8, 9, 24, 25, 26], 2), "{numbers:?}");
 }

@@ -46,6 +46,24 @@ fn the_right_one_passes_runs() {
 }
 
 #[test]
+fn the_right_one_passes_texts() {
+    let numbers = compare::texts(&RIGHT, 322, 4_000).unwrap();
+    assert!(numbers.each_at_least(&[0, 7, 8, 9, 24, 25, 26], 20), "{numbers:?}");
+    let numbers = compare::damaged_texts(&RIGHT, 323, 10).unwrap();
+    assert!(numbers.each_at_least(&[0, 7, 25, 26], 10), "{numbers:?}");
+    let numbers = compare::deep_texts(&RIGHT, 332, 400).unwrap();
+    assert!(numbers.each_at_least(&[9, 25, 26], 40), "{numbers:?}");
+    let numbers = compare::text_rooms(&RIGHT, 324, 200).unwrap();
+    assert!(numbers.each_at_least(&[0, 22], 1_000), "{numbers:?}");
+    let numbers = compare::printed_bodies(&RIGHT, 325, 2_000).unwrap();
+    assert!(numbers.of(0) > 1_000, "{numbers:?}");
+    let numbers = compare::text_cases(&RIGHT).unwrap();
+    assert!(numbers.each_at_least(&[0, 7, 8, 9, 24, 25, 26], 2), "{numbers:?}");
+    let numbers = compare::hostile_texts(&RIGHT, 326, 500).unwrap();
+    assert!(numbers.of(25) > 600, "{numbers:?}");
+}
+
+#[test]
 fn the_right_one_passes_hostile_input() {
     let numbers = hostile::random_states(&RIGHT, 308, 300).unwrap();
     assert!(numbers.of(21) == 1_200, "{numbers:?}");
@@ -92,6 +110,30 @@ fn writers(library: &dyn Library) -> Check {
 
 fn openings(library: &dyn Library) -> Check {
     compare::openings(library, 317, 300).map(|_| ())
+}
+
+fn texts(library: &dyn Library) -> Check {
+    compare::texts(library, 327, 3_000).map(|_| ())
+}
+
+fn damaged_texts(library: &dyn Library) -> Check {
+    compare::damaged_texts(library, 328, 10).map(|_| ())
+}
+
+fn deep_texts(library: &dyn Library) -> Check {
+    compare::deep_texts(library, 331, 200).map(|_| ())
+}
+
+fn text_rooms(library: &dyn Library) -> Check {
+    compare::text_rooms(library, 329, 200).map(|_| ())
+}
+
+fn printed(library: &dyn Library) -> Check {
+    compare::printed_bodies(library, 330, 2_000).map(|_| ())
+}
+
+fn text_cases(library: &dyn Library) -> Check {
+    compare::text_cases(library).map(|_| ())
 }
 
 fn forged(library: &dyn Library) -> Check {
@@ -165,6 +207,43 @@ const CAUGHT: &[(Flaw, Suite, &str)] = &[
     (Flaw::RuleBeforeLayout, sheets, "answered 3, due is 2"),
     (Flaw::ClearsBuffer, writers, "the buffer is not as due"),
     (Flaw::RoomBeforeLengths, writers, "answered 22, due is"),
+    (Flaw::UnboundBeforeMisspelt, texts, "answered 26, due is 25"),
+    (Flaw::UnboundBeforeMisspelt, text_cases, "answered 26, due is 25"),
+    (Flaw::FlagBeforeUnbound, texts, "answered 7, due is 26"),
+    (Flaw::FlagBeforeUnbound, text_cases, "answered 7, due is 26"),
+    (Flaw::RoomBeforeFlag, text_rooms, "answered 22, due is 7"),
+    (Flaw::OutermostNameWins, texts, "due is"),
+    (Flaw::OutermostNameWins, text_cases, "due is"),
+    (Flaw::BoundsSeeOwnName, texts, "due is"),
+    (Flaw::BoundsSeeOwnName, text_cases, "due is 26"),
+    (Flaw::NamesOutliveRanges, texts, "due is 26"),
+    (Flaw::NamesOutliveRanges, text_cases, "due is 26"),
+    (Flaw::KeepsSixtyFourNames, deep_texts, "answered 26, due is 9"),
+    (Flaw::KeepsSixtyFourNames, text_cases, "answered 26, due is 9"),
+    (Flaw::NineLetters, text_cases, "due is 25"),
+    (Flaw::NineLetters, damaged_texts, "due is 25"),
+    (Flaw::KeywordsAreNames, text_cases, "due is 25"),
+    (Flaw::FiveDigits, text_cases, "due is 25"),
+    (Flaw::FiveDigits, damaged_texts, "due is 25"),
+    (Flaw::FourThousandAndNinetySeven, text_cases, "answered 9, due is 25"),
+    (Flaw::TakesLineEnd, text_cases, "answered 0, due is 25"),
+    (Flaw::LeadingZeroIsMisspelt, texts, "answered 25, due is"),
+    (Flaw::LeadingZeroIsMisspelt, text_cases, "answered 25, due is 0"),
+    (Flaw::MinusZeroIsMisspelt, texts, "answered 25, due is"),
+    (Flaw::MinusZeroIsMisspelt, text_cases, "answered 25, due is 0"),
+    (Flaw::InfinityPlusZeroIs24, texts, "answered 24, due is"),
+    (Flaw::InfinityPlusZeroIs24, text_cases, "answered 24, due is 0"),
+    (Flaw::OffsetsOfOneByte, texts, "due is"),
+    (Flaw::ExchangesConnectives, texts, "due is"),
+    (Flaw::ClearsBodyRoom, texts, "bytes were changed that are not its own"),
+    (Flaw::ClearsBodyRoom, printed, "bytes were changed that are not its own"),
+    (Flaw::WritesShortBody, text_rooms, "bytes were changed that are not its own"),
+    (Flaw::AnswersLengthOn22, text_rooms, "answered length"),
+    (Flaw::PrintsPlusZero, printed, "due is"),
+    (Flaw::PrintsFourDigits, printed, "due is"),
+    (Flaw::PrintsWForU, printed, "due is"),
+    (Flaw::PrintsZeroByte, printed, "bytes were changed that are not its own"),
+    (Flaw::PrintsUncheckedFlags, printed, "answered 0, due is 7"),
     (Flaw::WritesTwoHistoryBytes, overwritten, "the history is not as due"),
     (Flaw::WritesTwoHistoryBytes, runs, "the history is not as due"),
     (Flaw::RefusesAndWrites, damaged, "memory was changed"),
@@ -199,7 +278,7 @@ fn each_wrong_one_is_caught() {
 /// The same suites pass without a flaw, so that it is the flaw they caught.
 #[test]
 fn the_catching_suites_pass_the_right_one() {
-    let suites: [Suite; 13] = [
+    let suites: [Suite; 19] = [
         runs,
         bodies,
         limits,
@@ -208,6 +287,12 @@ fn the_catching_suites_pass_the_right_one() {
         sheets,
         writers,
         openings,
+        texts,
+        damaged_texts,
+        deep_texts,
+        text_rooms,
+        printed,
+        text_cases,
         forged,
         damaged,
         overwritten,

@@ -3,13 +3,14 @@
 
 use rust_tests::paper;
 use rust_tests::random::{self, Random};
-use station_watch::{bodies, figures, outcome, rule_body, sheet_of, Figures, Outcome};
-use station_watch::{Pair, Refusal, Verdict, Watch};
+use station_watch::{bodies, body_from_text, figures, outcome, rule_body, sheet_of};
+use station_watch::{text_from_body, Figures, Outcome, Pair, Refusal, Verdict, Watch};
 
 const RULES: usize = 1_000;
 const STEPS: usize = 80;
 const BODIES: usize = 20_000;
 const SHEETS: usize = 4_000;
+const TEXTS: usize = 20_000;
 
 fn numbered<T>(answer: Result<T, Refusal>) -> Result<T, u32> {
     answer.map_err(Refusal::number)
@@ -117,5 +118,19 @@ fn sheets() {
         }
         let due = paper::rule_body(&damaged, 0).err();
         assert_eq!(numbered(bodies(&damaged)).err(), due, "{damaged:?}");
+    }
+}
+
+/// Texts read and bodies printed, with memory that is always enough.
+#[test]
+fn texts() {
+    let mut random = Random::new(3_004);
+    for _ in 0..TEXTS {
+        let text = random::any_text(&mut random);
+        let due = paper::body_of_text(&text, usize::MAX);
+        assert_eq!(numbered(body_from_text(&text)), due, "{text:?}");
+        let body = random::any_body(&mut random);
+        let printed = numbered(text_from_body(&body)).map(String::into_bytes);
+        assert_eq!(printed, paper::text_of_body(&body, usize::MAX), "{body:?}");
     }
 }
