@@ -248,8 +248,12 @@ fn any_texts_hit_every_number() {
         any[number(&any_text(&mut random))] += 1;
         loose[number(&loose_text(&mut random))] += 1;
     }
-    assert!(all_above(&any, &[0, 7, 8, 9, 24, 25, 26], 50), "{any:?}");
+    const COMING: [u32; 7] = [0, 7, 8, 9, 24, 25, 26];
+    assert!(all_above(&any, &COMING, 50), "{any:?}");
     assert!(all_above(&loose, &[0, 25, 26], 10), "{loose:?}");
+    // The header names these and no others.
+    let other = |number: &usize| !COMING.contains(&(*number as u32));
+    assert!((0..any.len()).filter(other).all(|n| any[n] + loose[n] == 0), "{any:?}, {loose:?}");
 }
 
 /// Long runs, single ups and alternations.
