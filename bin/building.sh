@@ -65,7 +65,7 @@ prove() { # WHO CRATE COMMAND..
     local who=$1 crate=$2 log=target/$1-build.log
     shift 2
     command -v rt > /dev/null || not_built "$who" "the Rattle kit's command rt is not on PATH (it lies in /opt/rattle/bin)" || return 1
-    echo "$who: building: proving what changed; all of it takes about 4 minutes on two cores" >&2 || :
+    echo "$who: building: proving what changed; all of it takes 4 to 6 minutes on two cores" >&2 || :
     if ! (cd "$root" && "$@") 2>&1 < /dev/null | tee "$root/$log" | count_crates "$who" "$(crates_of "$crate")"; then
         tail -n 15 "$root/$log" >&2
         not_built "$who" "the last lines of $root/$log stand above"

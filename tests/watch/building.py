@@ -22,7 +22,7 @@ printf '#!/bin/sh\\necho ran\\ncat\\n' > target/bin/watch
 chmod +x target/bin/watch
 """
 
-BEGIN = "watch: building: proving what changed; all of it takes about 4 minutes on two cores\n"
+BEGIN = "watch: building: proving what changed; all of it takes 4 to 6 minutes on two cores\n"
 PROVED = "watch: building: 2 of 3 crates proved (sheet, 2 s)\nwatch: building: 3 of 3 crates proved (watch, 31 s)\n"
 
 
