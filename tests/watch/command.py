@@ -57,6 +57,15 @@ class Usage(Station):
 
 
 class Signals(Station):
+    def setUp(self):
+        super().setUp()
+        # Where the tests themselves run in the background of a script or under nohup, they ignore a signal, and so would the command.
+        self.handle(signal.SIGINT, signal.default_int_handler)
+        self.handle(signal.SIGHUP, signal.SIG_DFL)
+
+    def handle(self, number, how):
+        self.addCleanup(signal.signal, number, signal.signal(number, how))
+
     def watching(self):
         """The command, waiting for input, and its program."""
         run = self.start(stdin=subprocess.PIPE, start_new_session=True)
@@ -83,8 +92,6 @@ class Signals(Station):
                 self.ended(program)
 
     def test_interrupt_from_the_terminal(self):
-        # Where the tests themselves run in the background of a script, they ignore the signal, and so would the command.
-        self.addCleanup(signal.signal, signal.SIGINT, signal.signal(signal.SIGINT, signal.default_int_handler))
         run, program = self.watching()
         os.killpg(run.pid, signal.SIGINT)
         self.assertIn(run.wait(60), (-signal.SIGINT, 128 + signal.SIGINT))
