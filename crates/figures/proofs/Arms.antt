@@ -16,9 +16,10 @@ use Rattle.nodes.specs.declared.operand.Operand.{Operand}
 use Rattle.nodes.specs.Nots.{past-nots}
 use Rattle.nodes.proofs.Nodes.{ends, Same, same-bound, frame}
 use Rattle.nodes.proofs.Nots.{over-nots}
+use Rattle.cell_count.specs.Counts.{cap}
 use Rattle.figures.specs.declared.scope.Scope.{Scope}
 use Rattle.figures.specs.declared.measure.Figure.{Figure}
-use Rattle.figures.specs.Capped.{cap, inside, Near, Modest, flag-figure, then-figure, beside-figure, range-figure, FigureOf}
+use Rattle.figures.specs.Capped.{inside, Near, Modest, flag-figure, then-figure, beside-figure, range-figure, FigureOf}
 use Rattle.figures.specs.Measured.{SizesAt, Measured, Promise, Measures}
 use Rattle.figures.proofs.Distances.{modest-larger, modest-delay}
 use Rattle.figures.proofs.Parts.{flag-of, negate-of, then-of, beside-of, forall-of}

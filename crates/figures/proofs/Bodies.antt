@@ -22,7 +22,7 @@ use Rattle.figures.specs.declared.answer.FigureAnswer.{FigureAnswer}
 use Rattle.figures.specs.Capped.{capped-needed, Within, FigureOf}
 use Rattle.figures.specs.Measured.{Measured, Promise}
 use Rattle.figures.specs.Prepared.{told, Laid, Prepared}
-use Rattle.figures.proofs.Saturation.{capped-limits}
+use Rattle.figures.proofs.CountedLimits.{capped-limits}
 
 -- at the start, only variable 0 is there, at the tick
 pub first-within : (ps : List Pair) → ps ≡ at-tick ∷ [] → Within 0 ps

@@ -1,30 +1,25 @@
 -- Within the limits, the sizes in a table are the definitions' own. For whoever reads what `prepare` leaves: the engine's proofs use SizesAt.
-use Prim.Native.Nat.{ℕ, _+_, _*_, _≤_, min, max}
+use Prim.Native.Nat.{ℕ, _+_, _*_, _≤_}
 use mathlib.Core.Path.{_≡_, refl, sym, ap, _∙_}
-use lib.Dec.{leb}
-use borrow.Author.Tests.{leb-true}
-use Rattle.rule.specs.Figures.{limit-cells, limit-history, larger, plus, times, at-tick, range-pair, width, delay, history, cells, limit-delay, needed, figures, body-figures}
+use Rattle.rule.specs.Figures.{plus, times, at-tick, range-pair, width, cells, figures, body-figures}
 use mathlib.Core.List.{List, [], _∷_, _++_}
 use native.Mathlib.Omega.{arith}
 use native.Mathlib.Nat.{mul-comm, le-mul-of-pos-right}
 use lib.ListN.{getD}
 use Rattle.refusal.specs.Answer.{Answer, refused, accepted, and-then}
-use Rattle.refusal.proofs.Answers.{not-accepted, passed}
+use Rattle.refusal.proofs.Answers.{not-accepted}
 use Rattle.rule.specs.Formula.{Formula, flag, negate, then, beside, forall}
 use Rattle.rule.specs.Body.{body}
 use Rattle.rule.specs.declared.Size.{Size}
 use Rattle.rule.specs.declared.Size.the-variants.{Finite, Unbounded}
 use Rattle.rule.specs.declared.Pair.{Pair}
 use Rattle.rule.specs.declared.Figures.{Figures}
+use Rattle.rule.proofs.Limits.{within-limits}
+use Rattle.cell_count.specs.Counts.{cap, sum, then-cells, beside-cells, range-cells}
+use Rattle.cell_count.proofs.Saturation.{cap-plus, cap-then, cap-beside, cap-range, exact-cap}
 use Rattle.figures.specs.declared.answer.FigureAnswer.{FigureAnswer}
-use Rattle.figures.specs.Capped.{cap, add, mul}
 use Rattle.figures.specs.Measured.{SizesAt}
 use Rattle.figures.specs.Prepared.{Laid, Prepared, ExactAt, Sizes}
-use Rattle.figures.proofs.Saturation.{needs-capped, cap-larger, cap-plus, cap-times}
-
-exact-cap : (x : Size) → cap x ≤ 4096 → x ≡ Finite (cap x)
-exact-cap (Finite n) h = let e : n ≡ min n 4097 = omega arith in ap Finite e
-exact-cap Unbounded h = absurd (omega arith)
 
 fourfold : (x : Size) (w : ℕ) → cap x ≤ 4096 → w ≡ 4 * cap x → times (Finite 4) x ≡ Finite w
 unfolding times
@@ -32,28 +27,26 @@ fourfold (Finite n) w h e = let g : 4 * n ≡ w = omega arith in ap Finite g
 fourfold Unbounded w h e = absurd (omega arith)
 
 -- 1 + w * (1 + c), where it is within the limit
-module _ (w c : ℕ) (h : add 1 (mul w (add 1 c)) ≤ 4096) where
+module _ (w c : ℕ) (h : range-cells w c ≤ 4096) where
   few : w ≤ 4096
-  few = omega (arith, le-mul-of-pos-right {m = add 1 c} w (omega arith))
+  few = omega (arith, le-mul-of-pos-right {m = sum 1 c} w (omega arith))
 
   small-body : 1 ≤ w → c ≤ 4095
-  small-body g = omega (arith, le-mul-of-pos-right {m = w} (add 1 c) g, mul-comm w (add 1 c))
+  small-body g = omega (arith, le-mul-of-pos-right {m = w} (sum 1 c) g, mul-comm w (sum 1 c))
 
 sizes-exact : (F : Formula) (ns : List ℕ) (ps : List Pair) (i : ℕ) → SizesAt F ns ps i → cap (cells F ps) ≤ 4096 → ExactAt F ns ps i
 unfolding SizesAt ExactAt cells
 sizes-exact (flag v k) ns ps i s h = tt
 sizes-exact (negate F) ns ps i s h = sizes-exact F ns ps (i + 12) s h
 sizes-exact (then F G) ns ps i s h =
-    let e : add 1 (max (cap (cells F ps)) (cap (cells G ps))) ≤ 4096 = rw (cap-larger (cells F ps) (cells G ps), cap-plus (Finite 1) (larger (cells F ps) (cells G ps))) h in
+    let e : then-cells (cap (cells F ps)) (cap (cells G ps)) ≤ 4096 = rw (cap-then (cells F ps) (cells G ps)) h in
     (sizes-exact F ns ps (i + 12) (s .0) (omega arith), sizes-exact G ns ps (getD ns (i + 7) 0) (s .1) (omega arith))
 sizes-exact (beside F G) ns ps i s h =
-    let e : add 1 (add (cap (cells F ps)) (cap (cells G ps))) ≤ 4096 = rw (cap-plus (cells F ps) (cells G ps), cap-plus (Finite 1) (plus (cells F ps) (cells G ps))) h in
+    let e : beside-cells (cap (cells F ps)) (cap (cells G ps)) ≤ 4096 = rw (cap-beside (cells F ps) (cells G ps)) h in
     (fourfold (cells F ps) (getD ns (i + 10) 0) (omega arith) (s .0), (sizes-exact F ns ps (i + 12) (s .1 .0) (omega arith), sizes-exact G ns ps (getD ns (i + 7) 0) (s .1 .1) (omega arith)))
 sizes-exact (forall B C F) ns ps i s h =
-    let R : Pair = range-pair B C ps in
     let c : Size = cells F (ps ++ (range-pair B C ps ∷ [])) in
-    let e : add 1 (mul (cap (width (range-pair B C ps))) (add 1 (cap (cells F (ps ++ (range-pair B C ps ∷ [])))))) ≤ 4096 =
-    rw (cap-plus (Finite 1) c, cap-times (width (range-pair B C ps)) (plus (Finite 1) c), cap-plus (Finite 1) (times (width (range-pair B C ps)) (plus (Finite 1) c))) h in (
+    let e : range-cells (cap (width (range-pair B C ps))) (cap (cells F (ps ++ (range-pair B C ps ∷ [])))) ≤ 4096 = rw (cap-range (width (range-pair B C ps)) c) h in (
       exact-cap (width (range-pair B C ps)) (few (cap (width (range-pair B C ps))) (cap c) e) ∙ ap Finite (sym (s .0)),
       λ g. let b : cap (cells F (ps ++ (range-pair B C ps ∷ []))) ≤ 4095 = small-body (cap (width (range-pair B C ps))) (cap c) e (omega (arith, s .0)) in
           (fourfold (plus (Finite 1) c) (getD ns (i + 9) 0) (omega (arith, cap-plus (Finite 1) c)) (s .1 .0 ∙ fours b), sizes-exact F ns (ps ++ (range-pair B C ps ∷ [])) (i + 12) (s .1 .1) (omega arith)),
@@ -64,28 +57,8 @@ sizes-exact (forall B C F) ns ps i s h =
 
 -- ---- a rule within the limits
 
-within-cells : (h d : ℕ) (x : Size) (f : Figures) → limit-cells h d x ≡ accepted f → cap x ≤ 4096
-unfolding limit-cells
-within-cells h d Unbounded f e = absurd (not-accepted e)
-within-cells h d (Finite c) f e = omega (arith, leb-true c 4096 (passed (leb c 4096) _ 15 f e .0))
-
-within-history : (h : Size) (d : ℕ) (x : Size) (f : Figures) → limit-history h d x ≡ accepted f → cap x ≤ 4096
-unfolding limit-history
-within-history Unbounded d x f e = absurd (not-accepted e)
-within-history (Finite h) d x f e = within-cells h d x f (passed (leb h 4096) _ 14 f e .1)
-
--- the formula's own cells
-cells-fit : (h d c : Size) (f : Figures) → limit-delay h d (needed d c) ≡ accepted f → cap c ≤ 4096
-unfolding limit-delay
-cells-fit h Unbounded c f e = absurd (not-accepted e)
-cells-fit h (Finite d) c f e =
-    let b : d ≤ 255 = leb-true d 255 (passed (leb d 255) _ 12 f e .0) in
-    let n : mul (add d 1) (add 1 (cap c)) ≤ 4096 = rw (needs-capped d c b) (within-history h d (needed (Finite d) c) f (passed (leb d 255) _ 12 f e .1)) in
-    omega (arith, le-mul-of-pos-right {m = add d 1} (add 1 (cap c)) (omega arith), mul-comm (add d 1) (add 1 (cap c)))
-
 rule-fits : (F : Formula) (f : Figures) → figures F ≡ accepted f → cap (cells F (at-tick ∷ [])) ≤ 4096
-unfolding figures
-rule-fits F f e = cells-fit (history F (at-tick ∷ []) (Finite 0)) (delay F (at-tick ∷ [])) (cells F (at-tick ∷ [])) f e
+rule-fits F f e = let w = within-limits F f e in rw (w .own-is) (omega (arith, w .small))
 
 pub exact : (s : List ℕ) (r : FigureAnswer) (ns : List ℕ) (f : Figures) → Prepared s r ns → body-figures s ≡ accepted f → Sizes s f ns
 unfolding body-figures and-then

@@ -1,5 +1,5 @@
 mod Numbers
-mod Saturation
+mod CountedLimits
 mod Distances
 mod Parts
 mod Arms

@@ -1,16 +1,16 @@
 -- The figures of each formula from its parts'.
-use Prim.Native.Nat.{ℕ, max}
+use Prim.Native.Nat.{ℕ}
 use mathlib.Core.Path.{refl, ap, _∙_}
 use mathlib.Core.List.{List, [], _∷_, _++_}
 use native.Mathlib.Omega.{arith}
 use Rattle.rule.specs.Formula.{Bound, Formula, flag, negate, then, beside, forall}
-use Rattle.rule.specs.Figures.{larger, plus, times, range-pair, N, N-back, width, delay, history, cells}
+use Rattle.rule.specs.Figures.{larger, range-pair, N, N-back, width, delay, history, cells}
 use Rattle.rule.specs.declared.Size.{Size}
-use Rattle.rule.specs.declared.Size.the-variants.{Finite}
 use Rattle.rule.specs.declared.Pair.{Pair}
+use Rattle.cell_count.specs.Counts.{cap, then-cells, beside-cells, range-cells}
+use Rattle.cell_count.proofs.Saturation.{cap-then, cap-beside, cap-range}
 use Rattle.figures.specs.declared.measure.Figure.{Figure}
-use Rattle.figures.specs.Capped.{cap, add, mul, Near, flag-figure, then-figure, beside-figure, range-figure, FigureOf}
-use Rattle.figures.proofs.Saturation.{cap-larger, cap-plus, cap-times}
+use Rattle.figures.specs.Capped.{Near, flag-figure, then-figure, beside-figure, range-figure, FigureOf}
 use Rattle.figures.proofs.Distances.{modest-larger, modest-delay}
 
 pub flag-of : (v k : ℕ) (ps : List Pair) (start : Size) → FigureOf (flag v k) ps start flag-figure
@@ -29,8 +29,7 @@ module _ (F G : Formula) (ps : List Pair) (start : Size) (f g : Figure) where
         delay-is = ap (larger (f .delay)) (y .delay-is) ∙ ap (λ (d : Size). larger d (delay G ps)) (x .delay-is);
         history-is = ap (larger (f .history)) (y .history-is) ∙ ap (λ (d : Size). larger d (history G ps (larger start (f .delay)))) (x .history-is)
             ∙ ap (λ (d : Size). larger (history F ps start) (history G ps (larger start d))) (x .delay-is);
-        cells-is = ap (λ (n : ℕ). add 1 (max n (g .cells))) (x .cells-is) ∙ ap (λ (n : ℕ). add 1 (max (cap (cells F ps)) n)) (y .cells-is)
-            ∙ ap (add 1) (cap-larger (cells F ps) (cells G ps)) ∙ cap-plus (Finite 1) (larger (cells F ps) (cells G ps));
+        cells-is = ap (λ (n : ℕ). then-cells n (g .cells)) (x .cells-is) ∙ ap (then-cells (cap (cells F ps))) (y .cells-is) ∙ cap-then (cells F ps) (cells G ps);
         modest = modest-larger (f .delay) (g .delay) (x .modest) (y .modest);
       }
 
@@ -40,8 +39,7 @@ module _ (F G : Formula) (ps : List Pair) (start : Size) (f g : Figure) where
       record {
         delay-is = ap (larger (f .delay)) (y .delay-is) ∙ ap (λ (d : Size). larger d (delay G ps)) (x .delay-is);
         history-is = ap (larger (f .history)) (y .history-is) ∙ ap (λ (d : Size). larger d (history G ps start)) (x .history-is);
-        cells-is = ap (λ (n : ℕ). add 1 (add n (g .cells))) (x .cells-is) ∙ ap (λ (n : ℕ). add 1 (add (cap (cells F ps)) n)) (y .cells-is)
-            ∙ ap (add 1) (cap-plus (cells F ps) (cells G ps)) ∙ cap-plus (Finite 1) (plus (cells F ps) (cells G ps));
+        cells-is = ap (λ (n : ℕ). beside-cells n (g .cells)) (x .cells-is) ∙ ap (beside-cells (cap (cells F ps))) (y .cells-is) ∙ cap-beside (cells F ps) (cells G ps);
         modest = modest-larger (f .delay) (g .delay) (x .modest) (y .modest);
       }
 
@@ -50,14 +48,9 @@ pub forall-of : (B C : Bound) (F : Formula) (ps : List Pair) (start : Size) (f :
     → FigureOf (forall B C F) ps start (range-figure (range-pair B C ps) start f)
 unfolding range-figure delay history cells
 forall-of B C F ps start f h x =
-    let R : Pair = range-pair B C ps in
-    let c : Size = cells F (ps ++ (range-pair B C ps ∷ [])) in
     record {
       delay-is = ap (λ (d : Size). larger d (N ((range-pair B C ps) .upper))) (x .delay-is);
       history-is = ap (larger (N-back start ((range-pair B C ps) .lower))) (x .history-is);
-      cells-is = ap (λ (n : ℕ). add 1 (mul (cap (width (range-pair B C ps))) (add 1 n))) (x .cells-is)
-          ∙ ap (λ (n : ℕ). add 1 (mul (cap (width (range-pair B C ps))) n)) (cap-plus (Finite 1) c)
-          ∙ ap (add 1) (cap-times (width (range-pair B C ps)) (plus (Finite 1) c))
-          ∙ cap-plus (Finite 1) (times (width (range-pair B C ps)) (plus (Finite 1) c));
+      cells-is = ap (range-cells (cap (width (range-pair B C ps)))) (x .cells-is) ∙ cap-range (width (range-pair B C ps)) (cells F (ps ++ (range-pair B C ps ∷ [])));
       modest = modest-larger (f .delay) (N ((range-pair B C ps) .upper)) (x .modest) (modest-delay ((range-pair B C ps) .upper) h);
     }

@@ -1,5 +1,5 @@
 -- The figures as the code computes them: with cells that are counted up to 4,097.
-use Prim.Native.Nat.{ℕ, _+_, _*_, _≤_, min, max}
+use Prim.Native.Nat.{ℕ, _+_, _*_, _≤_}
 use mathlib.Core.Path.{_≡_}
 use mathlib.Core.List.{List}
 use lib.ListN.{getD, take}
@@ -11,24 +11,13 @@ use Rattle.rule.specs.declared.Limit.the-variants.{Lowest, At, Highest}
 use Rattle.rule.specs.declared.Size.{Size}
 use Rattle.rule.specs.declared.Size.the-variants.{Finite, Unbounded}
 use Rattle.rule.specs.declared.Pair.{Pair}
+use Rattle.cell_count.specs.Counts.{cap, then-cells, beside-cells, range-cells, rule-cells}
 use Rattle.figures.specs.declared.scope.Scope.{Scope}
 use Rattle.figures.specs.declared.measure.Figure.{Figure}
 
--- ---- a size counted up to 4,097: above the limit of cells it does not matter how much
-
-abbrev pub cap : Size → ℕ
-cap (Finite n) = min n 4097
-cap Unbounded = 4097
-
-abbrev pub add : ℕ → ℕ → ℕ
-add a b = min (a + b) 4097
-
-abbrev pub mul : ℕ → ℕ → ℕ
-mul a b = min (a * b) 4097
-
 -- A rule's cells from its delay and its formula's cells.
 abbrev pub capped-needed : Size → ℕ → Size
-capped-needed (Finite d) c = Finite (mul (add d 1) (add 1 c))
+capped-needed (Finite d) c = Finite (rule-cells d c)
 capped-needed Unbounded c = Unbounded
 
 -- ---- the pairs of the variables, inside m quantifiers
@@ -63,7 +52,7 @@ then-figure f g =
     record {
       delay = larger (f .delay) (g .delay);
       history = larger (f .history) (g .history);
-      cells = add 1 (max (f .cells) (g .cells));
+      cells = then-cells (f .cells) (g .cells);
     }
 
 unfoldable pub beside-figure : Figure → Figure → Figure
@@ -71,7 +60,7 @@ beside-figure f g =
     record {
       delay = larger (f .delay) (g .delay);
       history = larger (f .history) (g .history);
-      cells = add 1 (add (f .cells) (g .cells));
+      cells = beside-cells (f .cells) (g .cells);
     }
 
 unfoldable pub range-figure : Pair → Size → Figure → Figure
@@ -79,7 +68,7 @@ range-figure r k f =
     record {
       delay = larger (f .delay) (N (r .upper));
       history = larger (N-back k (r .lower)) (f .history);
-      cells = add 1 (mul (cap (width r)) (add 1 (f .cells)));
+      cells = range-cells (cap (width r)) (f .cells);
     }
 
 -- The figures of a formula whose variables have the pairs `ps`, started at `start` at the latest.

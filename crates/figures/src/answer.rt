@@ -1,13 +1,13 @@
 // The limits of a rule's figures, in 01's order: "11: delay infinite. 12: above 255. 13: history infinite. 14: above 4,096. 15: cells above
-// 4,096."
+// 4,096." Cells are counted up to 4,097 (crate `cell_count`).
 ghost use mathlib.Core.Path.{_≡_};
-ghost use Prim.Native.Nat.{_≤_};
 ghost use Rattle.rule.specs.Figures.{limit-cells, limit-history, limit-delay};
 ghost use Rattle.rule.specs.declared.Size.the-variants.{Finite};
-ghost use Rattle.figures.specs.Capped.{add, mul, capped-needed};
+ghost use Rattle.cell_count.specs.Counts.{rule-cells};
+ghost use Rattle.figures.specs.Capped.{capped-needed};
 ghost use Rattle.figures.specs.Prepared.{told};
-use crate::limits::plus;
-use crate::limits::times;
+use cell_count::rule_cells;
+use cell_count::within_limit;
 use refusal::Refusal;
 use rule::Figures;
 use rule::Size;
@@ -18,23 +18,23 @@ pub enum FigureAnswer {
     Refused(Refusal),
 }
 
-fn limit_cells(h: u64, d: u64, c: u64) -> FigureAnswer
+// The rule needs c cells.
+fn limit_cells(h: u64, d: u16, c: u16) -> FigureAnswer
     ensures { λ r. ⌜ told r ≡ limit-cells h d (Finite c) ⌝ }
 {
-    if 4096 < c {
+    if !within_limit(c) {
         return FigureAnswer::Refused(Refusal::CellsAboveLimit);
     }
     FigureAnswer::Sized(Figures {
         history: h,
-        delay: d,
-        cells: c,
+        delay: d as u64,
+        cells: c as u64,
     })
 }
 
-// The rule's formula needs c cells, counted up to 4,097.
-fn limit_history(h: Size, d: u64, c: u64) -> FigureAnswer
-    requires { ⌜ (d ≤ 255) × (c ≤ 4097) ⌝ }
-    ensures { λ r. ⌜ told r ≡ limit-history h d (Finite (mul (add d 1) (add 1 c))) ⌝ }
+// The rule's formula needs c cells.
+fn limit_history(h: Size, d: u16, c: u16) -> FigureAnswer
+    ensures { λ r. ⌜ told r ≡ limit-history h d (Finite (rule-cells d c)) ⌝ }
 {
     match h {
         Size::Unbounded => FigureAnswer::Refused(Refusal::HistoryInfinite),
@@ -42,14 +42,13 @@ fn limit_history(h: Size, d: u64, c: u64) -> FigureAnswer
             if 4096 < n {
                 return FigureAnswer::Refused(Refusal::HistoryAboveLimit);
             }
-            limit_cells(n, d, times(plus(d, 1), plus(1, c)))
+            limit_cells(n, d, rule_cells(d, c))
         }
     }
 }
 
-// The rule's formula needs c cells, counted up to 4,097.
-pub(crate) fn limit_delay(h: Size, d: Size, c: u64) -> FigureAnswer
-    requires { ⌜ c ≤ 4097 ⌝ }
+// The rule's formula needs c cells.
+pub(crate) fn limit_delay(h: Size, d: Size, c: u16) -> FigureAnswer
     ensures { λ r. ⌜ told r ≡ limit-delay h d (capped-needed d c) ⌝ }
 {
     match d {
@@ -58,7 +57,7 @@ pub(crate) fn limit_delay(h: Size, d: Size, c: u64) -> FigureAnswer
             if 255 < n {
                 return FigureAnswer::Refused(Refusal::DelayAboveLimit);
             }
-            limit_history(h, n, c)
+            limit_history(h, n as u16, c)
         }
     }
 }

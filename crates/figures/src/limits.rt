@@ -1,9 +1,12 @@
-// Numbers with a sign and infinite ones: 01's N(u), N(k - l) and W; and cells, whose sums and products stop at 4,097.
+// Numbers with a sign and infinite ones: 01's N(u), N(k - l) and W.
 ghost use mathlib.Core.Path.{_≡_};
-ghost use Prim.Native.Nat.{_≤_, min, max};
+ghost use Prim.Native.Nat.{_≤_, max};
 ghost use lib.IntN.{natAbs, pos, _+ℤ_, _-ℤ_};
 ghost use Rattle.rule.specs.Figures.{shift, N, N-back, positions-from, larger};
-ghost use Rattle.figures.specs.Capped.{cap, Near, Modest, add, mul};
+ghost use Rattle.cell_count.specs.Counts.{cap};
+ghost use Rattle.figures.specs.Capped.{Near, Modest};
+use cell_count::ABOVE_LIMIT;
+use cell_count::capped;
 use rule::Limit;
 use rule::Size;
 use signed::at_least_zero;
@@ -30,15 +33,8 @@ fn as_signed(k: u64) -> i64
     k as i64
 }
 
-// The smaller of a number and 4,097: above the limit of cells it does not matter how much.
-fn capped(n: u64) -> u64
-    ensures { λ r. ⌜ r ≡ min n 4097 ⌝ }
-{
-    if n < 4097 { n } else { 4097 }
-}
-
 // The larger of two numbers.
-pub(crate) fn larger_number(a: u64, b: u64) -> u64
+fn larger_number(a: u64, b: u64) -> u64
     ensures { λ r. ⌜ r ≡ max a b ⌝ }
 {
     if a < b { b } else { a }
@@ -96,33 +92,17 @@ pub(crate) fn range_history(k: Size, l: Limit) -> Size
 }
 
 // W, a range's positions, counted up to 4,097.
-pub(crate) fn range_width(l: Limit, u: Limit) -> u64
+pub(crate) fn range_width(l: Limit, u: Limit) -> u16
     requires { ⌜ Near 400000 l × Near 400000 u ⌝ }
     ensures { λ r. ⌜ r ≡ cap (positions-from l u) ⌝ }
 {
     match l {
-        Limit::Lowest => 4097,
+        Limit::Lowest => ABOVE_LIMIT,
         Limit::At(a) => match u {
             Limit::Lowest => 0,
             Limit::At(b) => capped(at_least_zero(sum(difference(b, a), 1))),
-            Limit::Highest => 4097,
+            Limit::Highest => ABOVE_LIMIT,
         },
         Limit::Highest => 0,
     }
-}
-
-// The sum of two numbers of cells, counted up to 4,097.
-pub(crate) fn plus(a: u64, b: u64) -> u64
-    requires { ⌜ (a ≤ 4097) × (b ≤ 4097) ⌝ }
-    ensures { λ r. ⌜ r ≡ add a b ⌝ }
-{
-    capped(a + b)
-}
-
-// Their product, counted up to 4,097.
-pub(crate) fn times(a: u64, b: u64) -> u64
-    requires { ⌜ (a ≤ 4097) × (b ≤ 4097) ⌝ }
-    ensures { λ r. ⌜ r ≡ mul a b ⌝ }
-{
-    capped(a * b)
 }

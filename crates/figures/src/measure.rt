@@ -5,18 +5,19 @@ ghost use Prim.Native.Nat.{_+_, _*_, _≤_};
 ghost use lib.ListN.{set};
 ghost use Rattle.rule.specs.Figures.{N, larger, width, at-tick};
 ghost use Rattle.rule.specs.declared.Size.the-variants.{Finite};
-ghost use Rattle.figures.specs.Capped.{cap, Near, Modest, flag-figure, then-figure, beside-figure, range-figure, Ready};
+ghost use Rattle.cell_count.specs.Counts.{cap};
+ghost use Rattle.figures.specs.Capped.{Near, Modest, flag-figure, then-figure, beside-figure, range-figure, Ready};
 ghost use Rattle.figures.specs.Measured.{Measures, Promise};
-use crate::limits::larger_number;
 use crate::limits::larger_size;
-use crate::limits::plus;
 use crate::limits::range_delay;
 use crate::limits::range_history;
 use crate::limits::range_width;
-use crate::limits::times;
 use crate::scope::Scope;
 use crate::scope::range_pair;
 use crate::scope::with_pair;
+use cell_count::beside_cells;
+use cell_count::range_cells;
+use cell_count::then_cells;
 use nodes::CODE;
 use nodes::FIRST_WORDS;
 use nodes::SECOND_PART;
@@ -32,7 +33,7 @@ use rule::Size;
 pub(crate) struct Figure {
     pub(crate) delay: Size,
     pub(crate) history: Size,
-    pub(crate) cells: u64,
+    pub(crate) cells: u16,
 }
 
 fn flag_figure() -> Figure
@@ -46,7 +47,6 @@ fn flag_figure() -> Figure
 }
 
 fn then_figure(f: Figure, g: Figure) -> Figure
-    requires { ⌜ (f .cells ≤ 4097) × (g .cells ≤ 4097) ⌝ }
     ensures { λ r. ⌜ r ≡ then-figure f g ⌝ }
 {
     let d = f.delay;
@@ -56,12 +56,11 @@ fn then_figure(f: Figure, g: Figure) -> Figure
     Figure {
         delay: larger_size(d, e),
         history: larger_size(h, k),
-        cells: plus(1, larger_number(f.cells, g.cells)),
+        cells: then_cells(f.cells, g.cells),
     }
 }
 
 fn beside_figure(f: Figure, g: Figure) -> Figure
-    requires { ⌜ (f .cells ≤ 4097) × (g .cells ≤ 4097) ⌝ }
     ensures { λ r. ⌜ r ≡ beside-figure f g ⌝ }
 {
     let d = f.delay;
@@ -71,13 +70,13 @@ fn beside_figure(f: Figure, g: Figure) -> Figure
     Figure {
         delay: larger_size(d, e),
         history: larger_size(h, k),
-        cells: plus(1, plus(f.cells, g.cells)),
+        cells: beside_cells(f.cells, g.cells),
     }
 }
 
 // A range whose variable has the pair r, started at k at the latest, over a body with the figures f.
 fn range_figure(r: Pair, k: Size, f: Figure) -> Figure
-    requires { ⌜ Near 400000 (r .lower) × (Near 400000 (r .upper) × (Modest k × (f .cells ≤ 4097))) ⌝ }
+    requires { ⌜ Near 400000 (r .lower) × (Near 400000 (r .upper) × Modest k) ⌝ }
     ensures { λ x. ⌜ x ≡ range-figure r k f ⌝ }
 {
     let l = r.lower;
@@ -87,7 +86,7 @@ fn range_figure(r: Pair, k: Size, f: Figure) -> Figure
     Figure {
         delay: larger_size(d, range_delay(u)),
         history: larger_size(range_history(k, l), h),
-        cells: plus(1, times(range_width(l, u), plus(1, f.cells))),
+        cells: range_cells(range_width(l, u), f.cells),
     }
 }
 
@@ -100,8 +99,7 @@ fn body_start(r: Pair, k: Size) -> Size
 }
 
 // Stores word k after word i, nothing past the end.
-fn store(nodes: &mut [u32], i: usize, k: usize, v: u64)
-    requires { ⌜ v ≤ 65536 ⌝ }
+fn store(nodes: &mut [u32], i: usize, k: usize, v: u16)
     ensures { λ _. ⌜ now (nodes .exit) ≡ set (now (nodes .entry)) (i + k) v ⌝ }
 {
     if nodes.len() <= i {
@@ -114,7 +112,7 @@ fn store(nodes: &mut [u32], i: usize, k: usize, v: u64)
 }
 
 // Stores a range's W and the words of one position's slot: a cell and its body's c cells.
-fn store_range(nodes: &mut [u32], i: usize, r: Pair, c: u64)
+fn store_range(nodes: &mut [u32], i: usize, r: Pair, c: u16)
     requires { ⌜ Near 400000 (r .lower) × (Near 400000 (r .upper) × (c ≤ 4097)) ⌝ }
     ensures { λ _. ⌜ now (nodes .exit) ≡ set (set (now (nodes .entry)) (i + 8) (cap (width r))) (i + 9) (4 * (1 + c)) ⌝ }
 {
@@ -178,7 +176,7 @@ fn measure_at(
 
 // The figures of the rule whose formula stands at the table's start.
 pub(crate) fn measure_rule(nodes: &mut [u32]) -> Figure
-    ensures { λ r. ⌜ (r .cells ≤ 4097) × Promise 64 0 0 (at-tick ∷ []) (Finite 0) (now (nodes .entry)) (now (nodes .exit)) r ⌝ }
+    ensures { λ r. ⌜ Promise 64 0 0 (at-tick ∷ []) (Finite 0) (now (nodes .entry)) (now (nodes .exit)) r ⌝ }
 {
     let tick = Pair {
         lower: Limit::At(0),

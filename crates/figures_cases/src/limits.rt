@@ -49,6 +49,35 @@ pub(crate) fn cells_limit() {
     );
 }
 
+// Products and sums that 16 bits would wrap to a small number: 256 times 256, 1 + 255 times 257, 16 times the count 4,097, and a delay of 255 with 256
+// cells an instance. Then rules with a delay that need exactly 4,096 cells.
+pub(crate) fn cells_past_16_bits() {
+    case(
+        b"X-255..X over X-253..X",
+        b"\x05\x02\x00\x01\xff\x02\x00\x00\x00\x05\x02\x00\x03\xff\x02\x00\x00\x00\x01\x02\x00",
+    );
+    case(
+        b"X-254..X over X-254..X",
+        b"\x05\x02\x00\x02\xff\x02\x00\x00\x00\x05\x02\x00\x02\xff\x02\x00\x00\x00\x01\x02\x00",
+    );
+    case(
+        b"X-15..X over X-4095..X",
+        b"\x05\x02\x00\xf1\xff\x02\x00\x00\x00\x05\x02\x00\x01\xf0\x02\x00\x00\x00\x01\x02\x00",
+    );
+    case(
+        b"X+2..X+255",
+        b"\x05\x02\x00\x02\x00\x02\x00\xff\x00\x01\x01\x00",
+    );
+    case(
+        b"X+242..X+255",
+        b"\x05\x02\x00\xf2\x00\x02\x00\xff\x00\x01\x01\x00",
+    );
+    case(
+        b"X-238..X+15",
+        b"\x05\x02\x00\x12\xff\x02\x00\x0f\x00\x01\x01\x00",
+    );
+}
+
 // Figures far beyond the limits, and ranges of no positions.
 pub(crate) fn large_and_none() {
     case(

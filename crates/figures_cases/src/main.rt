@@ -20,6 +20,7 @@ fn main() {
     layout::nested_ranges();
     limits::delay_and_history_limits();
     limits::cells_limit();
+    limits::cells_past_16_bits();
     limits::large_and_none();
     limits::few_positions();
     limits::conjunctions();

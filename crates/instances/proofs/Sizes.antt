@@ -18,7 +18,8 @@ use Rattle.rule.specs.Positions.{Within}
 use Rattle.rule.specs.Started.{Scoped}
 use Rattle.nodes.specs.Table.{Holds}
 use Rattle.nodes.proofs.Nodes.{ends}
-use Rattle.figures.specs.Capped.{cap}
+use Rattle.cell_count.specs.Counts.{cap}
+use Rattle.cell_count.proofs.Saturation.{cap-is}
 use Rattle.figures.specs.Measured.{SizesAt}
 use Rattle.instances.specs.Tree.{not-node, formula-of, tree-at, words, Formed}
 use Rattle.instances.specs.Sized.{sized}
@@ -84,20 +85,14 @@ times-parts Unbounded Unbounded n e = absurd (endless e)
 
 -- ---- within the limit of cells
 
-cap-is : (a : Size) (n : ℕ) → a ≡ Finite n → n ≤ 4096 → cap a ≡ n
-cap-is a n e h = ap cap e ∙ least n h
-  where
-    least : (k : ℕ) → k ≤ 4096 → min k 4097 ≡ k
-    least k g = omega arith
-
 -- 1 + w * (1 + c) cells: W and the body's cells are below the cap, or there is no position
-pub record RangeCells (w c : Size) (n : ℕ) : Type 0 where
+pub record RangeParts (w c : Size) (n : ℕ) : Type 0 where
   pub width-within : Within w (cap w)
   pub run-words : 4 + cap w * (4 * (1 + cap c)) ≡ 4 * n
   pub body : (cap w ≡ 0) ⊎ ((x : ℕ) × (c ≡ Finite x) × (x ≤ 4096))
 
-range-cells : (w c : Size) (n : ℕ) → plus (Finite 1) (times w (plus (Finite 1) c)) ≡ Finite n → n ≤ 4096 → RangeCells w c n
-range-cells w c n e h =
+range-parts : (w c : Size) (n : ℕ) → plus (Finite 1) (times w (plus (Finite 1) c)) ≡ Finite n → n ≤ 4096 → RangeParts w c n
+range-parts w c n e h =
     let o = one-more (times w (plus (Finite 1) c)) n e in
     let t = times-parts w c (o .0) (o .1) in
     let en : n ≡ 1 + o .0 = o .2 in
@@ -154,7 +149,7 @@ words-sized (beside F G) ps n e h =
     let a : cap (cells F ps) ≡ p .0 = cap-is (cells F ps) (p .0) (p .2) (omega arith) in
     let b : words (sized G ps) ≡ 4 * p .1 = words-sized G ps (p .1) (p .3) (omega arith) in
     omega arith
-words-sized (forall B C F) ps n e h = range-cells (width (range-pair B C ps)) (cells F (ps ++ (range-pair B C ps ∷ []))) n e h .run-words
+words-sized (forall B C F) ps n e h = range-parts (width (range-pair B C ps)) (cells F (ps ++ (range-pair B C ps ∷ []))) n e h .run-words
 
 pub formed-sized : (F : Formula) (ns : List ℕ) (ps : List Pair) (m i e : ℕ) → Holds F ns m i e → length ps ≡ suc m → Scoped (length ps) F
     → (n : ℕ) → cells F ps ≡ Finite n → n ≤ 4096 → Formed ps (sized F ps)
@@ -183,7 +178,7 @@ formed-sized (beside F G) ns ps m i e h l s n c g =
       ),
     )
 formed-sized (forall B C F) ns ps m i e h l s n c g =
-    let r = range-cells (width (range-pair B C ps)) (cells F (ps ++ (range-pair B C ps ∷ []))) n c g in
+    let r = range-parts (width (range-pair B C ps)) (cells F (ps ++ (range-pair B C ps ∷ []))) n c g in
     let long : length (ps ++ (range-pair B C ps ∷ [])) ≡ suc (length ps) = length-append ps (range-pair B C ps ∷ []) ∙ add-one (length ps) in
     let deep : m < 4 = h .1 .0 in (
       omega arith,

@@ -4,7 +4,7 @@ use mathlib.Core.List.{List, [], _∷_, _++_}
 use Rattle.rule.specs.Formula.{Formula, flag, negate, then, beside, forall}
 use Rattle.rule.specs.Figures.{range-pair, width, cells}
 use Rattle.rule.specs.declared.Pair.{Pair}
-use Rattle.figures.specs.Capped.{cap}
+use Rattle.cell_count.specs.Counts.{cap}
 use Rattle.instances.specs.Tree.{Tree, flag-node, not-node, then-node, beside-node, range-node}
 
 -- With the sizes that crate `figures` writes, of cells that are counted up to 4,097: within the limits these are 01's figures.

@@ -15,6 +15,9 @@ returns : tie.Need-returns
 unfolding limit-delay
 returns c = rw (c .before .before .d .given .1, lt-leb (c .before .before .d .given .0 .0) 255 (c .if1 .taken))
 
+cast-limit-history : tie.Need-cast-limit-history
+cast-limit-history c = search needs
+
 limit-history-requires : tie.Need-limit-history-requires
 limit-history-requires c κs = search needs
 
@@ -29,4 +32,12 @@ returns-3 c =
 
 pub limit-delay-spec : {M : Type 1} → statement M
 limit-delay-spec =
-    tie.close (tie.spec enum-told enum-known-d returns limit-history-requires returns-2 returns-3)
+    tie.close
+    (tie.spec
+    enum-told
+    enum-known-d
+    returns
+    cast-limit-history
+    limit-history-requires
+    returns-2
+    returns-3)

@@ -155,10 +155,7 @@ measure-at-measure-at-requires-2 measure c κs =
     )
 
 measure-at-then-figure-requires : (t : ℕ) → measure-at-lts.Need-then-figure-requires (measure-at-claims t) (measure-at-at t) measure-at.Post
-measure-at-then-figure-requires measure c κs =
-    let at-measure-at = c .before .before .before .before .before .before .before .before .measure-at in
-    let at-measure-at2 = c .before .before .measure-at2 in
-    (at-measure-at .ensures .small, at-measure-at2 .ensures .small)
+measure-at-then-figure-requires t c κs = tt
 
 measure-at-same-length-2 : (t : ℕ) → measure-at-lts.Need-same-length-2 (measure-at-claims t) (measure-at-at t) measure-at.Post
 measure-at-same-length-2 t c = search needs
@@ -244,15 +241,10 @@ measure-at-mul-store measure c =
     omega (arith, at-measure-at3 .ensures .small)
 
 measure-at-store-requires : (t : ℕ) → measure-at-lts.Need-store-requires (measure-at-claims t) (measure-at-at t) measure-at.Post
-measure-at-store-requires measure c κs =
-    let at-measure-at3 = c .before .before .before .before .before .before .before .before .before .measure-at3 in
-    omega (arith, at-measure-at3 .ensures .small)
+measure-at-store-requires t c κs = tt
 
 measure-at-beside-figure-requires : (t : ℕ) → measure-at-lts.Need-beside-figure-requires (measure-at-claims t) (measure-at-at t) measure-at.Post
-measure-at-beside-figure-requires measure c κs =
-    let at-measure-at3 = c .before .before .before .before .before .before .before .before .before .before .before .before .measure-at3 in
-    let at-measure-at4 = c .before .before .before .before .before .before .before .measure-at4 in
-    (at-measure-at3 .ensures .small, at-measure-at4 .ensures .small)
+measure-at-beside-figure-requires t c κs = tt
 
 measure-at-same-length-3 : (t : ℕ) → measure-at-lts.Need-same-length-3 (measure-at-claims t) (measure-at-at t) measure-at.Post
 measure-at-same-length-3 t c = search needs
@@ -381,8 +373,7 @@ measure-at-range-figure-requires : (t : ℕ) → measure-at-lts.Need-range-figur
 measure-at-range-figure-requires measure c κs =
     let s₀ = c .before .before .before .before .before .before .before .before .before .before .before .before .before .before .before .before .before .before .before .before .before .before .before .before .before in
     let at-range-pair = c .before .before .before .before .before .before .before .before .before .before .before .before .range-pair in
-    let at-measure-at5 = c .before .before .before .before .before .before .measure-at5 in
-    (near-more (at-range-pair .result .lower) (omega arith) (lower-ok measure (c .before .before .before .before .before .before .before .before .before .before .before .before)), (near-more (at-range-pair .result .upper) (omega arith) (upper-ok measure (c .before .before .before .before .before .before .before .before .before .before .before .before)), (s₀ .pre .1 .begun, at-measure-at5 .ensures .small)))
+    (near-more (at-range-pair .result .lower) (omega arith) (lower-ok measure (c .before .before .before .before .before .before .before .before .before .before .before .before)), (near-more (at-range-pair .result .upper) (omega arith) (upper-ok measure (c .before .before .before .before .before .before .before .before .before .before .before .before)), s₀ .pre .1 .begun))
 
 measure-at-same-length-5 : (t : ℕ) → measure-at-lts.Need-same-length-5 (measure-at-claims t) (measure-at-at t) measure-at.Post
 measure-at-same-length-5 t c = search needs

@@ -16,7 +16,7 @@ same-length c = search needs
 
 returns : tie.Need-returns
 unfolding at-tick
-returns c = (c .before .before .measure-at .ensures .small, c .before .before .measure-at .ensures .promise)
+returns c = c .before .before .measure-at .ensures .promise
 
 pub measure-rule-spec : {M : Type 1} → statement M
 measure-rule-spec = tie.close (tie.spec measure-at-requires same-length returns)

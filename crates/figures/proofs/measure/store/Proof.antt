@@ -20,9 +20,6 @@ returns-2 c =
     let s₀ = c .before .before in
     sym (set-out (s₀ .args .nodes .now) (s₀ .args .i + s₀ .args .k) (s₀ .args .v) (omega arith))
 
-cast-nodes : tie.Need-cast-nodes
-cast-nodes c = search needs
-
 add-nodes : tie.Need-add-nodes
 add-nodes c = search needs
 
@@ -45,7 +42,6 @@ store-spec =
     returns
     sub-if2
     returns-2
-    cast-nodes
     add-nodes
     mul-nodes
     slice-write-nodes

@@ -1,8 +1,7 @@
 -- `figures::measure::store_range` meets its contract.
-use native.Mathlib.Omega.{arith}
+use mathlib.Core.Path.{refl}
 use borrow.Author.Needs.{needs}
-use Rattle.rule.specs.Figures.{positions-from, width}
-use Rattle.figures.proofs.Saturation.{cap-least}
+use Rattle.rule.specs.Figures.{width}
 use Rattle.figures.proofs.measure.store_range.Statement.{statement}
 use Rattle.figures.proofs.measure.store_range.Tie as tie
 
@@ -10,9 +9,7 @@ range-width-requires : tie.Need-range-width-requires
 range-width-requires c κs = search needs
 
 store-requires : tie.Need-store-requires
-store-requires c κs =
-    let s₀ = c .before .before .before in
-    omega (arith, c .range-width .ensures, cap-least (positions-from (s₀ .args .r .lower) (s₀ .args .r .upper)))
+store-requires c κs = search needs
 
 add-store : tie.Need-add-store
 add-store c = search needs
@@ -29,7 +26,7 @@ same-length c = search needs
 returns : tie.Need-returns
 unfolding width
 returns c =
-    rw (c .before .before .store2 .ensures, c .before .before .before .before .before .before .store .ensures, c .before .before .before .before .before .before .before .range-width .ensures)
+    rw (c .before .before .store2 .ensures, c .before .before .before .before .before .before .store .ensures, c .before .before .before .before .before .before .before .range-width .ensures) refl
 
 pub store-range-spec : {M : Type 1} → statement M
 store-range-spec =

@@ -1,0 +1,2 @@
+mod Quotients
+pub mod Saturation

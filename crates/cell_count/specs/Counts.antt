@@ -1,0 +1,33 @@
+-- Cells as the code counts them, up to 4,097: above the limit of 4,096 it does not matter how many there are.
+use Prim.Native.Nat.{ℕ, _+_, _*_, min, max}
+use Rattle.rule.specs.declared.Size.{Size}
+use Rattle.rule.specs.declared.Size.the-variants.{Finite, Unbounded}
+
+-- The count of a number of the definitions.
+abbrev pub cap : Size → ℕ
+cap (Finite n) = min n 4097
+cap Unbounded = 4097
+
+abbrev pub sum : ℕ → ℕ → ℕ
+sum a b = min (a + b) 4097
+
+abbrev pub product : ℕ → ℕ → ℕ
+product a b = min (a * b) 4097
+
+-- ---- 01, "Cells", on counts
+
+-- "then, 1 + the larger"
+abbrev pub then-cells : ℕ → ℕ → ℕ
+then-cells f g = sum 1 (max f g)
+
+-- "beside, 1 + the sum"
+abbrev pub beside-cells : ℕ → ℕ → ℕ
+beside-cells f g = sum 1 (sum f g)
+
+-- "for all, 1 + W times (1 + the body's)"
+abbrev pub range-cells : ℕ → ℕ → ℕ
+range-cells w c = sum 1 (product w (sum 1 c))
+
+-- "The rule needs (delay + 1) times (1 + its cells)."
+abbrev pub rule-cells : ℕ → ℕ → ℕ
+rule-cells d c = product (sum d 1) (sum 1 c)
