@@ -12,7 +12,8 @@ use crate::paper::LAST_REFUSAL;
 pub use calls::{figures, opening, outcome, place, round_trip, write};
 pub use runs::{run, Plan, Tally};
 pub use suites::{
-    bodies, history_lengths, limits, long_recordings, openings, recordings, runs, sheets, writers,
+    bodies, cell_counts, history_lengths, limits, long_recordings, openings, recordings, runs,
+    sheets, writers,
 };
 pub use texts::{
     damaged_texts, deep_texts, from_text, hostile_texts, printed_bodies, text_cases, text_rooms,

@@ -11,7 +11,7 @@ pub mod text;
 
 pub use body::{read_body, write_body, Bound, Formula};
 pub use calls::{answer_at, decided_by, open, step_refusal, Answer, Lengths, Opened, Watch};
-pub use figures::{figures, formula_figures, Figures};
+pub use figures::{exact_cells, figures, formula_figures, Figures};
 pub use meaning::{evaluate, outcome, rule_outcome, Outcome, Verdict};
 pub use sheet::{rule_body, rule_place, write_sheet};
 pub use text::{body_of_text, text_of_body};

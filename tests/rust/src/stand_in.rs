@@ -50,6 +50,8 @@ pub enum Flaw {
     HistoryBelow4096,
     CellsBelow4096,
     CellsUpTo4097,
+    CellsIn16BitsWrap,
+    NoPositionsAfterTheBody,
     FourBeforeNine,
     Exchanges23And24,
     FarInfinityIs8,
@@ -149,6 +151,10 @@ impl StandIn {
             Err(15) if self.has(Flaw::CellsUpTo4097) && just_too_many(formula) => {
                 Ok(Figures { history: 0, delay: 0, cells: 4097 })
             }
+            Err(15) if self.has(Flaw::CellsIn16BitsWrap) && wrapped_cells(formula) <= 4096 => {
+                Ok(Figures { history: 0, delay: 0, cells: wrapped_cells(formula) })
+            }
+            Ok(_) if self.has(Flaw::NoPositionsAfterTheBody) && none_over_many(formula) => Err(15),
             Err(11 | 12) if self.has(Flaw::HistoryBeforeDelay) && begins_at_0(formula) => Err(13),
             other => other,
         }
@@ -582,6 +588,21 @@ fn just_too_many(formula: &Formula) -> bool {
         Formula::Not(part) => just_too_many(part),
         Formula::ForAll(Bound::Variable(0, low), Bound::Variable(0, high), part) => {
             high - low == 4094 && *high <= 0 && matches!(**part, Formula::Flag(..))
+        }
+        _ => false,
+    }
+}
+
+/// The cells that a rule needs, modulo 65,536.
+fn wrapped_cells(formula: &Formula) -> u64 {
+    (paper::exact_cells(formula) % 65_536) as u64
+}
+
+/// Whether the formula is a range of no positions whose body alone is refused with 15.
+fn none_over_many(formula: &Formula) -> bool {
+    match formula {
+        Formula::ForAll(Bound::Variable(0, low), Bound::Variable(0, high), part) => {
+            low > high && paper::formula_figures(part) == Err(15)
         }
         _ => false,
     }

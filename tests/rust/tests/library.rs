@@ -80,6 +80,13 @@ fn limits() {
 }
 
 #[test]
+fn cell_counts() {
+    let numbers = compare::cell_counts(&Linked).unwrap();
+    assert!(numbers.each_at_least(&[0, 15], 50_000), "{numbers:?}");
+    assert_eq!(numbers.of(0) + numbers.of(15), numbers.total());
+}
+
+#[test]
 fn recordings() {
     let asked = compare::recordings(&Linked, 1_005, RECORDINGS).unwrap();
     assert!(asked > 10 * RECORDINGS as u64, "{asked} ticks asked");

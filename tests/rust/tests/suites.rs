@@ -92,6 +92,10 @@ fn limits(library: &dyn Library) -> Check {
     compare::limits(library).map(|_| ())
 }
 
+fn cell_counts(library: &dyn Library) -> Check {
+    compare::cell_counts(library).map(|_| ())
+}
+
 fn recordings(library: &dyn Library) -> Check {
     compare::recordings(library, 313, 100).map(|_| ())
 }
@@ -194,6 +198,10 @@ const CAUGHT: &[(Flaw, Suite, &str)] = &[
     (Flaw::HistoryBelow4096, limits, "answered 14, due is 0"),
     (Flaw::CellsBelow4096, limits, "answered 15, due is 0"),
     (Flaw::CellsUpTo4097, limits, "answered 0, due is 15"),
+    (Flaw::CellsUpTo4097, cell_counts, "answered 0, due is 15"),
+    (Flaw::CellsIn16BitsWrap, cell_counts, "answered 0, due is 15"),
+    (Flaw::NoPositionsAfterTheBody, limits, "answered 15, due is 0"),
+    (Flaw::NoPositionsAfterTheBody, cell_counts, "answered 15, due is 0"),
     (Flaw::FourBeforeNine, bodies, "answered 4, due is 9"),
     (Flaw::Exchanges23And24, bodies, "answered 24, due is 23"),
     (Flaw::FarInfinityIs8, bodies, "answered 8, due is 24"),
@@ -278,10 +286,11 @@ fn each_wrong_one_is_caught() {
 /// The same suites pass without a flaw, so that it is the flaw they caught.
 #[test]
 fn the_catching_suites_pass_the_right_one() {
-    let suites: [Suite; 19] = [
+    let suites: [Suite; 20] = [
         runs,
         bodies,
         limits,
+        cell_counts,
         recordings,
         long_recordings,
         sheets,

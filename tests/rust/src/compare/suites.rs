@@ -78,6 +78,61 @@ fn limit_cases() -> Vec<(Formula, u32)> {
     ]
 }
 
+/// Rules whose cells are around 4,096 and around numbers that 16 bits do not
+/// hold, and a range of no positions over each: 2 cells for every instance.
+pub fn cell_counts(library: &dyn Library) -> Check<Numbers> {
+    let mut numbers = Numbers::default();
+    for formula in ranges_over_ranges().chain(ranges_joined()).chain(delayed_ranges()) {
+        numbers.add(figures(library, &paper::write_body(&formula))?);
+        let none = positions(0, 0, formula);
+        numbers.add(figures(library, &paper::write_body(&none))?);
+    }
+    Ok(numbers)
+}
+
+/// A range of `width` positions, the last of them X + `last`.
+fn positions(width: i64, last: i64, part: Formula) -> Formula {
+    let x = |offset| Bound::Variable(0, offset);
+    Formula::ForAll(x(last + 1 - width), x(last), Box::new(part))
+}
+
+/// The four numbers around `middle` that are a range's width.
+fn widths_around(middle: i64) -> impl Iterator<Item = i64> {
+    (middle - 1..=middle + 2).filter(|width| (0..=4096).contains(width))
+}
+
+/// A rule of `outer` positions over `inner` ones needs 2 + outer * (2 + inner)
+/// cells.
+fn ranges_over_ranges() -> impl Iterator<Item = Formula> {
+    let products = [4_094, 65_536, 2 * 65_536, 16 * 65_536, 200 * 65_536];
+    let over = |outer, inner| positions(outer, 0, positions(inner, 0, Formula::Flag(2, 0)));
+    let all = move |outer: i64| {
+        let inner = products.into_iter().flat_map(move |p| widths_around(p / outer - 2));
+        inner.map(move |inner| over(outer, inner))
+    };
+    (1..=4096).flat_map(all)
+}
+
+/// Two ranges beside each other need 4 + f + g cells, two joined by "then"
+/// 3 + the larger.
+fn ranges_joined() -> impl Iterator<Item = Formula> {
+    let range = |width| Box::new(positions(width, 0, Formula::Flag(1, 0)));
+    let beside =
+        move |f| widths_around(4_092 - f).map(move |g| Formula::Beside(range(f), range(g)));
+    let then = move |f| widths_around(4_093).map(move |g| Formula::Then(range(f), range(g)));
+    (0..=4096).flat_map(move |f| beside(f).chain(then(f)))
+}
+
+/// A range with a delay needs (delay + 1) * (2 + width) cells.
+fn delayed_ranges() -> impl Iterator<Item = Formula> {
+    let products = [4_096, 65_536, 2 * 65_536];
+    let all = move |delay: i64| {
+        let widths = products.into_iter().flat_map(move |p| widths_around(p / (delay + 1) - 2));
+        widths.map(move |width| positions(width, delay, Formula::Flag(1, 0)))
+    };
+    (0..=255).flat_map(all)
+}
+
 /// Recordings with every tick asked, also the first one after the end.
 pub fn recordings(library: &dyn Library, seed: u64, count: usize) -> Check<u64> {
     let mut random = Random::new(seed);

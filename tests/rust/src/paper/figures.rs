@@ -34,8 +34,7 @@ pub fn figures(body: &[u8]) -> Result<Figures, Refusal> {
 /// "11: delay infinite. 12: above 255. 13: history infinite. 14: above 4,096.
 /// 15: cells above 4,096."
 pub fn formula_figures(formula: &Formula) -> Result<Figures, Refusal> {
-    // "Variable 0: (0, 0)."
-    let mut pairs = vec![Pair { l: Low::At(0), u: Some(0) }];
+    let mut pairs = tick_pair();
     let delay = delay(formula, &mut pairs).ok_or(11u32)?;
     if delay > MAX_DELAY {
         return Err(12);
@@ -44,12 +43,28 @@ pub fn formula_figures(formula: &Formula) -> Result<Figures, Refusal> {
     if history > MAX_HISTORY as i64 {
         return Err(14);
     }
-    // "The rule needs (delay + 1) times (1 + its cells)."
-    let cells = (delay as i128 + 1) * (1 + cells(formula, &mut pairs));
+    let cells = needed_cells(formula, delay);
     if cells > MAX_CELLS {
         return Err(15);
     }
     Ok(Figures { history: history as u64, delay: delay as u64, cells: cells as u64 })
+}
+
+/// "Variable 0: (0, 0)."
+fn tick_pair() -> Vec<Pair> {
+    vec![Pair { l: Low::At(0), u: Some(0) }]
+}
+
+/// "The rule needs (delay + 1) times (1 + its cells)."
+fn needed_cells(formula: &Formula, delay: i64) -> i128 {
+    (delay as i128 + 1) * (1 + cells(formula, &mut tick_pair()))
+}
+
+/// The cells that a rule needs, not compared with the limit; its delay must be
+/// finite.
+pub fn exact_cells(formula: &Formula) -> i128 {
+    let delay = delay(formula, &mut tick_pair());
+    needed_cells(formula, delay.expect("an infinite delay is refused with 11"))
 }
 
 /// "Bounds: position 0 plus offset n, (-infinity, n); infinity, (infinity,
