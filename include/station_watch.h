@@ -49,8 +49,8 @@ extern "C" {
 
 #define SW_VERSION_MAJOR 0
 #define SW_VERSION_MINOR 4
-#define SW_VERSION_PATCH 0
-#define SW_VERSION "0.4.0"
+#define SW_VERSION_PATCH 1
+#define SW_VERSION "0.4.1"
 
 /* ---- Refusals: the sentence that sw_sentence writes, and what to do ---- */
 
@@ -280,7 +280,7 @@ uint32_t sw_rule_to_text(const uint8_t *body, size_t body_len,
 
 /* The figures of a rule's body: how many past flags it needs (history, at most 4096),
  * within how many ticks it is decided (delay, at most 255), and how many cells of four
- * words its steps need (cells, at most 4096).
+ * words its steps need (cells, at most 4096, so that a uint16_t holds it).
  * Answers 0, or 4 to 15, 23, 24.
  * After 0 the three numbers are set. */
 uint32_t sw_figures(const uint8_t *body, size_t body_len,
