@@ -1,7 +1,10 @@
 -- What admitting answers, by what the figures and the tests say.
 use Prim.Native.Nat.{ℕ, _≤_, _<_}
 use mathlib.Core.Path.{_≡_, sym, ap, _∙_}
+use mathlib.Core.Bool.{true}
 use mathlib.Core.List.{List}
+use native.Mathlib.Omega.{arith}
+use lib.Dec.{leb}
 use borrow.Author.Tests.{le-leb, lt-leb}
 use Rattle.refusal.specs.declared.Refusal.{Refusal}
 use Rattle.refusal.specs.declared.Refusal.the-variants.{StateNotOpened}
@@ -43,10 +46,13 @@ module _ (b : List ℕ) (L t h c n : ℕ) (ns : List ℕ) where
   unfolding admit-lengths must
   step-above i = record { answer = simp (lt-leb L 4096 i); ready = tt }
 
-  module _ (a : FigureAnswer) (low : L ≤ 4096) (p : Prepared b a ns) where
+  module _ (a : FigureAnswer) (low : L ≤ 4096) (word : t < 4294967296) (p : Prepared b a ns) where
+    timely : leb t 4294967295 ≡ true
+    timely = le-leb t 4294967295 (omega arith)
+
     pub step-no-rule : {x : Refusal} → a ≡ Refused x → Admitted b L t h c n (Refused StateNotOpened) ns
     unfolding admit-lengths must and-then as-21
-    step-no-rule e = record { answer = simp (le-leb L 4096 low, ← p .answer, e); ready = tt }
+    step-no-rule e = record { answer = simp (le-leb L 4096 low, timely, ← p .answer, e); ready = tt }
 
     ready-as : (r : Answer Figures) → Ready b ns r
     ready-as (refused m) = tt
@@ -54,4 +60,4 @@ module _ (b : List ℕ) (L t h c n : ℕ) (ns : List ℕ) where
 
     pub step-fits : {f : Figures} (r : FigureAnswer) → a ≡ Sized f → told r ≡ fit-opened f L t h c n → Admitted b L t h c n r ns
     unfolding admit-lengths must and-then as-21 fit-opened
-    step-fits r e i = record { answer = i ∙ simp (le-leb L 4096 low, ← p .answer, e); ready = ready-as (told r) }
+    step-fits r e i = record { answer = i ∙ simp (le-leb L 4096 low, timely, ← p .answer, e); ready = ready-as (told r) }

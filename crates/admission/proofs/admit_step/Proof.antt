@@ -21,11 +21,11 @@ fit-state-requires : tie.Need-fit-state-requires
 fit-state-requires c κs = sized-small _ _ (c .before .before .before .prepare .ensures .answer) (c .before .a .given .1)
 
 returns-2 : tie.Need-returns-2
-returns-2 c = step-no-rule _ _ _ _ _ _ _ _ (c .before .before .before .before .if1 .left) (c .before .before .prepare .ensures) (c .enum-told .given .1)
+returns-2 c = step-no-rule _ _ _ _ _ _ _ _ (c .before .before .before .before .if1 .left) (search needs) (c .before .before .prepare .ensures) (c .enum-told .given .1)
 
 returns-3 : tie.Need-returns-3
 returns-3 c =
-    step-fits _ _ _ _ _ _ _ _ (c .before .before .before .before .before .before .if1 .left) (c .before .before .before .before .prepare .ensures) _ (c .before .before .a .given .1) (c .fit-state .ensures)
+    step-fits _ _ _ _ _ _ _ _ (c .before .before .before .before .before .before .if1 .left) (search needs) (c .before .before .before .before .prepare .ensures) _ (c .before .before .a .given .1) (c .fit-state .ensures)
 
 pub admit-step-spec : {M : Type 1} → statement M
 admit-step-spec =
