@@ -16,3 +16,4 @@ mod Ticks
 mod Sizes
 pub mod Rules
 mod Takes
+mod Batches

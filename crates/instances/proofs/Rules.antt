@@ -5,32 +5,35 @@ use mathlib.Core.List.{List, [], _∷_, _++_}
 use native.Mathlib.Omega.{arith}
 use native.Mathlib.Numerals.{add-one}
 use native.Mathlib.Nat.{mod-lt, mul-comm, mul-assoc, div-eq-of-eq-mul-right}
-use lib.ListN.{length, take, drop}
+use lib.ListN.{length, take, drop, set}
 use lib.Seq.{take-at}
 use Rattle.rule.specs.declared.Size.{Size}
 use Rattle.rule.specs.declared.Figures.{Figures}
 use Rattle.rule.specs.Formula.{Formula, formulas}
 use Rattle.rule.specs.Meaning.{rule}
-use Rattle.rule.specs.Figures.{at-tick, cells}
+use Rattle.rule.specs.Body.{body}
+use Rattle.rule.specs.Figures.{at-tick, cells, figures}
 use Rattle.rule.specs.Steps.{false-at, is-open, passing, report, live}
 use Rattle.rule.specs.Positions.{Within}
 use Rattle.rule.specs.Started.{Reach}
 use Rattle.rule.proofs.Reach.{rule-reach}
 use Rattle.rule.proofs.Recent.{report-recent, live-recent}
-use Rattle.demand.specs.Contract.{Kept}
+use Rattle.refusal.specs.Answer.{accepted}
+use Rattle.rule.proofs.Reading.{body-scoped}
+use Rattle.demand.specs.Contract.{State, next-state, Kept}
 use Rattle.instances.specs.Tree.{Tree, formula-of, tree-at, words}
 use Rattle.instances.specs.Cells.{slot}
 use Rattle.instances.specs.Sized.{sized}
 use Rattle.instances.specs.Instances.{InstanceHolds, Stand, TicksFit, TicksMoved, Spared}
-use Rattle.instances.specs.Moves.{CellsStand, Prepares, InstancesFit, StepMeans, InstancesMoved}
+use Rattle.instances.specs.Moves.{Stands, Prepares, TableOf, TickFit, TickMoved}
 use Rattle.instances.proofs.Slots.{slot-before, slot-front}
 use Rattle.rule.proofs.Limits.{WithinLimits, within-limits}
 use Rattle.instances.proofs.Sizes.{formula-sized, tree-sized, words-sized, formed-sized}
 
 -- Before tick 0 the cells stand for every stream.
-pub stand-at-start : (F : Formula) (d : ℕ) (flags : ℕ → ℕ) (cells : List ℕ) → CellsStand F d flags 0 cells
-unfolding CellsStand Stand
-stand-at-start F d flags cells k p e h g = absurd (omega arith)
+pub stands-at-start : (s : State) (flags : ℕ → ℕ) (cells : List ℕ) → s .next ≡ 0 → Stands s cells flags
+unfolding Stands Stand
+stands-at-start s flags cells z F f r w k p e h g = absurd (omega arith)
 
 -- ---- the slots of a table, or of the part that is needed
 
@@ -96,67 +99,106 @@ module _ (F : Formula) (f : Figures) (ns : List ℕ) (p : Prepares F f ns) where
       ap (λ (G : Formula). passing is-open (rule G flags t) (t + 1 - low) low) (formula-sized F (at-tick ∷ []))
       ∙ ap₂ (passing is-open (rule F flags t)) a b ∙ sym (live-recent F (f .delay) (limits .delay-is) flags t)
 
-  rule-means : (c : ℕ) (hist : List ℕ) (b t low : ℕ) (table report₀ : List ℕ) (reported live-count : ℕ) (table′ report′ : List ℕ)
-      → c ≡ f .cells / (f .delay + 1) * 4 → low ≡ t + 1 - (f .delay + 1) → 4 * f .cells ≤ length table → length table′ ≡ length table
-      → TicksMoved (tree-at 64 ns 0) (f .delay + 1) c hist b t low table report₀ reported live-count table′ report′
-      → (flags : ℕ → ℕ) → flags t ≡ b → Kept flags (length hist) (f .history) t hist
-      → CellsStand F (f .delay) flags t (take (4 * f .cells) table) → StepMeans F f flags t reported live-count table′ report′
-  unfolding CellsStand
-  rule-means c hist b t low table report₀ reported live-count table′ report′ ec el room long moved flags eb kept stand =
+-- ---- for the function
+
+-- The rule of a state, in its table.
+module _ (ns : List ℕ) (f : Figures) (L t : ℕ) (s : State) (at : TableOf ns f L t s) where
+  prepared : (F : Formula) → body (s .body-bytes) ≡ accepted F → Prepares F f ns
+  prepared F r = let same : at .formula ≡ F = cc (at .reads) in subst (λ (G : Formula). Prepares G f ns) same (at .prepares)
+
+  pub table-short : (f .delay ≤ 255) × (f .cells ≤ 4096)
+  table-short = let l = limits (at .formula) f ns (at .prepares) in (l .short, l .few)
+
+  -- the cells of a state whose figures are known
+  stands-as : (cells : List ℕ) (flags : ℕ → ℕ) (F : Formula) (r : body (s .body-bytes) ≡ accepted F) → Stands s cells flags
+      → Stand (sized F (at-tick ∷ [])) (f .delay + 1) (4 + words (sized F (at-tick ∷ []))) flags t cells
+  unfolding Stands
+  stands-as cells flags F r h =
+      subst (λ (u : ℕ). Stand (sized F (at-tick ∷ [])) (f .delay + 1) (4 + words (sized F (at-tick ∷ []))) flags u cells) (at .next) (h F f r (prepared F r .within))
+
+  stands-next : (live : ℕ) (cells : List ℕ) (flags : ℕ → ℕ) (F : Formula) (r : body (s .body-bytes) ≡ accepted F)
+      → Stand (sized F (at-tick ∷ [])) (f .delay + 1) (4 + words (sized F (at-tick ∷ []))) flags (suc t) cells → Stands (next-state s live) cells flags
+  unfolding Stands
+  stands-next live cells flags F r h G g i w =
+      let same : F ≡ G = cc in
+      let same-figures : f ≡ g = cc (prepared F r .within, ap figures same) in
+      rw (← same, ← same-figures, at .next) h
+
+module _ (ns : List ℕ) (f : Figures) (c : ℕ) (hist : List ℕ) (b t low : ℕ) (table report₀ : List ℕ) (reported live-count : ℕ) (table′ report′ : List ℕ)
+    (ec : c ≡ f .cells / (f .delay + 1) * 4) (el : low ≡ t + 1 - (f .delay + 1)) (room : 4 * f .cells ≤ length table) (long : length table′ ≡ length table)
+    (moved : TicksMoved (tree-at 64 ns 0) (f .delay + 1) c hist b t low table report₀ reported live-count table′ report′) where
+  rule-means : (F : Formula) → Prepares F f ns → (flags : ℕ → ℕ) → flags t ≡ b → Kept flags (length hist) (f .history) t hist
+      → Stand (sized F (at-tick ∷ [])) (f .delay + 1) (4 + words (sized F (at-tick ∷ []))) flags t (take (4 * f .cells) table)
+      → (take reported report′ ≡ report F flags t) × (reported ≡ length (report F flags t)) × (live-count ≡ length (live F flags t))
+      × Stand (sized F (at-tick ∷ [])) (f .delay + 1) (4 + words (sized F (at-tick ∷ []))) flags (suc t) (take (4 * f .cells) table′)
+  rule-means F p flags eb kept stand =
       let T : Tree = sized F (at-tick ∷ []) in
       let w : ℕ = 4 + words (sized F (at-tick ∷ [])) in
       let n : ℕ = f .delay + 1 in
-      let whole : n * w ≡ 4 * f .cells = all-words in
+      let whole : n * w ≡ 4 * f .cells = all-words F f ns p in
       let moved′ : TicksMoved T n w hist b t low table report₀ reported live-count table′ report′ =
-      subst (λ (x : ℕ). TicksMoved T n x hist b t low table report₀ reported live-count table′ report′) (ec ∙ slot-words)
-      (subst (λ (x : Tree). TicksMoved x n c hist b t low table report₀ reported live-count table′ report′) tree-is moved) in
+      subst (λ (x : ℕ). TicksMoved T n x hist b t low table report₀ reported live-count table′ report′) (ec ∙ slot-words F f ns p)
+      (subst (λ (x : Tree). TicksMoved x n c hist b t low table report₀ reported live-count table′ report′) (tree-is F f ns p) moved) in
       let stand′ : Stand T n w flags t (take (n * w) table) = rw whole stand in
-      let x = moved′ .gives flags (f .history) (record { history = kept; current = sym eb }) (rule-reaches flags) (stand-whole T n w flags t table (omega arith) (omega arith) stand′) in
-      let er : passing (false-at t) (rule (formula-of T) flags t) (t + 1 - low) low ≡ report F flags t = report-is flags t low el in
+      let x = moved′ .gives flags (f .history) (record { history = kept; current = sym eb }) (rule-reaches F f ns p flags) (stand-whole T n w flags t table (omega arith) (omega arith) stand′) in
+      let er : passing (false-at t) (rule (formula-of T) flags t) (t + 1 - low) low ≡ report F flags t = report-is F f ns p flags t low el in
       let count : reported ≡ length (report F flags t) = x .0 ∙ ap length er in
-      let next : Stand T n w flags (t + 1) (take (n * w) table′) = stand-needed T n w flags (t + 1) table′ (omega arith) (omega arith) (x .1 .1 .1) in
+      let next : Stand T n w flags (t + 1) (take (n * w) table′) = stand-needed T n w flags (t + 1) table′ (omega arith) (omega arith) (x .1 .1 .1) in (
+        ap (take reported) (x .1 .0 ∙ ap (λ (l : List ℕ). l ++ drop reported report₀) er) ∙ take-at (report F flags t) (drop reported report₀) reported (sym count),
+        count,
+        x .1 .1 .0 ∙ ap length (live-is F f ns p flags t low el),
+        rw (← add-one t, ← whole) next,
+      )
+
+  -- the tick is taken, of every state whose rule stands in the table
+  pub rule-takes : (hist′ : List ℕ) → hist′ ≡ set hist (t % length hist) b → length report′ ≡ length report₀
+      → Spared (f .delay + 1) ((f .delay + 1) * c) table report₀ reported live-count table′ report′
+      → TickMoved ns f t hist b table report₀ reported live-count hist′ table′ report′
+  rule-takes hist′ stored same spared =
       record {
-        words = ap (take reported) (x .1 .0 ∙ ap (λ (l : List ℕ). l ++ drop reported report₀) er) ∙ take-at (report F flags t) (drop reported report₀) reported (sym count);
-        count = count;
-        open-ticks = x .1 .1 .0 ∙ ap length (live-is flags t low el);
-        stands = rw (← add-one t, ← whole) next;
+        takes = λ s at.
+            let whole : (f .delay + 1) * c ≡ 4 * f .cells =
+            ap (λ (x : ℕ). (f .delay + 1) * x) (ec ∙ slot-words (at .formula) f ns (at .prepares)) ∙ all-words (at .formula) f ns (at .prepares) in
+            record {
+              state = refl;
+              history-is = rw (at .next, at .opened) stored;
+              cells-length = long;
+              cells-rest = rw (← whole) (spared .table-rest);
+              few = spared .few;
+              report-length = same;
+              report-rest = spared .report-rest;
+              means = λ F r flags here kept stands.
+                  let m = rule-means F (prepared ns f (length hist) t s at F r) flags (rw (← at .next) here)
+                  (rw (← at .opened, ← at .next) kept) (stands-as ns f (length hist) t s at (take (4 * f .cells) table) flags F r stands) in
+                  record {
+                    words = rw (at .next) (m .0);
+                    count = rw (at .next) (m .1);
+                    open-ticks = rw (at .next) (m .2);
+                    stands = stands-next ns f (length hist) t s at live-count (take (4 * f .cells) table′) flags F r (m .3);
+                  };
+            };
       }
 
--- ---- for the function
+module _ (ns : List ℕ) (f : Figures) (L t cells words′ : ℕ) (i : TickFit ns f L t cells words′) where
+  abbrev F : Formula
+  F = i .table-of .formula
 
-pub rule-fits : (ns : List ℕ) (f : Figures) (t len words′ : ℕ) → InstancesFit ns f t len words′
-    → TicksFit (tree-at 64 ns 0) t (f .delay + 1) (f .cells / (f .delay + 1) * 4) len words′
-rule-fits ns f t len words′ i =
-    let F : Formula = i .formula in
-    let p : Prepares F f ns = i .prepares in
-    let T : Tree = sized F (at-tick ∷ []) in
-    let room : 4 * f .cells ≤ len = i .table in
-    let sw : f .cells / (f .delay + 1) * 4 ≡ 4 + words T = slot-words F f ns p in
-    let whole : (f .delay + 1) * (4 + words T) ≡ 4 * f .cells = all-words F f ns p in
-    let small : limits F f ns p .own ≤ 4095 = limits F f ns p .small in
-    rw (tree-is F f ns p, sw) (record {
-      formed = formed-sized F ns (at-tick ∷ []) 0 0 (12 * formulas F) (p .stands .holds) refl (i .scoped) (limits F f ns p .own) (limits F f ns p .own-is) (omega arith);
-      room = omega arith;
-      low = i .low;
-      some = omega arith;
-      table = omega arith;
-      report = i .report;
-    })
+  abbrev p : Prepares F f ns
+  p = i .table-of .prepares
 
-pub rule-moved : (ns : List ℕ) (f : Figures) (c : ℕ) (hist : List ℕ) (b t low : ℕ) (table report₀ : List ℕ) (reported live-count : ℕ) (table′ report′ : List ℕ)
-    → c ≡ f .cells / (f .delay + 1) * 4 → low ≡ t + 1 - (f .delay + 1) → 4 * f .cells ≤ length table → length table′ ≡ length table
-    → TicksMoved (tree-at 64 ns 0) (f .delay + 1) c hist b t low table report₀ reported live-count table′ report′
-    → InstancesMoved ns f hist b t table reported live-count table′ report′
-rule-moved ns f c hist b t low table report₀ reported live-count table′ report′ ec el room long moved =
-    record { means = λ F p. rule-means F f ns p c hist b t low table report₀ reported live-count table′ report′ ec el room long moved }
-
--- the needed words are the slots
-pub rule-spares : (ns : List ℕ) (f : Figures) (t len words′ : ℕ) (table report₀ : List ℕ) (reported live-count : ℕ) (table′ report′ : List ℕ) → InstancesFit ns f t len words′
-    → Spared (f .delay + 1) ((f .delay + 1) * (f .cells / (f .delay + 1) * 4)) table report₀ reported live-count table′ report′
-    → Spared (f .delay + 1) (4 * f .cells) table report₀ reported live-count table′ report′
-rule-spares ns f t len words′ table report₀ reported live-count table′ report′ i s =
-    subst (λ (k : ℕ). Spared (f .delay + 1) k table report₀ reported live-count table′ report′)
-    (ap (λ (x : ℕ). (f .delay + 1) * x) (slot-words (i .formula) f ns (i .prepares)) ∙ all-words (i .formula) f ns (i .prepares)) s
-
-pub rule-short : (ns : List ℕ) (f : Figures) (t len words′ : ℕ) → InstancesFit ns f t len words′ → (f .delay ≤ 255) × (f .cells ≤ 4096)
-rule-short ns f t len words′ i = (limits (i .formula) f ns (i .prepares) .short, limits (i .formula) f ns (i .prepares) .few)
+  pub rule-fits : TicksFit (tree-at 64 ns 0) t (f .delay + 1) (f .cells / (f .delay + 1) * 4) cells words′
+  rule-fits =
+      let T : Tree = sized F (at-tick ∷ []) in
+      let room : 4 * f .cells ≤ cells = i .cells-fit in
+      let sw : f .cells / (f .delay + 1) * 4 ≡ 4 + words T = slot-words F f ns p in
+      let whole : (f .delay + 1) * (4 + words T) ≡ 4 * f .cells = all-words F f ns p in
+      let small : limits F f ns p .own ≤ 4095 = limits F f ns p .small in
+      let scoped = body-scoped (i .state .body-bytes) F (i .table-of .reads) in
+      rw (tree-is F f ns p, sw) (record {
+        formed = formed-sized F ns (at-tick ∷ []) 0 0 (12 * formulas F) (p .stands .holds) refl scoped (limits F f ns p .own) (limits F f ns p .own-is) (omega arith);
+        room = omega arith;
+        low = i .low;
+        some = omega arith;
+        table = omega arith;
+        report = i .report-fits;
+      })

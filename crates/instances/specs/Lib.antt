@@ -5,5 +5,6 @@ pub mod Run
 pub mod Calls
 pub mod Instances
 pub mod Sized
+pub mod Answers
 pub mod Moves
-pub mod Taking
+pub mod Batches

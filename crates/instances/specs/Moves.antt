@@ -1,49 +1,54 @@
--- What moving all instances of a rule by one tick requires and gives, in the words of 01's definitions.
-use Prim.Native.Nat.{ℕ, suc, _+_, _*_, _≤_, _<_}
+-- The invariant of the cells, and what moving all instances of a rule by one tick requires and gives: crate demand's promise of a step.
+use Prim.Native.Nat.{ℕ, _+_, _*_, _≤_, _<_}
 use mathlib.Core.Path.{_≡_}
 use mathlib.Core.List.{List, [], _∷_}
-use lib.ListN.{take, length}
+use lib.ListN.{length}
 use Rattle.refusal.specs.Answer.{accepted}
 use Rattle.rule.specs.declared.Figures.{Figures}
 use Rattle.rule.specs.Formula.{Formula}
+use Rattle.rule.specs.Body.{body}
 use Rattle.rule.specs.Figures.{figures, at-tick}
-use Rattle.rule.specs.Steps.{report, live}
-use Rattle.rule.specs.Started.{Scoped}
-use Rattle.reader.specs.Decoded.{Stands}
+use Rattle.reader.specs.Decoded as decoded
 use Rattle.figures.specs.Measured.{SizesAt}
-use Rattle.demand.specs.Contract.{Kept}
+use Rattle.demand.specs.Contract.{State, step-of, Invariant, Takes}
 use Rattle.instances.specs.Tree.{words}
 use Rattle.instances.specs.Sized.{sized}
 use Rattle.instances.specs.Instances.{Stand}
+use Rattle.instances.specs.Answers.{taken-from}
 
--- The needed cells of a rule with delay d are what the ticks of the stream `flags` before tick t leave: tick p, of the last d + 1, has slot
--- p mod (d + 1), four words for its own cell and four for each cell of the formula.
-unfoldable pub CellsStand : Formula → ℕ → (ℕ → ℕ) → ℕ → List ℕ → Type 0
-CellsStand F d flags t cells = Stand (sized F (at-tick ∷ [])) (d + 1) (4 + words (sized F (at-tick ∷ []))) flags t cells
+-- The invariant: the needed cells of the state's rule are what the ticks of the stream `flags` before its next tick leave. Tick p, of the last delay + 1,
+-- has slot p mod (delay + 1), four words for its own cell and four for each cell of the formula.
+unfoldable pub Stands : Invariant
+Stands s cells flags =
+    (F : Formula) (f : Figures) → body (s .body-bytes) ≡ accepted F → figures F ≡ accepted f
+    → Stand (sized F (at-tick ∷ [])) (f .delay + 1) (4 + words (sized F (at-tick ∷ []))) flags (s .next) cells
 
 -- The node table holds the rule's formula with its sizes, and the rule is within the limits.
 pub record Prepares (F : Formula) (f : Figures) (ns : List ℕ) : Type 0 where
-  pub stands : Stands F ns
+  pub stands : decoded.Stands F ns
   pub sizes : SizesAt F ns (at-tick ∷ []) 0
   pub within : figures F ≡ accepted f
 
--- What is required: nothing of what the cells hold.
-pub record InstancesFit (ns : List ℕ) (f : Figures) (t len words′ : ℕ) : Type 0 where
+-- The rule of state s stands in the node table and has these figures; the state was opened with a history of L bytes, as an opening admits, and takes
+-- tick t next.
+pub record TableOf (ns : List ℕ) (f : Figures) (L t : ℕ) (s : State) : Type 0 where
   pub formula : Formula
+  pub reads : body (s .body-bytes) ≡ accepted formula
   pub prepares : Prepares formula f ns
-  pub scoped : Scoped 1 formula
+  pub opened : s .opened ≡ L
+  pub opened-high : L ≤ 4096
+  pub opened-low : f .history ≤ L
+  pub next : s .next ≡ t
+
+-- What is required: a state that is admitted. Nothing of what history and cells hold.
+pub record TickFit (ns : List ℕ) (f : Figures) (L t cells report : ℕ) : Type 0 where
+  pub state : State
+  pub table-of : TableOf ns f L t state
   pub low : t < 4294967295
-  pub table : 4 * f .cells ≤ len
-  pub report : f .delay + 1 ≤ words′
+  pub cells-fit : 4 * f .cells ≤ cells
+  pub report-fits : f .delay + 1 ≤ report
 
--- The words and the live count of a step at tick t, and that the cells go on standing for the stream.
-pub record StepMeans (F : Formula) (f : Figures) (flags : ℕ → ℕ) (t : ℕ) (reported live-count : ℕ) (table′ report′ : List ℕ) : Type 0 where
-  pub words : take reported report′ ≡ report F flags t
-  pub count : reported ≡ length (report F flags t)
-  pub open-ticks : live-count ≡ length (live F flags t)
-  pub stands : CellsStand F (f .delay) flags (suc t) (take (4 * f .cells) table′)
-
--- For every stream whose byte at t is b, whose last flags are in the history, and for which the needed cells stand.
-pub record InstancesMoved (ns : List ℕ) (f : Figures) (hist : List ℕ) (b t : ℕ) (table : List ℕ) (reported live-count : ℕ) (table′ report′ : List ℕ) : Type 0 where
-  pub means : (F : Formula) → Prepares F f ns → (flags : ℕ → ℕ) → flags t ≡ b → Kept flags (length hist) (f .history) t hist
-      → CellsStand F (f .delay) flags t (take (4 * f .cells) table) → StepMeans F f flags t reported live-count table′ report′
+-- What is given: a step that takes the tick, of every such state.
+pub record TickMoved (ns : List ℕ) (f : Figures) (t : ℕ) (history : List ℕ) (flag : ℕ) (cells report : List ℕ) (reported live : ℕ) (history′ cells′ report′ : List ℕ) : Type 0 where
+  pub takes : (s : State) → TableOf ns f (length history) t s
+      → Takes Stands s (step-of (accepted (taken-from s reported live)) flag history cells report history′ cells′ report′) f (taken-from s reported live)

@@ -5,9 +5,10 @@ ghost use Prim.Native.Nat.{_+_, _*_, _-_, _≤_, _<_};
 ghost use lib.ListN.{length, drop, take};
 ghost use Rattle.instances.specs.Tree.{tree-at};
 ghost use Rattle.instances.specs.Instances.{InstanceMoved, InstanceFit, tick-if-false, open-count, TicksFit, TicksMoved, Spared};
-ghost use Rattle.instances.specs.Moves.{InstancesFit, InstancesMoved};
+ghost use Rattle.instances.specs.Moves.{TickFit, TickMoved};
 use crate::advance::advance_position;
 use crate::env::Env;
+use crate::ring::remember;
 use rule::Figures;
 use rule::Outcome;
 use rule::Verdict;
@@ -115,33 +116,24 @@ fn move_ticks(
     Moved { reported, live }
 }
 
-// Moves all instances of the rule whose node table is `nodes` to tick t, whose flag byte is given. The history still holds the ticks before
-// t: the caller stores the flag byte afterwards.
-pub(crate) fn move_instances(
+// Takes tick t, whose flag byte is given, of the rule whose node table is `nodes`: starts its instance, moves all live ones, writes the ticks that are
+// false at this step into the report, and stores the byte in the history, last.
+pub(crate) fn move_tick(
     nodes: &[u32; 768],
     figures: Figures,
-    table: &mut [u32],
-    history: &[u8],
-    flag: u8,
-    report: &mut [u32],
     t: u64,
+    history: &mut [u8],
+    flag: u8,
+    cells: &mut [u32],
+    report: &mut [u32],
 ) -> Moved
-    requires { ⌜ InstancesFit (now nodes) figures t (length (now table)) (length (now report)) ⌝ }
-    ensures { λ r. ⌜ InstancesMoved (now (nodes .entry)) figures (now (history .entry)) flag t (now (table .entry)) (r .reported) (r .live) (now (table .exit)) (now (report .exit)) ⌝ }
-    ensures { λ r. ⌜ Spared (figures .delay + 1) (4 * figures .cells) (now (table .entry)) (now (report .entry)) (r .reported) (r .live) (now (table .exit)) (now (report .exit)) ⌝ }
+    requires { ⌜ TickFit (now nodes) figures (length (now history)) t (length (now cells)) (length (now report)) ⌝ }
+    ensures { λ r. ⌜ TickMoved (now (nodes .entry)) figures t (now (history .entry)) flag (now (cells .entry)) (now (report .entry)) (r .reported) (r .live) (now (history .exit)) (now (cells .exit)) (now (report .exit)) ⌝ }
 {
     let n = figures.delay + 1;
     let c = (figures.cells / n * 4) as usize;
-    move_ticks(
-        nodes,
-        64,
-        table,
-        history,
-        flag,
-        report,
-        t,
-        oldest_tick(t, n),
-        n,
-        c,
-    )
+    let low = oldest_tick(t, n);
+    let moved = move_ticks(nodes, 64, cells, history, flag, report, t, low, n, c);
+    remember(history, t, flag);
+    moved
 }

@@ -1,12 +1,14 @@
-// The instances of a rule, each in its own run of cells, moved by one tick at a time.
+// The instances of a rule, each in its own run of cells, moved by one tick at a time: for one step, or for each of many flag bytes.
 mod advance;
+mod batch;
 mod cells;
 mod env;
 mod head;
 mod instances;
 mod ring;
-mod taking;
+mod stepping;
 
-pub use ring::remember;
-pub use taking::Taking;
-pub use taking::take_tick;
+pub use batch::BatchAnswer;
+pub use batch::take_batch;
+pub use stepping::StepAnswer;
+pub use stepping::take_step;

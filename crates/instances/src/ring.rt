@@ -21,7 +21,7 @@ pub(crate) fn byte_of(history: &[u8], flag: u8, t: u64, q: u64) -> u8
 
 // Stores the byte of tick t. This comes last in a step: where the history has no more bytes than the rule needs, byte t mod L still holds an older
 // tick that the step reads.
-pub fn remember(history: &mut [u8], t: u64, flag: u8)
+pub(crate) fn remember(history: &mut [u8], t: u64, flag: u8)
     ensures { λ _. ⌜ now (history .exit) ≡ set (now (history .entry)) (t % length (now (history .entry))) flag ⌝ }
 {
     if history.len() == 0 {

@@ -1,14 +1,14 @@
--- `exports::batch::spread` meets its contract: the ticks from i on are pairs, those before are as they were.
+-- `instances::batch::spread` meets its contract: the ticks from i on are pairs, those before are as they were.
 -- Assumes nothing.
 use Prim.Native.Nat.{ℕ, suc, _+_, _*_, _-_, _≤_}
 use mathlib.Core.Path.{_≡_, refl}
 use mathlib.Core.List.{List, _++_}
 use native.Mathlib.Omega.{arith}
 use lib.ListN.{length, take, drop, length-set}
-use Rattle.exports.specs.Batch.{paired}
-use Rattle.exports.proofs.Batches.{spread-none, spread-front, spread-rest}
-use Rattle.exports.proofs.batch.spread.Statement.{statement}
-use Rattle.exports.proofs.batch.spread.Tie as tie
+use Rattle.demand.specs.Contract.{paired}
+use Rattle.instances.proofs.Batches.{spread-none, spread-front, spread-rest}
+use Rattle.instances.proofs.batch.spread.Statement.{statement}
+use Rattle.instances.proofs.batch.spread.Tie as tie
 
 abbrev Inv-loop : tie.InvT-loop
 Inv-loop report₀ n step i₀ report i =

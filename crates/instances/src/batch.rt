@@ -1,0 +1,150 @@
+// Many flag bytes of a rule, whose body is read and measured once.
+ghost use mathlib.Core.Path.{_≡_};
+ghost use mathlib.Core.List.{_++_};
+ghost use Prim.Native.Nat.{_+_, _*_, _-_, _≤_, _<_, min};
+ghost use lib.ListN.{length, take, drop};
+ghost use Rattle.demand.specs.Contract.{paired, batch-of, Batched};
+ghost use Rattle.instances.specs.Moves.{Stands};
+ghost use Rattle.instances.specs.Answers.{state-at, batch-answer};
+ghost use Rattle.instances.specs.Batches.{FlagsFit, FlagsTaken, PairsFit, PairsMoved};
+use crate::instances::Moved;
+use crate::instances::move_tick;
+use figures::FigureAnswer;
+use refusal::Refusal;
+use rule::Figures;
+
+// How many flags were taken, how many pairs of a tick and its deciding step were written and how many ticks are live, or why the batch was refused.
+pub enum BatchAnswer {
+    Taken(usize, usize, usize),
+    Refused(Refusal),
+}
+
+// How many flags were taken, how many pairs were written, and how many ticks are live.
+pub(crate) struct Progress {
+    pub taken: usize,
+    pub pairs: usize,
+    pub live: usize,
+}
+
+// How many of n flags can be taken before the tick numbers end.
+fn flags_left(n: usize, tick: u32) -> usize
+    ensures { λ r. ⌜ r ≡ min n (4294967295 - tick) ⌝ }
+{
+    let left = (4294967295 - tick) as usize;
+    if n < left { n } else { left }
+}
+
+// Puts the step after each of the first n ticks, from the last one down.
+fn spread(report: &mut [u32], n: usize, step: u32)
+    requires { ⌜ 2 * n ≤ length (now report) ⌝ }
+    ensures { λ _. ⌜ now (report .exit) ≡ paired step (take n (now (report .entry))) ++ drop (2 * n) (now (report .entry)) ⌝ }
+{
+    let mut i = n;
+    while 0 < i {
+        i -= 1;
+        let tick = report[i];
+        report[2 * i] = tick;
+        report[2 * i + 1] = step;
+    }
+}
+
+// Takes tick t, whose report has `half` words for its ticks and as many again for their steps, and makes pairs of them.
+fn move_pairs(
+    nodes: &[u32; 768],
+    figures: Figures,
+    t: u64,
+    history: &mut [u8],
+    flag: u8,
+    cells: &mut [u32],
+    report: &mut [u32],
+    half: usize,
+) -> Moved
+    requires { ⌜ PairsFit (now nodes) figures (length (now history)) t (length (now cells)) (length (now report)) half ⌝ }
+    ensures { λ r. ⌜ PairsMoved (now (nodes .entry)) figures t (now (history .entry)) flag (now (cells .entry)) (now (report .entry)) half (r .reported) (r .live) (now (history .exit)) (now (cells .exit)) (now (report .exit)) ⌝ }
+{
+    let moved = move_tick(nodes, figures, t, history, flag, cells, &mut report[..half]);
+    spread(report, moved.reported, t as u32);
+    moved
+}
+
+// Takes flags from tick `tick` on, until they or the tick numbers end, or the report has no room for another step.
+fn take_flags(
+    nodes: &[u32; 768],
+    figures: Figures,
+    tick: u32,
+    live: usize,
+    flags: &[u8],
+    history: &mut [u8],
+    cells: &mut [u32],
+    report: &mut [u32],
+) -> Progress
+    requires { ⌜ FlagsFit (now nodes) figures (length (now history)) tick (length (now cells)) ⌝ }
+    ensures { λ r. ⌜ FlagsTaken (now (nodes .entry)) figures tick live (now (flags .entry)) (now (history .entry)) (now (cells .entry)) (now (report .entry)) (r .taken) (r .pairs) (r .live) (now (history .exit)) (now (cells .exit)) (now (report .exit)) ⌝ }
+{
+    let half = figures.delay as usize + 1;
+    let n = flags_left(flags.len(), tick);
+    let mut i: usize = 0;
+    let mut pairs: usize = 0;
+    let mut still_open = live;
+    while i < n {
+        let at = 2 * pairs;
+        if report.len() - at < 2 * half {
+            return Progress {
+                taken: i,
+                pairs,
+                live: still_open,
+            };
+        }
+        let t = tick as u64 + i as u64;
+        let moved = move_pairs(
+            nodes,
+            figures,
+            t,
+            history,
+            flags[i],
+            cells,
+            &mut report[at..],
+            half,
+        );
+        pairs += moved.reported;
+        still_open = moved.live;
+        i += 1;
+    }
+    Progress {
+        taken: i,
+        pairs,
+        live: still_open,
+    }
+}
+
+// Takes flag bytes one after another, each as a step does, from the tick `tick` on, before which `live` ticks were live. A refusal changes nothing.
+pub fn take_batch(
+    body: &[u8],
+    opened: usize,
+    tick: u32,
+    live: usize,
+    flags: &[u8],
+    history: &mut [u8],
+    cells: &mut [u32],
+    report: &mut [u32],
+) -> BatchAnswer
+    ensures { λ r. ⌜ Batched Stands (state-at (now (body .entry)) opened tick live) (batch-of (batch-answer (state-at (now (body .entry)) opened tick live) r) (now (flags .entry)) (now (history .entry)) (now (cells .entry)) (now (report .entry)) (now (history .exit)) (now (cells .exit)) (now (report .exit))) (batch-answer (state-at (now (body .entry)) opened tick live) r) ⌝ }
+{
+    let mut nodes = [0u32; 768];
+    let admitted = admission::admit_step(
+        body,
+        opened,
+        tick,
+        history.len(),
+        cells.len(),
+        256,
+        &mut nodes,
+    );
+    match admitted {
+        FigureAnswer::Refused(x) => BatchAnswer::Refused(x),
+        FigureAnswer::Sized(f) => {
+            let p = take_flags(&nodes, f, tick, live, flags, history, cells, report);
+            BatchAnswer::Taken(p.taken, p.pairs, p.live)
+        }
+    }
+}
