@@ -10,6 +10,7 @@ use lib.ListN.{length, getD, take, drop, length-take, take-append-drop, drop-of-
 use lib.Seq.{take-at, drop-at, take-all, length-take-le}
 use borrow.Author.Tests.{leb-true, leb-false}
 use Rattle.refusal.specs.Answer.{Answer, refused, accepted}
+use Rattle.demand.proofs.Admission.{step-admitted}
 use Rattle.demand.specs.Contract.{State, Taken, Step, Counts, Batch, state-after, state-after-batch, Invariant, Stepped, Chain, none, more, Batched, Carrier}
 use Rattle.demand.specs.Demand.{Call, step, refused-batch, write, Refused, ticks-after, ticks-after-batch, with-steps, with-batch, Run, done, stepped, strayed, batched, batch-strayed, wrote}
 
@@ -60,6 +61,16 @@ module _ (Stands : Invariant) (d : ℕ) (flags report : List ℕ) (s : State) (h
   chain-cells (more {cells₁ = cells₁} {a = a} k c below room flag-is own lent report-is e w) =
       let v : Stepped Stands _ k (accepted a) = subst (Stepped Stands _ k) e w in
       v .2 .cells-length ∙ ap length lent ∙ chain-cells c
+
+  -- Their tick numbers do not end before the last.
+  pub chain-low : {n : ℕ} {s′ : State} {history′ cells′ words : List ℕ} → s .next ≤ 4294967295
+      → Chain Stands d flags report s history cells n s′ history′ cells′ words → s′ .next ≤ 4294967295
+  chain-low i none = i
+  chain-low i (more {s₁ = s₁} {a = a} k c below room flag-is own lent report-is e w) =
+      let v : Stepped Stands s₁ k (accepted a) = subst (Stepped Stands s₁ k) e w in
+      let known = step-admitted (s₁ .body-bytes) (s₁ .opened) (s₁ .next) (length (k .history)) (length (k .cells)) (length (k .report)) (v .0) (v .1) in
+      let next : (a .state) .next ≡ suc (s₁ .next) = ap (λ (x : State). x .next) (v .2 .state) in
+      omega (arith, known .tick-low, known .tick-left, next)
 
 module _ (Stands : Invariant) (h L : ℕ) where
   moved : {s s′ : State} {table table′ history history′ : List ℕ} {t t′ : ℕ} {calls : List Call} → s ≡ s′ → table ≡ table′ → history ≡ history′ → t ≡ t′

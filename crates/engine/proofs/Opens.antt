@@ -16,16 +16,16 @@ use Rattle.rule.specs.Figures.{body-figures}
 use Rattle.figures.specs.declared.answer.FigureAnswer.{FigureAnswer}
 use Rattle.figures.specs.declared.answer.FigureAnswer.the-variants as sized
 use Rattle.figures.specs.Prepared.{told}
-use Rattle.demand.specs.Contract.{room, Opened}
-use Rattle.instances.specs.Taking.{StandsFor}
-use Rattle.instances.proofs.Rules.{stand-at-start}
+use Rattle.demand.specs.Contract.{room, fresh-state, opening-of, OpenPromise}
+use Rattle.instances.specs.Moves.{Stands}
+use Rattle.instances.proofs.Rules.{stands-at-start}
 use Rattle.engine.specs.declared.opening.OpenAnswer.{OpenAnswer}
 use Rattle.engine.specs.declared.opening.OpenAnswer.the-variants as answer
 use Rattle.engine.specs.declared.opening.OpenResult.{OpenResult}
 use Rattle.engine.specs.declared.state.State as code
-use Rattle.engine.specs.States.{state-of, fresh-state, fresh-code, blank-code}
-use Rattle.engine.specs.Promises.{Stands, OpenPromise, BodyOpenedBy, BodyOpened}
-use Rattle.engine.proofs.States.{fresh-is, blank-is}
+use Rattle.engine.specs.States.{state-of, fresh-code, blank-code, by-value}
+use Rattle.engine.specs.Promises.{open-answer, BodyOpenedBy, BodyOpened}
+use Rattle.engine.proofs.States.{fresh-is}
 
 -- ---- opening the rule with a body
 
@@ -39,11 +39,6 @@ module _ (b history : List ℕ) (cells : ℕ) (a : FigureAnswer) (told-is : told
   body-accepted {f} e = (f, sym told-is ∙ ap told e)
 
 -- ---- opening a rule of a sheet
-
--- Before tick 0 any cells stand for every stream.
-fresh-stands : (b cells : List ℕ) (L : ℕ) (flags : ℕ → ℕ) → Stands (fresh-state b L) cells flags
-unfolding StandsFor
-fresh-stands b cells L flags F f r w = stand-at-start F (f .delay) flags cells
 
 module _ (sheet : List ℕ) (number : ℕ) (place-of : Found) (found-is : found place-of ≡ rule-place sheet number) where
   sheet-refused : {x : Refusal} → place-of ≡ place.Refused x → rule-body sheet number ≡ refused (number-of x)
@@ -64,27 +59,26 @@ module _ (sheet : List ℕ) (number : ℕ) (place-of : Found) (found-is : found 
   part-size part e i = body-size sheet number part (part-is part e i) .1
 
   module _ (history cells : List ℕ) where
+    -- an opening that left this answer and state
+    abbrev Promised : OpenAnswer → code.State → List ℕ → Type 0
+    Promised o s history′ = OpenPromise Stands by-value blank-code (opening-of (open-answer o (state-of s)) sheet number history cells history′) s
+
     pub open-refused : {x : Refusal} (r : OpenResult) → place-of ≡ place.Refused x → (r .answer ≡ answer.Refused x) × (r .state ≡ blank-code)
-        → OpenPromise sheet number history cells r history
+        → Promised (r .answer) (r .state) history
     unfolding and-then
-    open-refused {x} r e w = go (r .answer) (w .0)
-      where
-        go : (o : OpenAnswer) → o ≡ answer.Refused x → OpenPromise sheet number history cells (record { answer = o; state = r .state }) history
-        go answer.Opened i = let z : _≡_ {A = ℕ} 0 1 = cc in absurd (omega arith)
-        go (answer.Refused y) i =
-            let j : x ≡ y = cc in
-            record { keeps = (rw (sheet-refused e) (ap (λ (v : Refusal). refused (number-of v)) j), refl, refl); blank = ap state-of (w .1) ∙ blank-is; state-is = w .1 }
+    open-refused {x} r e w =
+        subst (λ (o : OpenAnswer). Promised o (r .state) history) (sym (w .0))
+        (record { keeps = (rw (sheet-refused e) refl, refl, refl); left = w .1; goes-on = tt })
 
     pub open-body-keeps : {start size : ℕ} (part : List ℕ) (r : OpenResult) (history′ : List ℕ) → place-of ≡ place.At start size → part ≡ body-part (rule-body sheet number)
-        → BodyOpened part history (length cells) r history′ → OpenPromise sheet number history cells r history′
+        → BodyOpened part history (length cells) r history′ → Promised (r .answer) (r .state) history′
     unfolding and-then
     open-body-keeps part r history′ e i w = go (r .answer) w
       where
         is : rule-body sheet number ≡ accepted part
         is = part-is part e i
 
-        go : (o : OpenAnswer) → BodyOpenedBy part history (length cells) o (r .state) history′
-            → OpenPromise sheet number history cells (record { answer = o; state = r .state }) history′
+        go : (o : OpenAnswer) → BodyOpenedBy part history (length cells) o (r .state) history′ → Promised o (r .state) history′
         go answer.Opened v =
             let s : state-of (r .state) ≡ fresh-state part (length history) = ap state-of (v .1 .0) ∙ fresh-is part (length history) (part-size part e i) in
             record {
@@ -98,10 +92,10 @@ module _ (sheet : List ℕ) (number : ℕ) (place-of : Found) (found-is : found 
                   zeroed = v .1 .1;
                   table-length = refl;
                   table-rest = refl;
-                  stands = λ flags. rw s (fresh-stands part _ (length history) flags);
+                  stands = λ flags. stands-at-start (state-of (r .state)) flags _ (rw s refl);
                 },
               );
-              blank = tt;
-              state-is = v .1 .0 ∙ ap (λ (b : List ℕ). fresh-code b (length history)) i;
+              left = v .1 .0 ∙ ap (λ (b : List ℕ). fresh-code b (length history)) i;
+              goes-on = refl;
             }
-        go (answer.Refused x) v = record { keeps = (rw is (v .0), v .1 .1, refl); blank = ap state-of (v .1 .0) ∙ blank-is; state-is = v .1 .0 }
+        go (answer.Refused x) v = record { keeps = (rw is (v .0), v .1 .1, refl); left = v .1 .0; goes-on = tt }

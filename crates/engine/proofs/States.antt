@@ -7,7 +7,9 @@ use lib.ListN.{length, replicate, drop}
 use lib.Seq.{take-append-seam}
 use borrow.Author.Tests.{le-leb}
 use Rattle.engine.specs.declared.state.State as code
-use Rattle.engine.specs.States.{state-of, fresh-state, blank-state, next-state, padded, fresh-code, blank-code, next-code}
+use Rattle.demand.specs.Contract.{fresh-state}
+use Rattle.instances.specs.Answers.{state-at}
+use Rattle.engine.specs.States.{state-of, padded, fresh-code, moved-code}
 
 -- What is left of a row of equal bytes.
 drop-replicate : (n m a : ℕ) → drop n (replicate m a) ≡ replicate (m - n) a
@@ -27,10 +29,6 @@ pub fresh-is : (b : List ℕ) (L : ℕ) → length b ≤ 512 → state-of (fresh
 unfolding state-of padded
 fresh-is b L h = simp (le-leb (length b) 512 h, take-append-seam b (replicate (512 - length b) 0))
 
-pub blank-is : state-of blank-code ≡ blank-state
+pub moved-is : (s : code.State) (next live : ℕ) → state-of (moved-code s next live) ≡ state-at ((state-of s) .body-bytes) (s .opened) next live
 unfolding state-of
-blank-is = refl
-
-pub next-is : (s : code.State) (live : ℕ) → state-of (next-code s live) ≡ next-state (state-of s) live
-unfolding state-of
-next-is s live = refl
+moved-is s next live = refl

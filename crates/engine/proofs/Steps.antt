@@ -1,104 +1,126 @@
--- A step keeps its promise, by what its parts answered.
-use Prim.Native.Nat.{ℕ, _*_, _%_, _≤_, _<_}
+-- A step and a batch keep their promises, by what their parts answered.
+use Prim.Native.Nat.{ℕ, suc, _+_, _≤_, _<_}
 use mathlib.Core.Path.{_≡_, refl, sym, ap, subst, _∙_}
 use mathlib.Core.Bool.{Bool, true, false}
 use mathlib.Core.List.{List, []}
 use native.Mathlib.Omega.{arith}
+use native.Mathlib.Numerals.{add-one}
 use lib.Dec.{leb}
-use lib.ListN.{length, take, set}
+use lib.ListN.{length, take}
 use borrow.Author.Tests.{le-leb, lt-leb}
 use Rattle.refusal.specs.declared.Refusal.{Refusal}
 use Rattle.refusal.specs.declared.Refusal.the-variants.{StateNotOpened}
-use Rattle.refusal.specs.Answer.{refused, and-then}
+use Rattle.refusal.specs.Answer.{refused, accepted, and-then}
 use Rattle.rule.specs.declared.Figures.{Figures}
 use Rattle.rule.specs.Body.{require, head, parts, formula, formula-at, whole, body}
 use Rattle.rule.specs.Figures.{body-figures}
-use Rattle.demand.specs.Contract.{State, Taken, must, as-21, admit-lengths}
-use Rattle.demand.proofs.Admission.{StepAdmitted, step-admitted}
-use Rattle.instances.specs.declared.taking.Taking.{Taking}
-use Rattle.instances.specs.declared.taking.Taking.the-variants as taking
-use Rattle.instances.specs.Taking.{TickPromise}
+use Rattle.demand.specs.Contract.{State, step-of, batch-of, must, as-21, admit-lengths, Stepped, Batched, StepPromise, BatchPromise}
+use Rattle.demand.proofs.Admission.{step-admitted}
+use Rattle.demand.proofs.Lines.{chain-low}
+use Rattle.instances.specs.declared.stepping.StepAnswer.{StepAnswer}
+use Rattle.instances.specs.declared.stepping.StepAnswer.the-variants as steps
+use Rattle.instances.specs.declared.batch.BatchAnswer.{BatchAnswer}
+use Rattle.instances.specs.declared.batch.BatchAnswer.the-variants as batches
+use Rattle.instances.specs.Answers.{state-at, step-answer, batch-answer}
+use Rattle.instances.specs.Moves.{Stands}
 use Rattle.engine.specs.declared.state.State as code
-use Rattle.engine.specs.declared.stepping.StepAnswer.the-variants as answer
-use Rattle.engine.specs.States.{state-of, next-state, next-code}
-use Rattle.engine.specs.Promises.{Stands, StepPromise}
-use Rattle.engine.proofs.States.{next-is}
+use Rattle.engine.specs.States.{state-of, moved-code, by-value}
+use Rattle.engine.proofs.States.{moved-is}
 
 -- No body is no rule: 21, whatever else is brought.
 no-rule : (L t h c n : ℕ) → admit-lengths [] L t h c n ≡ refused 21
 unfolding admit-lengths must and-then as-21 body-figures body whole formula-at formula parts head require
-no-rule L t h c n = go (leb L 4096)
+no-rule L t h c n = go (leb L 4096) (leb t 4294967295)
   where
-    go : (b : Bool) → must {A = Figures} b 21 (refused 21) ≡ refused 21
-    go true = refl
-    go false = refl
+    go : (a b : Bool) → must {A = Figures} a 21 (must b 21 (refused 21)) ≡ refused 21
+    go true true = refl
+    go true false = refl
+    go false b = refl
+
+module _ (s : code.State) where
+  -- a size above the room stands for an empty body
+  too-long : 512 < s .size → (h c n : ℕ) → admit-lengths ((state-of s) .body-bytes) (s .opened) (s .next) h c n ≡ refused 21
+  unfolding state-of
+  too-long i h c n = simp (lt-leb (s .size) 512 i) (no-rule (s .opened) (s .next) h c n)
+
+  body-is : s .size ≤ 512 → take (s .size) (s .body) ≡ (state-of s) .body-bytes
+  unfolding state-of
+  body-is short = simp (le-leb (s .size) 512 short)
+
+-- ---- one flag byte
 
 module _ (s : code.State) (flag : ℕ) (history cells report : List ℕ) where
-  pub step-too-long : 512 < s .size → StepPromise s flag history cells report (record { answer = answer.Refused StateNotOpened; state = s }) history cells report
+  abbrev StepKept : StepAnswer → code.State → List ℕ → List ℕ → List ℕ → Type 0
+  StepKept a s′ history′ cells′ report′ =
+      StepPromise Stands by-value s (step-of (step-answer (state-of s) a) flag history cells report history′ cells′ report′) s′
+
+  pub step-too-long : 512 < s .size → StepKept (steps.Refused StateNotOpened) s history cells report
   unfolding state-of
-  step-too-long i =
-      record {
-        keeps = (simp (lt-leb (s .size) 512 i) (no-rule (s .opened) (s .next) (length history) (length cells) (length report)), (refl, refl, refl));
-        given-back = refl;
-        state-is = refl;
-      }
+  step-too-long i = record { keeps = (too-long s i (length history) (length cells) (length report), (refl, refl, refl)); left = refl; goes-on = refl }
 
-  module _ (short : s .size ≤ 512) where
-    body-is : (state-of s) .body-bytes ≡ take (s .size) (s .body)
-    unfolding state-of
-    body-is = simp (le-leb (s .size) 512 short)
+  module _ (short : s .size ≤ 512) (a : StepAnswer) (history′ cells′ report′ : List ℕ) where
+    abbrev TookStep : List ℕ → StepAnswer → Type 0
+    TookStep b a =
+        Stepped Stands (state-at b (s .opened) (s .next) 0) (step-of (step-answer (state-at b (s .opened) (s .next) 0) a) flag history cells report history′ cells′ report′)
+        (step-answer (state-at b (s .opened) (s .next) 0) a)
 
-    abbrev Promised : Taking → List ℕ → List ℕ → Type 0
-    Promised a cells′ report′ = TickPromise (take (s .size) (s .body)) (s .opened) (s .next) history flag cells report a cells′ report′
+    module _ (p : TookStep (take (s .size) (s .body)) a) where
+      owned : (a′ : StepAnswer) → a ≡ a′ → TookStep ((state-of s) .body-bytes) a′
+      owned a′ e = subst (λ (b : List ℕ). TookStep b a′) (body-is s short) (subst (TookStep (take (s .size) (s .body))) e p)
 
-    -- the same of the state's own body
-    owned : (a : Taking) (cells′ report′ : List ℕ) → Promised a cells′ report′
-        → TickPromise ((state-of s) .body-bytes) (s .opened) (s .next) history flag cells report a cells′ report′
-    owned a cells′ report′ p = subst (λ (b : List ℕ). TickPromise b (s .opened) (s .next) history flag cells report a cells′ report′) (sym body-is) p
+      pub step-refused : {x : Refusal} → a ≡ steps.Refused x → StepKept (steps.Refused x) s history′ cells′ report′
+      unfolding state-of
+      step-refused {x} e = record { keeps = owned (steps.Refused x) e; left = refl; goes-on = refl }
 
-    pub step-refused : (a : Taking) {x : Refusal} (cells′ report′ : List ℕ) → a ≡ taking.Refused x → Promised a cells′ report′
-        → StepPromise s flag history cells report (record { answer = answer.Refused x; state = s }) history cells′ report′
-    unfolding state-of
-    step-refused a {x} cells′ report′ e p =
-        let q = owned (taking.Refused x) cells′ report′ (subst (λ (y : Taking). Promised y cells′ report′) e p) in
-        record { keeps = (q .0, (refl, q .1 .0, q .1 .1)); given-back = refl; state-is = refl }
+      module _ {n live : ℕ} (e : a ≡ steps.Taken n live) where
+        took : TookStep ((state-of s) .body-bytes) (steps.Taken n live)
+        took = owned (steps.Taken n live) e
 
-    module _ (a : Taking) {n live : ℕ} (cells′ report′ : List ℕ) (e : a ≡ taking.Taken n live) (p : Promised a cells′ report′) where
-      took : TickPromise ((state-of s) .body-bytes) (s .opened) (s .next) history flag cells report (taking.Taken n live) cells′ report′
-      took = owned (taking.Taken n live) cells′ report′ (subst (λ (y : Taking). Promised y cells′ report′) e p)
+        pub tick-left : s .next + 1 < 4294967296
+        tick-left =
+            let known = step-admitted ((state-of s) .body-bytes) (s .opened) (s .next) (length history) (length cells) (length report) (took .0) (took .1) in
+            omega (arith, known .tick-low, known .tick-left)
 
-      figures-are : Figures
-      figures-are = took .0
+        pub step-taken : (s′ : code.State) → s′ ≡ moved-code s (s .next + 1) live → StepKept (steps.Taken n live) s′ history′ cells′ report′
+        unfolding state-of
+        step-taken s′ i =
+            let j : s′ ≡ moved-code s (suc (s .next)) live = i ∙ ap (λ (t : ℕ). moved-code s t live) (add-one (s .next)) in
+            record { keeps = took; left = j; goes-on = ap state-of j }
 
-      admitted : StepAdmitted ((state-of s) .body-bytes) (s .opened) (s .next) (length history) (length cells) (length report) figures-are
-      unfolding figures-are
-      admitted = step-admitted ((state-of s) .body-bytes) (s .opened) (s .next) (length history) (length cells) (length report) figures-are (took .1 .0)
+-- ---- many
 
-      pub tick-left : s .next < 4294967296 → s .next < 4294967295
-      tick-left i = omega (arith, admitted .tick-left)
+module _ (s : code.State) (flags history cells report : List ℕ) where
+  abbrev BatchKept : BatchAnswer → code.State → List ℕ → List ℕ → List ℕ → Type 0
+  BatchKept a s′ history′ cells′ report′ =
+      BatchPromise Stands by-value s (batch-of (batch-answer (state-of s) a) flags history cells report history′ cells′ report′) s′
 
-      pub step-taken : (s′ : code.State) (history′ : List ℕ) → history′ ≡ set history (s .next % length history) flag → s′ ≡ next-code s live
-          → StepPromise s flag history cells report (record { answer = answer.Taken n live; state = s′ }) history′ cells′ report′
-      unfolding state-of figures-are
-      step-taken s′ history′ i k =
-          let j : state-of s′ ≡ next-state (state-of s) live = ap state-of k ∙ next-is s live in
-          record {
-            keeps = (
-              figures-are,
-              took .1 .0,
-              record {
-                state = j;
-                history-is = i ∙ ap (λ (l : ℕ). set history (s .next % l) flag) (admitted .history-fits);
-                cells-length = took .1 .1 .cells-length;
-                cells-rest = took .1 .1 .cells-rest;
-                few = took .1 .1 .few;
-                report-length = took .1 .1 .report-length;
-                report-rest = took .1 .1 .report-rest;
-                means = λ F r flags here kept stands.
-                    let m = took .1 .1 .means F r flags here kept stands in
-                    record { words = m .words; count = m .count; open-ticks = m .open-ticks; stands = subst (λ (x : State). Stands x (take (4 * figures-are .cells) cells′) flags) (sym j) (m .stands) };
-              },
-            );
-            given-back = tt;
-            state-is = k;
-          }
+  pub batch-too-long : 512 < s .size → BatchKept (batches.Refused StateNotOpened) s history cells report
+  unfolding state-of
+  batch-too-long i = record { keeps = (too-long s i (length history) (length cells) 256, (refl, refl, refl)); left = refl; goes-on = refl }
+
+  module _ (short : s .size ≤ 512) (a : BatchAnswer) (history′ cells′ report′ : List ℕ) where
+    abbrev TookBatch : List ℕ → BatchAnswer → Type 0
+    TookBatch b a =
+        Batched Stands (state-at b (s .opened) (s .next) (s .live)) (batch-of (batch-answer (state-at b (s .opened) (s .next) (s .live)) a) flags history cells report history′ cells′ report′)
+        (batch-answer (state-at b (s .opened) (s .next) (s .live)) a)
+
+    module _ (p : TookBatch (take (s .size) (s .body)) a) where
+      batch-owned : (a′ : BatchAnswer) → a ≡ a′ → TookBatch ((state-of s) .body-bytes) a′
+      batch-owned a′ e = subst (λ (b : List ℕ). TookBatch b a′) (body-is s short) (subst (TookBatch (take (s .size) (s .body))) e p)
+
+      pub batch-refused : {x : Refusal} → a ≡ batches.Refused x → BatchKept (batches.Refused x) s history′ cells′ report′
+      unfolding state-of
+      batch-refused {x} e = record { keeps = batch-owned (batches.Refused x) e; left = refl; goes-on = refl }
+
+      module _ {n pairs live : ℕ} (e : a ≡ batches.Taken n pairs live) where
+        batch-took : TookBatch ((state-of s) .body-bytes) (batches.Taken n pairs live)
+        batch-took = batch-owned (batches.Taken n pairs live) e
+
+        pub ticks-left : s .next < 4294967296 → s .next + n < 4294967296
+        ticks-left word =
+            let low = chain-low Stands (batch-took .0 .delay) flags report (state-at ((state-of s) .body-bytes) (s .opened) (s .next) (s .live)) history cells (omega arith) (batch-took .2 .chain) in
+            omega (arith, low)
+
+        pub batch-taken : (s′ : code.State) → s′ ≡ moved-code s (s .next + n) live → BatchKept (batches.Taken n pairs live) s′ history′ cells′ report′
+        unfolding state-of
+        batch-taken s′ i = record { keeps = batch-took; left = i; goes-on = ap state-of i }

@@ -1,10 +1,10 @@
 -- What a state of the code stands for, and which states the calls give.
-use Prim.Native.Nat.{ℕ, suc, _-_}
+use Prim.Native.Nat.{ℕ, _-_}
 use mathlib.Core.Bool.{cond}
 use mathlib.Core.List.{List, [], _++_}
 use lib.Dec.{leb}
 use lib.ListN.{length, replicate, take}
-use Rattle.demand.specs.Contract.{State}
+use Rattle.demand.specs.Contract.{State, Carrier}
 use Rattle.engine.specs.declared.state.State as code
 
 -- Its rule's body is the first `size` bytes; a size above 512, which no opening gives, stands for an empty body, and so for no rule.
@@ -17,26 +17,21 @@ state-of s =
       live-count = s .live;
     }
 
--- The state of an accepted opening, the one beside a refused one, and the one after a step that took its tick.
-abbrev pub fresh-state : List ℕ → ℕ → State
-fresh-state b L = record { body-bytes = b; opened = L; next = 0; live-count = 0 }
-
-abbrev pub blank-state : State
-blank-state = record { body-bytes = []; opened = 0; next = 0; live-count = 0 }
-
-abbrev pub next-state : State → ℕ → State
-next-state s live = record { body-bytes = s .body-bytes; opened = s .opened; next = suc (s .next); live-count = live }
-
 -- A rule's body in the 512 bytes that a state has for it, with 0 in the rest.
 unfoldable pub padded : List ℕ → List ℕ
 padded b = b ++ replicate (512 - length b) 0
 
--- The same three as states of the code, with every field.
+-- The state of an accepted opening; the one beside a refused one, with an empty body, which every step refuses by 21; and one that has come to another
+-- next tick and live count.
 abbrev pub fresh-code : List ℕ → ℕ → code.State
 fresh-code b L = record { body = padded b; size = length b; opened = L; next = 0; live = 0 }
 
 abbrev pub blank-code : code.State
 blank-code = record { body = padded []; size = 0; opened = 0; next = 0; live = 0 }
 
-abbrev pub next-code : code.State → ℕ → code.State
-next-code s live = record { body = s .body; size = s .size; opened = s .opened; next = suc (s .next); live = live }
+abbrev pub moved-code : code.State → ℕ → ℕ → code.State
+moved-code s next live = record { body = s .body; size = s .size; opened = s .opened; next = next; live = live }
+
+-- A state that is carried as a value.
+abbrev pub by-value : Carrier
+by-value = record { Carried = code.State; holds = state-of; fresh = fresh-code; moved = moved-code }

@@ -1,4 +1,4 @@
-// The engine: opening a rule of a sheet, and stepping it by one flag byte. proofs/Demand3.antt has the theorem about whole lists of calls.
+// The engine: opening a rule of a sheet, and stepping it by one flag byte or by many. proofs/Demand3.antt has the theorem about whole lists of calls.
 mod opening;
 mod state;
 mod stepping;
@@ -7,6 +7,7 @@ pub use opening::OpenAnswer;
 pub use opening::OpenResult;
 pub use opening::open;
 pub use state::State;
-pub use stepping::StepAnswer;
+pub use stepping::BatchResult;
 pub use stepping::StepResult;
 pub use stepping::step;
+pub use stepping::steps;

@@ -2,8 +2,10 @@
 ghost use mathlib.Core.Path.{_≡_};
 ghost use Prim.Native.Nat.{_≤_};
 ghost use lib.ListN.{length, replicate};
-ghost use Rattle.engine.specs.States.{blank-code};
-ghost use Rattle.engine.specs.Promises.{BodyOpened, OpenPromise};
+ghost use Rattle.demand.specs.Contract.{opening-of, OpenPromise};
+ghost use Rattle.instances.specs.Moves.{Stands};
+ghost use Rattle.engine.specs.States.{state-of, blank-code, by-value};
+ghost use Rattle.engine.specs.Promises.{open-answer, BodyOpened};
 use crate::state::State;
 use crate::state::blank;
 use crate::state::fresh;
@@ -64,7 +66,7 @@ fn open_body(body: &[u8], history: &mut [u8], cells: &[u32]) -> OpenResult
 // Opens a rule of a sheet over a lent history, which is zeroed, and a lent cell table, which is only measured: the first step sets up what it
 // needs there.
 pub fn open(sheet: &[u8], rule: usize, history: &mut [u8], cells: &[u32]) -> OpenResult
-    ensures { λ r. ⌜ OpenPromise (now (sheet .entry)) rule (now (history .entry)) (now (cells .entry)) r (now (history .exit)) ⌝ }
+    ensures { λ r. ⌜ OpenPromise Stands by-value blank-code (opening-of (open-answer (r .answer) (state-of (r .state))) (now (sheet .entry)) rule (now (history .entry)) (now (cells .entry)) (now (history .exit))) (r .state) ⌝ }
 {
     let place = sheet::find_rule(sheet, rule);
     match place {

@@ -1,9 +1,9 @@
 // What an opening and its steps carry from call to call.
 ghost use mathlib.Core.Path.{_≡_};
 ghost use mathlib.Core.List.{_++_};
-ghost use Prim.Native.Nat.{_≤_, _<_};
+ghost use Prim.Native.Nat.{_≤_};
 ghost use lib.ListN.{length, drop};
-ghost use Rattle.engine.specs.States.{fresh-code, blank-code, next-code};
+ghost use Rattle.engine.specs.States.{fresh-code, blank-code, moved-code};
 
 // The rule's body in the first `size` bytes, the length of the opened history, the tick to be taken, and how many ticks are live.
 pub struct State {
@@ -55,12 +55,11 @@ pub(crate) fn blank() -> State
     }
 }
 
-// The state after a step that took its tick.
-pub(crate) fn after_tick(mut state: State, live: usize) -> State
-    requires { ⌜ state .next < 4294967295 ⌝ }
-    ensures { λ r. ⌜ r ≡ next-code state live ⌝ }
+// The state with another next tick and live count.
+pub(crate) fn moved(mut state: State, next: u32, live: usize) -> State
+    ensures { λ r. ⌜ r ≡ moved-code state next live ⌝ }
 {
-    state.next = state.next + 1;
+    state.next = next;
     state.live = live;
     state
 }

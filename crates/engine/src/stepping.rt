@@ -1,20 +1,23 @@
-// Stepping an opened rule by one flag byte.
-ghost use mathlib.Core.Path.{_≡_};
-ghost use Rattle.engine.specs.Promises.{StepPromise};
+// Stepping an opened rule by one flag byte, or by many.
+ghost use Rattle.demand.specs.Contract.{step-of, batch-of, StepPromise, BatchPromise};
+ghost use Rattle.instances.specs.Answers.{step-answer, batch-answer};
+ghost use Rattle.instances.specs.Moves.{Stands};
+ghost use Rattle.engine.specs.States.{state-of, by-value};
 use crate::state::State;
-use crate::state::after_tick;
-use instances::Taking;
+use crate::state::moved;
+use instances::BatchAnswer;
+use instances::StepAnswer;
 use refusal::Refusal;
 
-// How many ticks were reported and how many are live, or why the step was refused.
-pub enum StepAnswer {
-    Taken(usize, usize),
-    Refused(Refusal),
-}
-
-// The state after the step stands beside its answer; a refused step gives its own state back.
+// The state after a step stands beside its answer; a refused step gives its own state back.
 pub struct StepResult {
     pub answer: StepAnswer,
+    pub state: State,
+}
+
+// The same of a batch.
+pub struct BatchResult {
+    pub answer: BatchAnswer,
     pub state: State,
 }
 
@@ -27,7 +30,7 @@ pub fn step(
     cells: &mut [u32],
     report: &mut [u32],
 ) -> StepResult
-    ensures { λ r. ⌜ StepPromise state flag (now (history .entry)) (now (cells .entry)) (now (report .entry)) r (now (history .exit)) (now (cells .exit)) (now (report .exit)) ⌝ }
+    ensures { λ r. ⌜ StepPromise Stands by-value state (step-of (step-answer (state-of state) (r .answer)) flag (now (history .entry)) (now (cells .entry)) (now (report .entry)) (now (history .exit)) (now (cells .exit)) (now (report .exit))) (r .state) ⌝ }
 {
     let size = state.size;
     if 512 < size {
@@ -39,18 +42,59 @@ pub fn step(
     let opened = state.opened;
     let tick = state.next;
     let body = state.body;
-    let taking = instances::take_tick(&body[..size], opened, tick, history, flag, cells, report);
-    match taking {
-        Taking::Refused(x) => StepResult {
+    let answer = instances::take_step(&body[..size], opened, tick, history, flag, cells, report);
+    match answer {
+        StepAnswer::Refused(x) => StepResult {
             answer: StepAnswer::Refused(x),
             state,
         },
-        Taking::Taken(reported, live) => {
-            instances::remember(history, tick as u64, flag);
-            StepResult {
-                answer: StepAnswer::Taken(reported, live),
-                state: after_tick(state, live),
-            }
-        }
+        StepAnswer::Taken(reported, live) => StepResult {
+            answer: StepAnswer::Taken(reported, live),
+            state: moved(state, tick + 1, live),
+        },
+    }
+}
+
+// Takes flag bytes one after another, each as `step` does, and reads the rule once. The report gets pairs of a tick and the step that decided it, end to
+// end. It stops before a step for which fewer than 2 * (delay + 1) report words are left, and where the tick numbers end.
+pub fn steps(
+    state: State,
+    flags: &[u8],
+    history: &mut [u8],
+    cells: &mut [u32],
+    report: &mut [u32],
+) -> BatchResult
+    ensures { λ r. ⌜ BatchPromise Stands by-value state (batch-of (batch-answer (state-of state) (r .answer)) (now (flags .entry)) (now (history .entry)) (now (cells .entry)) (now (report .entry)) (now (history .exit)) (now (cells .exit)) (now (report .exit))) (r .state) ⌝ }
+{
+    let size = state.size;
+    if 512 < size {
+        return BatchResult {
+            answer: BatchAnswer::Refused(Refusal::StateNotOpened),
+            state,
+        };
+    }
+    let opened = state.opened;
+    let tick = state.next;
+    let live = state.live;
+    let body = state.body;
+    let answer = instances::take_batch(
+        &body[..size],
+        opened,
+        tick,
+        live,
+        flags,
+        history,
+        cells,
+        report,
+    );
+    match answer {
+        BatchAnswer::Refused(x) => BatchResult {
+            answer: BatchAnswer::Refused(x),
+            state,
+        },
+        BatchAnswer::Taken(taken, pairs, live) => BatchResult {
+            answer: BatchAnswer::Taken(taken, pairs, live),
+            state: moved(state, tick + taken as u32, live),
+        },
     }
 }
