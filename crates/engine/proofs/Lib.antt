@@ -1,5 +1,5 @@
 mod Copying
 mod States
 mod Opens
-mod Steps
+mod Kept
 pub mod Demand3

@@ -10,11 +10,12 @@ use Rattle.rule.specs.Body.{body}
 use Rattle.rule.specs.Figures.{figures, at-tick}
 use Rattle.reader.specs.Decoded as decoded
 use Rattle.figures.specs.Measured.{SizesAt}
-use Rattle.demand.specs.Contract.{State, step-of, Invariant, Takes}
+use Rattle.demand.specs.Contract.{State, step-of, Invariant, Takes, Stepped}
 use Rattle.instances.specs.Tree.{words}
 use Rattle.instances.specs.Sized.{sized}
 use Rattle.instances.specs.Instances.{Stand}
-use Rattle.instances.specs.Answers.{taken-from}
+use Rattle.instances.specs.declared.stepping.StepAnswer.{StepAnswer}
+use Rattle.instances.specs.Answers.{state-at, taken-from, step-answer}
 
 -- The invariant: the needed cells of the state's rule are what the ticks of the stream `flags` before its next tick leave. Tick p, of the last delay + 1,
 -- has slot p mod (delay + 1), four words for its own cell and four for each cell of the formula.
@@ -52,3 +53,8 @@ pub record TickFit (ns : List ℕ) (f : Figures) (L t cells report : ℕ) : Type
 pub record TickMoved (ns : List ℕ) (f : Figures) (t : ℕ) (history : List ℕ) (flag : ℕ) (cells report : List ℕ) (reported live : ℕ) (history′ cells′ report′ : List ℕ) : Type 0 where
   pub takes : (s : State) → TableOf ns f (length history) t s
       → Takes Stands s (step-of (accepted (taken-from s reported live)) flag history cells report history′ cells′ report′) f (taken-from s reported live)
+
+-- A step of the rule with this body, whose history was opened with L bytes and which takes tick t, however many ticks are live.
+abbrev pub StepOf : List ℕ → ℕ → ℕ → ℕ → List ℕ → List ℕ → List ℕ → StepAnswer → List ℕ → List ℕ → List ℕ → Type 0
+StepOf b L t flag history cells report r history′ cells′ report′ =
+    (live : ℕ) → Stepped Stands (state-at b L t live) (step-of (step-answer (state-at b L t live) r) flag history cells report history′ cells′ report′) (step-answer (state-at b L t live) r)

@@ -1,8 +1,5 @@
 // One step of a rule: refused, or its tick taken.
-ghost use lib.ListN.{length};
-ghost use Rattle.demand.specs.Contract.{step-of, Stepped};
-ghost use Rattle.instances.specs.Moves.{Stands};
-ghost use Rattle.instances.specs.Answers.{state-at, step-answer};
+ghost use Rattle.instances.specs.Moves.{StepOf};
 use crate::instances::move_tick;
 use figures::FigureAnswer;
 use refusal::Refusal;
@@ -13,7 +10,7 @@ pub enum StepAnswer {
     Refused(Refusal),
 }
 
-// Takes the tick of the rule with this body, whose history was opened with `opened` bytes. A refusal changes nothing.
+// Takes the tick of the rule with this body, whose history was opened with `opened` bytes, however many ticks are live. A refusal changes nothing.
 pub fn take_step(
     body: &[u8],
     opened: usize,
@@ -23,7 +20,7 @@ pub fn take_step(
     cells: &mut [u32],
     report: &mut [u32],
 ) -> StepAnswer
-    ensures { λ r. ⌜ Stepped Stands (state-at (now (body .entry)) opened tick 0) (step-of (step-answer (state-at (now (body .entry)) opened tick 0) r) flag (now (history .entry)) (now (cells .entry)) (now (report .entry)) (now (history .exit)) (now (cells .exit)) (now (report .exit))) (step-answer (state-at (now (body .entry)) opened tick 0) r) ⌝ }
+    ensures { λ r. ⌜ StepOf (now (body .entry)) opened tick flag (now (history .entry)) (now (cells .entry)) (now (report .entry)) r (now (history .exit)) (now (cells .exit)) (now (report .exit)) ⌝ }
 {
     let mut nodes = [0u32; 768];
     let admitted = admission::admit_step(

@@ -27,7 +27,7 @@ move-tick-requires c κs =
 
 -- src/stepping.rt:17:1
 returns : tie.Need-returns
-returns c =
+returns c live =
     let s₀ = c .before .before .before .before .before .before .before .before .before in
     let step = c .before .before .before .admit-step in
     (refused-as (s₀ .args .body .now) (s₀ .args .opened) (s₀ .args .tick) (length (s₀ .args .history .now)) (length (s₀ .args .cells .now)) (length (s₀ .args .report .now)) (step .result) (step .last .1 .1 .1 .1 .1 .1 .0) (step .ensures) (c .before .admitted .given .1), (refl, refl, refl))
@@ -46,14 +46,14 @@ same-length-3 c = search needs
 
 -- src/stepping.rt:17:1
 returns-2 : tie.Need-returns-2
-returns-2 c =
+returns-2 c live =
     let s₀ = c .before .before .before .before .before .before .before .before .before .before .before .before .before .before .before .before .before .before .before .before in
     let step = c .before .before .before .before .before .before .before .before .before .before .before .before .before .before .admit-step in
     let f = c .before .before .before .before .before .before .before .before .before .before .before .before .admitted2 .given .0 .0 in
     let sized = c .before .before .before .before .before .before .before .before .before .before .before .before .admitted2 .given .1 in (
       f,
       admitted-as (s₀ .args .body .now) (s₀ .args .opened) (s₀ .args .tick) (length (s₀ .args .history .now)) (length (s₀ .args .cells .now)) (length (s₀ .args .report .now)) (step .result) (step .last .1 .1 .1 .1 .1 .1 .0) (step .ensures) sized,
-      c .before .before .before .before .before .before .move-tick .ensures .takes (state-at (s₀ .args .body .now) (s₀ .args .opened) (s₀ .args .tick) 0) (table-of (s₀ .args .body .now) (s₀ .args .opened) (s₀ .args .tick) (length (s₀ .args .history .now)) (length (s₀ .args .cells .now)) (length (s₀ .args .report .now)) (step .result) (step .last .1 .1 .1 .1 .1 .1 .0) (step .ensures) f sized 0),
+      c .before .before .before .before .before .before .move-tick .ensures .takes (state-at (s₀ .args .body .now) (s₀ .args .opened) (s₀ .args .tick) live) (table-of (s₀ .args .body .now) (s₀ .args .opened) (s₀ .args .tick) (length (s₀ .args .history .now)) (length (s₀ .args .cells .now)) (length (s₀ .args .report .now)) (step .result) (step .last .1 .1 .1 .1 .1 .1 .0) (step .ensures) f sized live),
     )
 
 pub take-step-spec : {M : Type 1} → statement M

@@ -14,7 +14,7 @@ use Rattle.refusal.specs.Answer.{refused, accepted, and-then}
 use Rattle.rule.specs.declared.Figures.{Figures}
 use Rattle.rule.specs.Body.{require, head, parts, formula, formula-at, whole, body}
 use Rattle.rule.specs.Figures.{body-figures}
-use Rattle.demand.specs.Contract.{State, step-of, batch-of, must, as-21, admit-lengths, Stepped, Batched, StepPromise, BatchPromise}
+use Rattle.demand.specs.Contract.{State, step-of, batch-of, must, as-21, admit-lengths, Batched, StepPromise, BatchPromise}
 use Rattle.demand.proofs.Admission.{step-admitted}
 use Rattle.demand.proofs.Lines.{chain-low}
 use Rattle.instances.specs.declared.stepping.StepAnswer.{StepAnswer}
@@ -22,7 +22,7 @@ use Rattle.instances.specs.declared.stepping.StepAnswer.the-variants as steps
 use Rattle.instances.specs.declared.batch.BatchAnswer.{BatchAnswer}
 use Rattle.instances.specs.declared.batch.BatchAnswer.the-variants as batches
 use Rattle.instances.specs.Answers.{state-at, step-answer, batch-answer}
-use Rattle.instances.specs.Moves.{Stands}
+use Rattle.instances.specs.Moves.{Stands, StepOf}
 use Rattle.engine.specs.declared.state.State as code
 use Rattle.engine.specs.States.{state-of, moved-code, by-value}
 use Rattle.engine.proofs.States.{moved-is}
@@ -60,9 +60,7 @@ module _ (s : code.State) (flag : ℕ) (history cells report : List ℕ) where
 
   module _ (short : s .size ≤ 512) (a : StepAnswer) (history′ cells′ report′ : List ℕ) where
     abbrev TookStep : List ℕ → StepAnswer → Type 0
-    TookStep b a =
-        Stepped Stands (state-at b (s .opened) (s .next) 0) (step-of (step-answer (state-at b (s .opened) (s .next) 0) a) flag history cells report history′ cells′ report′)
-        (step-answer (state-at b (s .opened) (s .next) 0) a)
+    TookStep b a = StepOf b (s .opened) (s .next) flag history cells report a history′ cells′ report′
 
     module _ (p : TookStep (take (s .size) (s .body)) a) where
       owned : (a′ : StepAnswer) → a ≡ a′ → TookStep ((state-of s) .body-bytes) a′
@@ -70,7 +68,7 @@ module _ (s : code.State) (flag : ℕ) (history cells report : List ℕ) where
 
       pub step-refused : {x : Refusal} → a ≡ steps.Refused x → StepKept (steps.Refused x) s history′ cells′ report′
       unfolding state-of
-      step-refused {x} e = record { keeps = owned (steps.Refused x) e; left = refl; goes-on = refl }
+      step-refused {x} e = record { keeps = owned (steps.Refused x) e (s .live); left = refl; goes-on = refl }
 
       module _ {n live : ℕ} (e : a ≡ steps.Taken n live) where
         took : TookStep ((state-of s) .body-bytes) (steps.Taken n live)
@@ -78,14 +76,14 @@ module _ (s : code.State) (flag : ℕ) (history cells report : List ℕ) where
 
         pub tick-left : s .next + 1 < 4294967296
         tick-left =
-            let known = step-admitted ((state-of s) .body-bytes) (s .opened) (s .next) (length history) (length cells) (length report) (took .0) (took .1) in
+            let known = step-admitted ((state-of s) .body-bytes) (s .opened) (s .next) (length history) (length cells) (length report) (took 0 .0) (took 0 .1) in
             omega (arith, known .tick-low, known .tick-left)
 
         pub step-taken : (s′ : code.State) → s′ ≡ moved-code s (s .next + 1) live → StepKept (steps.Taken n live) s′ history′ cells′ report′
         unfolding state-of
         step-taken s′ i =
             let j : s′ ≡ moved-code s (suc (s .next)) live = i ∙ ap (λ (t : ℕ). moved-code s t live) (add-one (s .next)) in
-            record { keeps = took; left = j; goes-on = ap state-of j }
+            record { keeps = took (s .live); left = j; goes-on = ap state-of j }
 
 -- ---- many
 
