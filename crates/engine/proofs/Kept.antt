@@ -25,7 +25,6 @@ use Rattle.instances.specs.Answers.{state-at, step-answer, batch-answer}
 use Rattle.instances.specs.Moves.{Stands, StepOf}
 use Rattle.engine.specs.declared.state.State as code
 use Rattle.engine.specs.States.{state-of, moved-code, by-value}
-use Rattle.engine.proofs.States.{moved-is}
 
 -- No body is no rule: 21, whatever else is brought.
 no-rule : (L t h c n : ℕ) → admit-lengths [] L t h c n ≡ refused 21

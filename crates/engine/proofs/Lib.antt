@@ -1,4 +1,3 @@
-mod Copying
 mod States
 mod Opens
 mod Kept

@@ -1,15 +1,14 @@
 -- What the states that the calls give stand for.
 use Prim.Native.Nat.{ℕ, zero, suc, _-_, _≤_}
-use mathlib.Core.Path.{_≡_, refl, ap, _∙_}
+use mathlib.Core.Path.{_≡_, refl, ap, ap₂, _∙_}
 use mathlib.Core.List.{List, _++_}
 use native.Mathlib.Nat.{sub-zero, zero-sub, suc-sub-suc}
-use lib.ListN.{length, replicate, drop}
-use lib.Seq.{take-append-seam}
+use lib.ListN.{length, replicate, take, drop}
+use lib.Seq.{take-length, take-append-seam}
 use borrow.Author.Tests.{le-leb}
 use Rattle.engine.specs.declared.state.State as code
 use Rattle.demand.specs.Contract.{fresh-state}
-use Rattle.instances.specs.Answers.{state-at}
-use Rattle.engine.specs.States.{state-of, padded, fresh-code, moved-code}
+use Rattle.engine.specs.States.{state-of, padded, fresh-code}
 
 -- What is left of a row of equal bytes.
 drop-replicate : (n m a : ℕ) → drop n (replicate m a) ≡ replicate (m - n) a
@@ -18,17 +17,13 @@ drop-replicate (suc n) zero a = rw zero-sub
 drop-replicate (suc n) (suc m) a = rw suc-sub-suc (drop-replicate n m a)
 
 -- The fields with a body copied to the front of 512 bytes that are 0.
-pub copied-is : (b bytes : List ℕ) (L : ℕ) → bytes ≡ b ++ drop (length b) (replicate 512 0)
+pub copied-is : (b bytes : List ℕ) (L : ℕ) → bytes ≡ take (length b) b ++ drop (length b) (replicate 512 0)
     → _≡_ {A = code.State} (record { body = bytes; size = length b; opened = L; next = 0; live = 0 }) (fresh-code b L)
 unfolding padded
 copied-is b bytes L e =
     ap (λ (l : List ℕ). record { body = l; size = length b; opened = L; next = 0; live = 0 })
-    (e ∙ ap (λ (l : List ℕ). b ++ l) (drop-replicate (length b) 512 0))
+    (e ∙ ap₂ (λ (x y : List ℕ). x ++ y) (take-length b) (drop-replicate (length b) 512 0))
 
 pub fresh-is : (b : List ℕ) (L : ℕ) → length b ≤ 512 → state-of (fresh-code b L) ≡ fresh-state b L
 unfolding state-of padded
 fresh-is b L h = simp (le-leb (length b) 512 h, take-append-seam b (replicate (512 - length b) 0))
-
-pub moved-is : (s : code.State) (next live : ℕ) → state-of (moved-code s next live) ≡ state-at ((state-of s) .body-bytes) (s .opened) next live
-unfolding state-of
-moved-is s next live = refl

@@ -1,8 +1,7 @@
 // What an opening and its steps carry from call to call.
 ghost use mathlib.Core.Path.{_≡_};
-ghost use mathlib.Core.List.{_++_};
 ghost use Prim.Native.Nat.{_≤_};
-ghost use lib.ListN.{length, drop};
+ghost use lib.ListN.{length};
 ghost use Rattle.engine.specs.States.{fresh-code, blank-code, moved-code};
 
 // The rule's body in the first `size` bytes, the length of the opened history, the tick to be taken, and how many ticks are live.
@@ -14,27 +13,15 @@ pub struct State {
     pub live: usize,
 }
 
-// Copies bytes to the front of others; the ones after them stay as they were.
-fn copy_bytes(from: &[u8], to: &mut [u8])
-    requires { ⌜ length (now from) ≤ length (now to) ⌝ }
-    ensures { λ _. ⌜ now (to .exit) ≡ now (from .entry) ++ drop (length (now (from .entry))) (now (to .entry)) ⌝ }
-{
-    let mut i: usize = 0;
-    while i < from.len() {
-        to[i] = from[i];
-        i += 1;
-    }
-}
-
 // The state that an accepted opening gives.
 pub(crate) fn fresh(body: &[u8], opened: usize) -> State
     requires { ⌜ length (now body) ≤ 512 ⌝ }
     ensures { λ r. ⌜ r ≡ fresh-code (now (body .entry)) opened ⌝ }
 {
-    let mut bytes = [0u8; 512];
-    copy_bytes(body, &mut bytes);
+    let mut room = [0u8; 512];
+    bytes::copy(body, &mut room);
     State {
-        body: bytes,
+        body: room,
         size: body.len(),
         opened,
         next: 0,

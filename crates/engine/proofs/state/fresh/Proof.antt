@@ -1,18 +1,21 @@
-use borrow.Author.Needs.{needs}
 use Rattle.engine.proofs.States.{copied-is}
+use borrow.Author.Needs.{needs}
 use Rattle.engine.proofs.state.fresh.Statement.{statement}
 use Rattle.engine.proofs.state.fresh.Tie as tie
 
-slice-aggregate-copy-bytes : tie.Need-slice-aggregate-copy-bytes
-slice-aggregate-copy-bytes c = search needs
+-- src/state.rt:22:23
+slice-aggregate-copy : tie.Need-slice-aggregate-copy
+slice-aggregate-copy c = search needs
 
-copy-bytes-requires : tie.Need-copy-bytes-requires
-copy-bytes-requires c κs = search needs
+-- src/state.rt:22:5
+copy-requires : tie.Need-copy-requires
+copy-requires c κs = search needs
 
+-- src/state.rt:17:1
 returns : tie.Need-returns
 returns c =
     let a = c .before .before .before .before .args in
-    copied-is (a .body .now) (c .before .copy-bytes .last .1 .0) (a .opened) (c .before .copy-bytes .ensures)
+    copied-is (a .body .now) (c .before .copy .last .1 .0) (a .opened) (c .before .copy .ensures .1)
 
 pub fresh-spec : {M : Type 1} → statement M
-fresh-spec = tie.close (tie.spec slice-aggregate-copy-bytes copy-bytes-requires returns)
+fresh-spec = tie.close (tie.spec slice-aggregate-copy copy-requires returns)

@@ -1,0 +1,8 @@
+// A state of the engine as 544 lent bytes: loading and storing it are inverse to each other (proofs/States.antt).
+mod number_bytes;
+mod state;
+
+pub use state::load;
+pub use state::next_tick;
+pub use state::store;
+pub use state::store_progress;

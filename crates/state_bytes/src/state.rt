@@ -1,0 +1,70 @@
+// The state's parts in their places.
+ghost use mathlib.Core.Path.{_≡_};
+ghost use Prim.Native.Nat.{_≤_};
+ghost use lib.ListN.{length, take};
+ghost use Rattle.engine.specs.States.{moved-code};
+ghost use Rattle.state_bytes.specs.Numbers.{number-at};
+ghost use Rattle.state_bytes.specs.States.{loaded, stored, moved-bytes};
+use crate::number_bytes::number_at;
+use crate::number_bytes::put_number;
+use engine::State;
+
+// Where the numbers of a state lie, after the 512 bytes for its body.
+const SIZE_AT: usize = 512;
+
+const OPENED_AT: usize = 520;
+
+const NEXT_AT: usize = 528;
+
+const LIVE_AT: usize = 536;
+
+// The next tick that the bytes hold; it may be above every tick that a state of the engine can have.
+pub fn next_tick(state: &[u8; 544]) -> usize
+    ensures { λ r. ⌜ r ≡ number-at (now (state .entry)) 528 ⌝ }
+{
+    number_at(state, NEXT_AT)
+}
+
+// Fills `body` with the first bytes.
+fn load_body(state: &[u8], body: &mut [u8])
+    requires { ⌜ length (now body) ≤ length (now state) ⌝ }
+    ensures { λ _. ⌜ now (body .exit) ≡ take (length (now (body .entry))) (now (state .entry)) ⌝ }
+{
+    let n = body.len();
+    bytes::copy(&state[..n], body);
+}
+
+// The engine's state that the bytes hold, with this next tick.
+pub fn load(state: &[u8; 544], next: u32) -> State
+    ensures { λ r. ⌜ r ≡ moved-code (loaded (now (state .entry))) next (number-at (now (state .entry)) 536) ⌝ }
+{
+    let mut body = [0u8; 512];
+    load_body(state, &mut body);
+    State {
+        body,
+        size: number_at(state, SIZE_AT),
+        opened: number_at(state, OPENED_AT),
+        next,
+        live: number_at(state, LIVE_AT),
+    }
+}
+
+// Stores a state.
+pub fn store(state: &mut [u8; 544], s: State)
+    ensures { λ _. ⌜ now (state .exit) ≡ stored s ⌝ }
+{
+    let body = s.body;
+    bytes::copy(&body, state);
+    put_number(state, SIZE_AT, s.size);
+    put_number(state, OPENED_AT, s.opened);
+    put_number(state, NEXT_AT, s.next as usize);
+    put_number(state, LIVE_AT, s.live);
+}
+
+// Stores another next tick and live count.
+pub fn store_progress(state: &mut [u8; 544], next: usize, live: usize)
+    ensures { λ _. ⌜ now (state .exit) ≡ moved-bytes (now (state .entry)) next live ⌝ }
+{
+    put_number(state, NEXT_AT, next);
+    put_number(state, LIVE_AT, live);
+}
