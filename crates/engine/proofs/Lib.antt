@@ -1,4 +1,4 @@
-mod States
+pub mod States
 mod Opens
 mod Kept
 pub mod Demand3

@@ -3,7 +3,8 @@ use Prim.Native.Nat.{ℕ, zero, suc, _-_, _≤_}
 use mathlib.Core.Path.{_≡_, refl, ap, ap₂, _∙_}
 use mathlib.Core.List.{List, _++_}
 use native.Mathlib.Nat.{sub-zero, zero-sub, suc-sub-suc}
-use lib.ListN.{length, replicate, take, drop}
+use native.Mathlib.Omega.{arith}
+use lib.ListN.{length, replicate, take, drop, length-append, length-replicate}
 use lib.Seq.{take-length, take-append-seam}
 use borrow.Author.Tests.{le-leb}
 use Rattle.engine.specs.declared.state.State as code
@@ -23,6 +24,10 @@ unfolding padded
 copied-is b bytes L e =
     ap (λ (l : List ℕ). record { body = l; size = length b; opened = L; next = 0; live = 0 })
     (e ∙ ap₂ (λ (x y : List ℕ). x ++ y) (take-length b) (drop-replicate (length b) 512 0))
+
+pub length-padded : (b : List ℕ) → length b ≤ 512 → length (padded b) ≡ 512
+unfolding padded
+length-padded b h = simp (length-append, length-replicate) (omega arith)
 
 pub fresh-is : (b : List ℕ) (L : ℕ) → length b ≤ 512 → state-of (fresh-code b L) ≡ fresh-state b L
 unfolding state-of padded

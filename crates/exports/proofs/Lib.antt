@@ -1,9 +1,4 @@
-mod Numbers
 mod Texts
-mod States
-mod Calls
-mod Batches
-mod Steps
-mod Lists
+mod Kept
 pub mod Demand3
 mod Sizes

@@ -1,10 +1,10 @@
 -- A sentence in a lent buffer. Assumes nothing.
 use Prim.Native.Nat.{ℕ, suc, _+_, _-_, _<_, _≤_}
-use mathlib.Core.Path.{_≡_, sym, ap, _∙_}
+use mathlib.Core.Path.{_≡_, sym, ap, ap₂, _∙_}
 use mathlib.Core.List.{List, [], _∷_, _++_, append-assoc}
 use native.Mathlib.Omega.{arith}
 use lib.ListN.{length, take, drop, replicate, length-append, length-drop, getD-replicate}
-use lib.Seq.{length-take-le, take-append-add, drop-cons}
+use lib.Seq.{take-length, length-take-le, take-append-add, drop-cons}
 use borrow.Author.Tests.{lt-ltb, le-ltb}
 use Rattle.refusal.specs.Answer.{refused, accepted}
 use Rattle.refusal_text.specs.Sentences.{sentence-of}
@@ -38,10 +38,12 @@ module _ (n r : ℕ) (text : List ℕ) (few : r < 128) (long : r ≡ length (sen
     unfolding sentence-length
     there = simp (lt-ltb (length (sentence-of n)) (length out) (omega arith)) (ap accepted (sym long))
 
-    pub put-there : take (length (take (r + 1) out)) text ++ drop (r + 1) out ≡ with-sentence n out
+    pub put-there : (w : List ℕ) → w ≡ take (length (take (r + 1) text)) (take (r + 1) text) ++ drop (length (take (r + 1) text)) out → w ≡ with-sentence n out
     unfolding with-sentence
-    put-there =
-        let whole : length (take (r + 1) out) ≡ r + 1 = length-take-le (r + 1) out (omega arith) in
+    put-there w e =
+        let long-text = text-length in
+        let whole : length (take (r + 1) text) ≡ r + 1 = length-take-le (r + 1) text (omega arith) in
         let joined : take (r + 1) text ++ drop (r + 1) out ≡ sentence-of n ++ (0 ∷ drop (length (sentence-of n) + 1) out) =
         ap (λ (l : List ℕ). l ++ drop (r + 1) out) ended ∙ append-assoc (sentence-of n) (0 ∷ []) (drop (r + 1) out) ∙ ap (λ (k : ℕ). sentence-of n ++ (0 ∷ drop (k + 1) out)) long in
-        rw whole (simp (lt-ltb (length (sentence-of n)) (length out) (omega arith)) joined)
+        e ∙ ap₂ (λ (x y : List ℕ). x ++ y) (take-length (take (r + 1) text)) (ap (λ (k : ℕ). drop k out) whole)
+        ∙ simp (lt-ltb (length (sentence-of n)) (length out) (omega arith)) joined

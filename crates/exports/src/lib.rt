@@ -1,16 +1,12 @@
 // The library for C and Rust: functions on numbers and lent slices (include/station_watch.h). Each answers 0 or a refusal's number; on a
 // refusal nothing lent is changed, answers included. A state is 544 bytes that the caller lends and each call looks at anew.
-mod batch;
 mod bodies;
-mod bytes;
 mod lengths;
 mod rules;
 mod sentences;
 mod sheets;
-mod state;
 mod watching;
 
-pub use batch::sw_steps;
 pub use bodies::sw_figures;
 pub use bodies::sw_outcome;
 pub use rules::sw_rule_from_text;
@@ -20,3 +16,4 @@ pub use sheets::sw_rule_place;
 pub use sheets::sw_write_sheet;
 pub use watching::sw_open;
 pub use watching::sw_step;
+pub use watching::sw_steps;

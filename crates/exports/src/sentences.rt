@@ -3,7 +3,6 @@ ghost use mathlib.Core.Path.{_≡_};
 ghost use lib.ListN.{length};
 ghost use Rattle.exports.specs.Answers.{number, or-kept};
 ghost use Rattle.exports.specs.Sentences.{sentence-length, with-sentence};
-use crate::bytes::copy_front;
 use refusal::Refusal;
 
 // Writes the sentence of a refusal's number and a byte 0 at the start of the buffer, and answers the sentence's length: refusal 22.
@@ -18,7 +17,7 @@ pub extern "C" fn sw_sentence(refused: u32, out: &mut [u8], written: &mut usize)
     if out.len() <= n {
         return refusal::number(Refusal::BufferTooShort);
     }
-    copy_front(&text, &mut out[..n + 1]);
+    bytes::copy(&text[..n + 1], out);
     *written = n;
     0
 }

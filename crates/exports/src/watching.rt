@@ -1,14 +1,20 @@
-// Opening a rule, and stepping it by one flag byte.
+// Opening a rule, and stepping it by one flag byte or by many.
+ghost use Rattle.demand.specs.Contract.{opening-of, step-of, batch-of, OpenPromise, StepPromise, BatchPromise};
+ghost use Rattle.instances.specs.Answers.{taken-from, counts-from};
+ghost use Rattle.instances.specs.Moves.{Stands};
+ghost use Rattle.state_bytes.specs.States.{state-in, in-bytes};
 ghost use Rattle.exports.specs.Answers.{answered, KeptIfRefused};
-ghost use Rattle.exports.specs.Calls.{opening, LentOpening, LentStep, taken-as, step-with, step-answer};
-use crate::bytes::number_at;
-use crate::state::NEXT_AT;
-use crate::state::load;
-use crate::state::put_fresh;
-use crate::state::put_next;
 use engine::OpenAnswer;
-use engine::StepAnswer;
+use instances::BatchAnswer;
+use instances::StepAnswer;
 use refusal::Refusal;
+use state_bytes::load;
+use state_bytes::next_tick;
+use state_bytes::store;
+use state_bytes::store_progress;
+
+// The last tick number; a state can have it next, but no step takes it.
+const LAST_TICK: usize = 4294967295;
 
 // Opens a rule of a sheet over a lent history, which is zeroed, and a lent cell table, which is only measured: refusals 1 to 15, 23, 24,
 // 17, 18.
@@ -20,40 +26,15 @@ pub extern "C" fn sw_open(
     cells: &[u32],
     state: &mut [u8; 544],
 ) -> u32
-    ensures { λ n. ⌜ LentOpening (opening (now (sheet .entry)) rule (now (history .entry)) (now (cells .entry)) n (now (state .exit)) (now (history .exit))) n (now (state .entry)) (now (state .exit)) ⌝ }
+    ensures { λ n. ⌜ OpenPromise Stands in-bytes (now (state .entry)) (opening-of (answered n (state-in (now (state .exit)))) (now (sheet .entry)) rule (now (history .entry)) (now (cells .entry)) (now (history .exit))) (now (state .exit)) ⌝ }
 {
     let opened = engine::open(sheet, rule, history, cells);
     let answer = opened.answer;
     match answer {
         OpenAnswer::Refused(x) => refusal::number(x),
         OpenAnswer::Opened => {
-            put_fresh(state, sheet::rule_body(sheet, rule), history.len());
+            store(state, opened.state);
             0
-        }
-    }
-}
-
-// A step on state bytes.
-pub(crate) fn take_step(
-    state: &mut [u8; 544],
-    flag: u8,
-    history: &mut [u8],
-    cells: &mut [u32],
-    report: &mut [u32],
-) -> StepAnswer
-    ensures { λ r. ⌜ LentStep (now (state .entry)) (step-with (step-answer r (now (state .exit))) flag (now (history .entry)) (now (cells .entry)) (now (report .entry)) (now (history .exit)) (now (cells .exit)) (now (report .exit))) (now (state .exit)) ⌝ }
-{
-    let tick = number_at(state, NEXT_AT);
-    if 4294967295 < tick {
-        return StepAnswer::Refused(Refusal::StateNotOpened);
-    }
-    let stepped = engine::step(load(state), flag, history, cells, report);
-    let answer = stepped.answer;
-    match answer {
-        StepAnswer::Refused(x) => StepAnswer::Refused(x),
-        StepAnswer::Taken(reported, live) => {
-            put_next(state, tick, live);
-            StepAnswer::Taken(reported, live)
         }
     }
 }
@@ -69,15 +50,57 @@ pub extern "C" fn sw_step(
     reported: &mut usize,
     live: &mut usize,
 ) -> u32
-    ensures { λ n. ⌜ LentStep (now (state .entry)) (step-with (answered n (taken-as (now (reported .exit)) (now (live .exit)) (now (state .exit)))) flag (now (history .entry)) (now (cells .entry)) (now (report .entry)) (now (history .exit)) (now (cells .exit)) (now (report .exit))) (now (state .exit)) ⌝ }
+    ensures { λ n. ⌜ StepPromise Stands in-bytes (now (state .entry)) (step-of (answered n (taken-from (state-in (now (state .entry))) (now (reported .exit)) (now (live .exit)))) flag (now (history .entry)) (now (cells .entry)) (now (report .entry)) (now (history .exit)) (now (cells .exit)) (now (report .exit))) (now (state .exit)) ⌝ }
     ensures { λ n. ⌜ KeptIfRefused n (now (reported .entry)) (now (reported .exit)) ⌝ }
     ensures { λ n. ⌜ KeptIfRefused n (now (live .entry)) (now (live .exit)) ⌝ }
 {
-    let answer = take_step(state, flag, history, cells, report);
+    let tick = next_tick(state);
+    if LAST_TICK < tick {
+        return refusal::number(Refusal::StateNotOpened);
+    }
+    let stepped = engine::step(load(state, tick as u32), flag, history, cells, report);
+    let answer = stepped.answer;
     match answer {
         StepAnswer::Refused(x) => refusal::number(x),
         StepAnswer::Taken(n, l) => {
+            store_progress(state, tick + 1, l);
             *reported = n;
+            *live = l;
+            0
+        }
+    }
+}
+
+// Takes flag bytes one after another, each as sw_step does, and writes pairs of tick and deciding step. It stops before a step for which fewer than
+// 2 * (delay + 1) report words are left, and where the tick numbers end; where its first step is refused by 21, 17, 18 or 20, it is refused itself.
+#[no_mangle]
+pub extern "C" fn sw_steps(
+    state: &mut [u8; 544],
+    flags: &[u8],
+    history: &mut [u8],
+    cells: &mut [u32],
+    report: &mut [u32],
+    taken: &mut usize,
+    pairs: &mut usize,
+    live: &mut usize,
+) -> u32
+    ensures { λ n. ⌜ BatchPromise Stands in-bytes (now (state .entry)) (batch-of (answered n (counts-from (state-in (now (state .entry))) (now (taken .exit)) (now (pairs .exit)) (now (live .exit)))) (now (flags .entry)) (now (history .entry)) (now (cells .entry)) (now (report .entry)) (now (history .exit)) (now (cells .exit)) (now (report .exit))) (now (state .exit)) ⌝ }
+    ensures { λ n. ⌜ KeptIfRefused n (now (taken .entry)) (now (taken .exit)) ⌝ }
+    ensures { λ n. ⌜ KeptIfRefused n (now (pairs .entry)) (now (pairs .exit)) ⌝ }
+    ensures { λ n. ⌜ KeptIfRefused n (now (live .entry)) (now (live .exit)) ⌝ }
+{
+    let tick = next_tick(state);
+    if LAST_TICK < tick {
+        return refusal::number(Refusal::StateNotOpened);
+    }
+    let stepped = engine::steps(load(state, tick as u32), flags, history, cells, report);
+    let answer = stepped.answer;
+    match answer {
+        BatchAnswer::Refused(x) => refusal::number(x),
+        BatchAnswer::Taken(n, p, l) => {
+            store_progress(state, tick + n, l);
+            *taken = n;
+            *pairs = p;
             *live = l;
             0
         }

@@ -21,6 +21,7 @@ const LIVE_AT: usize = 536;
 // The next tick that the bytes hold; it may be above every tick that a state of the engine can have.
 pub fn next_tick(state: &[u8; 544]) -> usize
     ensures { λ r. ⌜ r ≡ number-at (now (state .entry)) 528 ⌝ }
+    ensures { λ _. ⌜ length (now (state .entry)) ≡ 544 ⌝ }
 {
     number_at(state, NEXT_AT)
 }
