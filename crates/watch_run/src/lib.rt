@@ -29,11 +29,11 @@ fn cell_table() -> [u32; 16384]
     [0; 16384]
 }
 
-// Room for the 256 ticks that one step may report.
-fn report_words() -> [u32; 256]
-    ensures { λ r. ⌜ 256 ≡ length r ⌝ }
+// Room for 2,048 pairs of a tick and its step; one step reports at most 256.
+fn report_words() -> [u32; 4096]
+    ensures { λ r. ⌜ 4096 ≡ length r ⌝ }
 {
-    [0; 256]
+    [0; 4096]
 }
 
 // Opens rule 0 over lent memory and takes the input. Like the functions below, it answers whether every line was written.

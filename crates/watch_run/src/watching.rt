@@ -1,4 +1,4 @@
-// Taking standard input, one flag byte a step.
+// Taking standard input, a chunk at a time: the engine reads the rule once for as many flag bytes as the report has room for.
 ghost use mathlib.Core.Path.{_≡_};
 ghost use Prim.Native.Nat.{_+_, min};
 use crate::output::print_end;
@@ -6,7 +6,7 @@ use crate::output::print_refusal;
 use crate::output::print_violation;
 use crate::reading::read_some;
 use engine::State;
-use engine::StepAnswer;
+use instances::BatchAnswer;
 use libc::STDIN_FILENO;
 
 // How a run stands: it goes on; or the input has ended; or it was stopped by a refusal, a line that could not be written or a read that failed, which
@@ -17,10 +17,11 @@ enum Run {
     Stopped,
 }
 
-// What the steps so far left.
+// What the steps so far left, and how many flag bytes the last batch took.
 struct Progress {
     state: State,
     violations: u64,
+    taken: usize,
     run: Run,
 }
 
@@ -58,56 +59,62 @@ fn more_by(count: u64, n: u64) -> u64
     }
 }
 
-// Prints the first n ticks of a report, all of them decided at this step, and answers whether that was done.
-fn print_report(report: &[u32], n: usize, step: u32) -> bool {
-    let mut i: usize = 0;
-    while i < n {
-        if report.len() <= i {
+// Prints the first n pairs of a report, each a tick and the step that decided it, and answers whether that was done.
+fn print_pairs(report: &[u32], n: usize) -> bool {
+    let mut at: usize = 0;
+    let mut left = n;
+    while 0 < left {
+        if report.len() < 2 {
             return false;
         }
-        if !print_violation(report[i], step) {
+        if report.len() - 2 < at {
             return false;
         }
-        i += 1;
+        if !print_violation(report[at], report[at + 1]) {
+            return false;
+        }
+        at += 2;
+        left -= 1;
     }
     true
 }
 
-// Takes one flag byte. A refused step prints its number and ends the run.
-fn take_byte(
+// Takes as many flag bytes as the report has room for. A refused batch prints its number and ends the run.
+fn take_flags(
     p: Progress,
-    flag: u8,
+    flags: &[u8],
     history: &mut [u8],
     cells: &mut [u32],
     report: &mut [u32],
 ) -> Progress {
     let before = p.state;
     let violations = p.violations;
-    let step = before.next;
-    let stepped = engine::step(before, flag, history, cells, report);
+    let stepped = engine::steps(before, flags, history, cells, report);
     let answer = stepped.answer;
     let state = stepped.state;
     match answer {
-        StepAnswer::Refused(x) => {
+        BatchAnswer::Refused(x) => {
             print_refusal(x);
             Progress {
                 state,
                 violations,
+                taken: 0,
                 run: Run::Stopped,
             }
         }
-        StepAnswer::Taken(reported, _) => {
-            let run = after_lines(print_report(report, reported, step));
+        BatchAnswer::Taken(taken, pairs, _) => {
+            let run = after_lines(print_pairs(report, pairs));
             Progress {
                 state,
-                violations: more_by(violations, reported as u64),
+                violations: more_by(violations, pairs as u64),
+                taken,
                 run,
             }
         }
     }
 }
 
-// Takes the bytes of one chunk.
+// Takes the bytes of one chunk. A batch takes at least one of them, since the report has room for every step; a proved loop is told so by a test.
 fn take_chunk(
     p: Progress,
     chunk: &[u8],
@@ -118,12 +125,19 @@ fn take_chunk(
     let mut so_far = p;
     let mut i: usize = 0;
     while i < chunk.len() {
-        so_far = take_byte(so_far, chunk[i], history, cells, report);
+        so_far = take_flags(so_far, &chunk[i..], history, cells, report);
         let run = so_far.run;
         if !goes_on(run) {
             return so_far;
         }
-        i += 1;
+        let taken = so_far.taken;
+        if taken == 0 {
+            return so_far;
+        }
+        if chunk.len() - i < taken {
+            return so_far;
+        }
+        i += taken;
     }
     so_far
 }
@@ -139,6 +153,7 @@ fn take_some(p: Progress, history: &mut [u8], cells: &mut [u32], report: &mut [u
         return Progress {
             state,
             violations: p.violations,
+            taken: 0,
             run,
         };
     }
@@ -151,6 +166,7 @@ fn take_all(state: State, history: &mut [u8], cells: &mut [u32], report: &mut [u
     let mut p = Progress {
         state,
         violations: 0,
+        taken: 0,
         run: Run::GoesOn,
     };
     let mut turns = u64::MAX;

@@ -15,11 +15,17 @@ abbrev μ-loop : tie.MeasureT-loop
 loop-holds : tie.Need-loop-holds Inv-loop μ-loop
 loop-holds c = search needs
 
-shared-slice-read-take-byte : tie.Need-shared-slice-read-take-byte Inv-loop μ-loop
-shared-slice-read-take-byte c = search needs
+sub-take-flags : tie.Need-sub-take-flags Inv-loop μ-loop
+sub-take-flags c = search needs
 
-take-byte-requires : tie.Need-take-byte-requires Inv-loop μ-loop
-take-byte-requires c κs = search needs
+part-take-flags-start : tie.Need-part-take-flags-start Inv-loop μ-loop
+part-take-flags-start c = search needs
+
+part-take-flags-end : tie.Need-part-take-flags-end Inv-loop μ-loop
+part-take-flags-end c = search needs
+
+take-flags-requires : tie.Need-take-flags-requires Inv-loop μ-loop
+take-flags-requires c κs = search needs
 
 goes-on-requires : tie.Need-goes-on-requires Inv-loop μ-loop
 goes-on-requires c κs = search needs
@@ -36,15 +42,6 @@ same-length-3 c = search needs
 returns : tie.Need-returns Inv-loop μ-loop
 returns c = search needs
 
-add-i : tie.Need-add-i Inv-loop μ-loop
-add-i c = search needs
-
-loop-less : tie.Need-loop-less Inv-loop μ-loop
-loop-less c = search needs
-
-loop-again : tie.Need-loop-again Inv-loop μ-loop
-loop-again c = search needs
-
 same-length-4 : tie.Need-same-length-4 Inv-loop μ-loop
 same-length-4 c = search needs
 
@@ -57,6 +54,42 @@ same-length-6 c = search needs
 returns-2 : tie.Need-returns-2 Inv-loop μ-loop
 returns-2 c = search needs
 
+sub-if3 : tie.Need-sub-if3 Inv-loop μ-loop
+sub-if3 c = search needs
+
+same-length-7 : tie.Need-same-length-7 Inv-loop μ-loop
+same-length-7 c = search needs
+
+same-length-8 : tie.Need-same-length-8 Inv-loop μ-loop
+same-length-8 c = search needs
+
+same-length-9 : tie.Need-same-length-9 Inv-loop μ-loop
+same-length-9 c = search needs
+
+returns-3 : tie.Need-returns-3 Inv-loop μ-loop
+returns-3 c = search needs
+
+add-i : tie.Need-add-i Inv-loop μ-loop
+add-i c = search needs
+
+loop-less : tie.Need-loop-less Inv-loop μ-loop
+loop-less c = search needs
+
+loop-again : tie.Need-loop-again Inv-loop μ-loop
+loop-again c = search needs
+
+same-length-10 : tie.Need-same-length-10 Inv-loop μ-loop
+same-length-10 c = search needs
+
+same-length-11 : tie.Need-same-length-11 Inv-loop μ-loop
+same-length-11 c = search needs
+
+same-length-12 : tie.Need-same-length-12 Inv-loop μ-loop
+same-length-12 c = search needs
+
+returns-4 : tie.Need-returns-4 Inv-loop μ-loop
+returns-4 c = search needs
+
 pub take-chunk-spec : {M : Type 1} → statement M
 take-chunk-spec =
     tie.close
@@ -64,17 +97,28 @@ take-chunk-spec =
     Inv-loop
     μ-loop
     loop-holds
-    shared-slice-read-take-byte
-    take-byte-requires
+    sub-take-flags
+    part-take-flags-start
+    part-take-flags-end
+    take-flags-requires
     goes-on-requires
     same-length
     same-length-2
     same-length-3
     returns
-    add-i
-    loop-less
-    loop-again
     same-length-4
     same-length-5
     same-length-6
-    returns-2)
+    returns-2
+    sub-if3
+    same-length-7
+    same-length-8
+    same-length-9
+    returns-3
+    add-i
+    loop-less
+    loop-again
+    same-length-10
+    same-length-11
+    same-length-12
+    returns-4)
