@@ -170,6 +170,11 @@ static void bodies(void)
     nots[64] = 1;
     nots[65] = nots[66] = 0;
     SAME(SW_BODY_TOO_LARGE, figures_are(nots, 67, 0, 0, 0));
+
+    /* The 65th formula is missing, or its code is unknown: both come before 9. */
+    SAME(SW_BODY_ENDS_EARLY, figures_are(nots, 64, 0, 0, 0));
+    nots[64] = 6;
+    SAME(SW_UNKNOWN_CODE, figures_are(nots, 65, 0, 0, 0));
 }
 
 /* ---- 25, 26: rules as text ---- */

@@ -3,6 +3,7 @@
 //! looked at.
 
 mod calls;
+mod formula_counts;
 mod runs;
 mod suites;
 mod text_cases;
@@ -10,6 +11,7 @@ mod texts;
 
 use crate::paper::LAST_REFUSAL;
 pub use calls::{figures, opening, outcome, place, round_trip, write};
+pub use formula_counts::{formula_counts, typed_formula_counts};
 pub use runs::{run, Plan, Tally};
 pub use suites::{
     bodies, cell_counts, history_lengths, limits, long_recordings, openings, recordings, runs,

@@ -123,13 +123,17 @@ fn forged_state(random: &mut Random, rule: &Rule) -> Vec<u8> {
     state
 }
 
-/// The rule's body, or now and then one that is read but has no figures.
+/// The rule's body, or now and then one that is read but has no figures, or one of about 64
+/// formulas.
 fn forged_body(random: &mut Random, rule: &Rule) -> Vec<u8> {
-    if random.one_in(10) {
-        let number = random.size(11, 15) as u32;
-        return random::neighbours(random, number).outside;
+    match random.below(20) {
+        0 | 1 => {
+            let number = random.size(11, 15) as u32;
+            random::neighbours(random, number).outside
+        }
+        2 => random::crowded(random),
+        _ => rule.body.clone(),
     }
-    rule.body.clone()
 }
 
 /// Honest states and tables with some bytes or words changed, or not of one

@@ -8,8 +8,8 @@ mod streams;
 mod texts;
 
 pub use bodies::{
-    aimed, any_body, faulty_bounds, figure_boundary, loose_bytes, neighbours, places,
-    twice_damaged, Neighbours, Place,
+    aimed, any_body, begun, crowded, endings, faulty_bounds, figure_boundary, loose_bytes,
+    neighbours, places, twice_damaged, Neighbours, Place,
 };
 pub use formulas::{accepted_rule, depth, quantifiers, size, visits, wild_formula, Rule};
 pub use sheets::{damaged_sheet, sheet_bodies, sheet_of, sheet_with, writer_input, WriterInput};

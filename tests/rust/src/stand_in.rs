@@ -53,6 +53,10 @@ pub enum Flaw {
     CellsIn16BitsWrap,
     NoPositionsAfterTheBody,
     FourBeforeNine,
+    /// 9 for a 65th formula of an unknown code.
+    NineBeforeFive(Reader),
+    /// 9 where the 65th formula is missing.
+    NineBeforeFour(Reader),
     Exchanges23And24,
     FarInfinityIs8,
     InnerBoundIs23,
@@ -107,6 +111,15 @@ pub enum Flaw {
     TakesEmptyBatch,
 }
 
+/// The calls that read a body.
+#[derive(Clone, Copy, Debug, PartialEq, Eq)]
+pub enum Reader {
+    Figures,
+    Evaluator,
+    Printer,
+    Opening,
+}
+
 pub struct StandIn {
     pub flaw: Flaw,
 }
@@ -134,8 +147,22 @@ impl StandIn {
             Err(24) if self.has(Flaw::Exchanges23And24) => Err(23),
             Err(24) if self.has(Flaw::FarInfinityIs8) && has_far_infinity(body) => Err(8),
             Ok(_) if self.has(Flaw::InnerBoundIs23) && has_inner_bound(body) => Err(23),
-            other => self.formula_figures(&other?),
+            Err(number) => Err(self.at_the_65th(Reader::Figures, body, number)),
+            Ok(formula) => self.formula_figures(&formula),
         }
+    }
+
+    /// What a call with a flaw at the 65th formula makes of a body's refusal.
+    fn at_the_65th(&self, reader: Reader, body: &[u8], number: Refusal) -> Refusal {
+        let flawed = match number {
+            4 => self.has(Flaw::NineBeforeFour(reader)),
+            5 => self.has(Flaw::NineBeforeFive(reader)),
+            _ => false,
+        };
+        if flawed && reaches_the_65th(body) {
+            return 9;
+        }
+        number
     }
 
     fn formula_figures(&self, formula: &Formula) -> Result<Figures, Refusal> {
@@ -415,7 +442,7 @@ impl Library for StandIn {
         }
         let horizon = recording.len() as i64 - 1;
         match paper::evaluate(body, recording, tick) {
-            Err(number) => return number,
+            Err(number) => return self.at_the_65th(Reader::Evaluator, body, number),
             Ok(_) if self.has(Flaw::OpenBeforeTrying) && horizon == tick as i64 => {
                 (*verdict, *step) = (OPEN, 0)
             }
@@ -446,7 +473,8 @@ impl Library for StandIn {
         state: &mut State,
     ) -> u32 {
         if let Err(number) = paper::open(sheet, rule, history.len(), cells.len()) {
-            return number;
+            let body = paper::rule_body(sheet, rule).unwrap_or(&[]);
+            return self.at_the_65th(Reader::Opening, body, number);
         }
         if !self.has(Flaw::ForgetsToZero) {
             history.fill(0);
@@ -552,6 +580,13 @@ fn sum(bytes: &[u8]) -> u32 {
 /// Whether the last byte is the code that refusal 9 is about.
 fn ends_with_code(body: &[u8]) -> bool {
     paper::read_body(&body[..body.len() - 1]) == Err(4)
+}
+
+/// Whether a body that is refused with 4 or 5 is so where its 65th formula is due: with a
+/// known code there it would be refused with 9.
+fn reaches_the_65th(body: &[u8]) -> bool {
+    let with_code = |at: usize| [&body[..at], &[2]].concat();
+    (0..=body.len()).any(|at| paper::read_body(&with_code(at)) == Err(9))
 }
 
 /// Whether four bytes look like an infinity with an offset out of range.

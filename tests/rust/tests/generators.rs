@@ -6,8 +6,9 @@ use rust_tests::paper::{
     Formula, BODY_REFUSALS, LAST_REFUSAL, MAX_HISTORY, MAX_OFFSET, RULE_REFUSALS,
 };
 use rust_tests::random::{
-    accepted_rule, aimed, any_body, any_text, damaged_sheet, depth, faulty_bounds, figure_boundary,
-    loose_text, size, stream, twice_damaged, typed, wild_formula, writer_input, Random,
+    accepted_rule, aimed, any_body, any_text, begun, crowded, damaged_sheet, depth, faulty_bounds,
+    figure_boundary, loose_text, size, stream, twice_damaged, typed, wild_formula, writer_input,
+    Random,
 };
 
 /// How often each number was answered, 0 for none.
@@ -43,6 +44,31 @@ fn figure_boundaries() {
             assert!(figures(&pair.inside).is_ok(), "{number}: {pair:?}");
         }
     }
+}
+
+/// Where a 65th formula is due, 4 and 5 come before 9; before it nothing is refused by 9.
+#[test]
+fn crowded_bodies() {
+    let mut random = Random::new(212);
+    let number = |before: &[u8], more: &[u8]| read_body(&[before, more].concat()).err();
+    for _ in 0..1_000 {
+        let before = begun(&mut random, 64);
+        assert_eq!(number(&before, &[]), Some(4), "{before:?}");
+        for unknown in [0, 6, 255] {
+            assert_eq!(number(&before, &[unknown]), Some(5), "{before:?}");
+        }
+        for known in 1..=5 {
+            assert_eq!(number(&before, &[known]), Some(9), "{before:?}");
+        }
+        let before = begun(&mut random, 63);
+        assert_eq!(number(&before, &[6]), Some(5), "{before:?}");
+        assert_eq!(number(&before, &[1]), Some(4), "{before:?}");
+    }
+    let mut counts = Counts::default();
+    for _ in 0..4_000 {
+        counts[read_body(&crowded(&mut random)).err().unwrap_or(0) as usize] += 1;
+    }
+    assert!(all_above(&counts, &[0, 4, 5, 9, 10], 20), "{counts:?}");
 }
 
 /// The limits themselves are met: delay 255, history 4,096, cells 4,096.

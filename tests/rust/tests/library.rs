@@ -14,6 +14,10 @@ const STEPS: u64 = 1_000_000;
 const STEPS_A_LENGTH: usize = 40;
 /// Rounds of three bodies each.
 const BODIES: usize = 28_000;
+/// Rounds of about a hundred bodies of 62 to 66 formulas, through every call.
+const FORMULA_COUNTS: usize = 200;
+/// Rounds of ten typed rules of as many.
+const TYPED_FORMULA_COUNTS: usize = 1_000;
 /// Bodies whose recordings are asked for every tick.
 const RECORDINGS: usize = 4_000;
 const LONG_RECORDINGS: usize = 20;
@@ -77,6 +81,15 @@ fn bodies() {
 fn limits() {
     let numbers = compare::limits(&Linked).unwrap();
     assert!(numbers.each_at_least(&[0, 11, 12, 13, 14, 15], 1), "{numbers:?}");
+}
+
+#[test]
+fn formula_counts() {
+    let numbers = compare::formula_counts(&Linked, 1_015, FORMULA_COUNTS).unwrap();
+    assert!(numbers.each_at_least(&[0, 4, 5, 9, 10], FORMULA_COUNTS as u64 / 2), "{numbers:?}");
+    let count = TYPED_FORMULA_COUNTS as u64;
+    let numbers = compare::typed_formula_counts(&Linked, 1_016, TYPED_FORMULA_COUNTS).unwrap();
+    assert_eq!((numbers.of(0), numbers.of(9)), (3 * count, 2 * count), "{numbers:?}");
 }
 
 #[test]

@@ -5,7 +5,7 @@ use rust_tests::compare::{self, Check};
 use rust_tests::hostile;
 use rust_tests::library::Library;
 use rust_tests::paper::RULE_REFUSALS;
-use rust_tests::stand_in::{Flaw, StandIn};
+use rust_tests::stand_in::{Flaw, Reader, StandIn};
 
 const RIGHT: StandIn = StandIn { flaw: Flaw::None };
 
@@ -16,6 +16,10 @@ fn the_right_one_passes_bodies() {
     assert!(numbers.of(0) > 1_000, "{numbers:?}");
     let numbers = compare::limits(&RIGHT).unwrap();
     assert!(numbers.each_at_least(&[0, 11, 12, 13, 14, 15], 1), "{numbers:?}");
+    let numbers = compare::formula_counts(&RIGHT, 333, 40).unwrap();
+    assert!(numbers.each_at_least(&[0, 4, 5, 9, 10], 20), "{numbers:?}");
+    let numbers = compare::typed_formula_counts(&RIGHT, 334, 40).unwrap();
+    assert!(numbers.each_at_least(&[0, 9, 25], 80), "{numbers:?}");
 }
 
 #[test]
@@ -90,6 +94,10 @@ fn bodies(library: &dyn Library) -> Check {
 
 fn limits(library: &dyn Library) -> Check {
     compare::limits(library).map(|_| ())
+}
+
+fn formula_counts(library: &dyn Library) -> Check {
+    compare::formula_counts(library, 335, 4).map(|_| ())
 }
 
 fn cell_counts(library: &dyn Library) -> Check {
@@ -203,6 +211,17 @@ const CAUGHT: &[(Flaw, Suite, &str)] = &[
     (Flaw::NoPositionsAfterTheBody, limits, "answered 15, due is 0"),
     (Flaw::NoPositionsAfterTheBody, cell_counts, "answered 15, due is 0"),
     (Flaw::FourBeforeNine, bodies, "answered 4, due is 9"),
+    (Flaw::NineBeforeFive(Reader::Figures), formula_counts, "answered 9, due is 5"),
+    (Flaw::NineBeforeFive(Reader::Evaluator), formula_counts, "due is (5,"),
+    (Flaw::NineBeforeFive(Reader::Printer), formula_counts, "answered 9, due is 5"),
+    (Flaw::NineBeforeFive(Reader::Opening), formula_counts, "answered 9, due is 5"),
+    (Flaw::NineBeforeFive(Reader::Figures), bodies, "answered 9, due is 5"),
+    (Flaw::NineBeforeFive(Reader::Printer), printed, "answered 9, due is 5"),
+    (Flaw::NineBeforeFour(Reader::Figures), formula_counts, "answered 9, due is 4"),
+    (Flaw::NineBeforeFour(Reader::Evaluator), formula_counts, "due is (4,"),
+    (Flaw::NineBeforeFour(Reader::Printer), formula_counts, "answered 9, due is 4"),
+    (Flaw::NineBeforeFour(Reader::Opening), formula_counts, "answered 9, due is 4"),
+    (Flaw::FourBeforeNine, formula_counts, "answered 4, due is 9"),
     (Flaw::Exchanges23And24, bodies, "answered 24, due is 23"),
     (Flaw::FarInfinityIs8, bodies, "answered 8, due is 24"),
     (Flaw::InnerBoundIs23, bodies, "answered 23, due is"),
@@ -286,10 +305,11 @@ fn each_wrong_one_is_caught() {
 /// The same suites pass without a flaw, so that it is the flaw they caught.
 #[test]
 fn the_catching_suites_pass_the_right_one() {
-    let suites: [Suite; 20] = [
+    let suites: [Suite; 21] = [
         runs,
         bodies,
         limits,
+        formula_counts,
         cell_counts,
         recordings,
         long_recordings,

@@ -9,7 +9,7 @@ use crate::paper::{self, Refusal};
 use crate::random::{self, Random};
 
 /// More than the longest body, and more than the longest text.
-const ROOM: usize = 4100;
+pub(super) const ROOM: usize = 4100;
 
 /// "25 and an unbound name 26, in this order; then 01's refusals 4 to 10, with 23 and 24,
 /// apply to the result, and last 22". "Bytes after it keep their content."

@@ -72,6 +72,7 @@ fn walk(body: &[u8], at: usize, nested: usize, found: &mut Vec<(usize, Place)>) 
 /// A body of any sort, most of them refused.
 pub fn any_body(random: &mut Random) -> Vec<u8> {
     match random.below(11) {
+        0 if random.one_in(3) => crowded(random),
         0 => loose_bytes(random),
         1 => write_body(&wild_formula(random)),
         2 => accepted_rule(random).body,
@@ -275,6 +276,40 @@ fn too_many(random: &mut Random) -> Neighbours {
         outside.truncate(last_code(&outside) + 1);
     }
     Neighbours { inside, outside }
+}
+
+/// A body that begins 62 to 65 formulas, and then has any of `endings`.
+pub fn crowded(random: &mut Random) -> Vec<u8> {
+    let count = random.size(MAX_FORMULAS - 2, MAX_FORMULAS + 1);
+    let mut body = begun(random, count);
+    let mut endings = endings(random);
+    let chosen = random.below(endings.len());
+    body.append(&mut endings[chosen]);
+    body
+}
+
+/// The bytes of so many formulas, at least 62, up to where the next one's code is due.
+pub fn begun(random: &mut Random, count: usize) -> Vec<u8> {
+    loop {
+        let (formula, more) = (wild_formula(random), random.size(1, 3));
+        if size(&formula) <= count {
+            let mut body = pad(random, &formula, count + more);
+            body.truncate(starts(&body, Place::Code)[count]);
+            return body;
+        }
+    }
+}
+
+/// What a body may have where a formula is due: nothing; a whole formula, with a byte after
+/// it or without; a code, known or not, alone or with any bytes after it.
+pub fn endings(random: &mut Random) -> Vec<Vec<u8>> {
+    let mut all = vec![vec![], vec![1, 0, 7], vec![1, 0, 7, 6]];
+    for code in [0, 1, 2, 3, 4, 5, 6, 7, 127, 128, 255] {
+        let after = random.size(1, 12);
+        all.push(vec![code]);
+        all.push([vec![code], random.bytes(after)].concat());
+    }
+    all
 }
 
 /// The formula with nots put before it or inside it, up to `count` formulas.

@@ -1,7 +1,7 @@
 //! The stand-in's texts: document 02's spelling, or another one, and names looked up
 //! rightly or not.
 
-use super::{Flaw, StandIn};
+use super::{Flaw, Reader, StandIn};
 use crate::paper::text::{
     digits_value, read_text, to_bytes, write_text, Base, End, Name, Part, Spelling, Typed, SPELLING,
 };
@@ -149,7 +149,8 @@ impl StandIn {
         let unchecked = self.has(Flaw::PrintsUncheckedFlags);
         let text = match read_body(body) {
             Err(7) if unchecked && body.len() == 3 => write_text(&Formula::Flag(0, body[2])),
-            formula => write_text(&formula?),
+            Err(number) => return Err(self.at_the_65th(Reader::Printer, body, number)),
+            Ok(formula) => write_text(&formula),
         };
         Ok(self.printed(text).into_bytes())
     }
