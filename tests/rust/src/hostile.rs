@@ -6,6 +6,7 @@
 //! cell table and the report." The library says exactly which are caught, so the
 //! number of every call is checked (`lot`, `states`).
 
+mod lengths;
 mod lot;
 
 use crate::compare::{self, hex, Check, Numbers, MARK};
@@ -15,6 +16,7 @@ use crate::library::{Library, StepAnswer, StepLent, StepsAnswer, STATE_BYTES};
 use crate::paper::{CELL_WORDS, MAX_HISTORY, MAX_TICKS};
 use crate::random::{self, Random, Rule, WriterInput};
 use crate::states::{number_at, put_number, LIVE_AT, NEXT_AT, OPENED_AT, SIZE_AT};
+pub use lengths::every_length;
 use lot::{batch, honest, step, Lot};
 
 /// States and tables of random content, in lots of random lengths.

@@ -5,6 +5,8 @@
 //! - `paper`: the papers read literally; plain and slow.
 //! - `random`: fixed-seed generators of rules, bodies, sheets and streams.
 //! - `lent`: buffers with guards around them, to be lent to the library.
+//! - `guard_pages`: memory at pages that nobody may touch, and a library to which all is
+//!   lent there.
 //! - `library`: the boundary to the library.
 //! - `states`: a state's bytes, and which number a call on any of them is due.
 //! - `notation`: short names, with which the tests write rules and recordings.
@@ -13,6 +15,7 @@
 //!   which the two suites are themselves tested.
 
 pub mod compare;
+pub mod guard_pages;
 pub mod hostile;
 pub mod lent;
 pub mod library;

@@ -14,6 +14,8 @@ const DAMAGED_STATES: usize = 20_000;
 const OVERWRITTEN: usize = 5_000;
 /// Bytes of any sort, as a text, as a body, and as a text that begins well.
 const TEXTS: usize = 20_000;
+/// Rounds of about 25,000 calls.
+const LENGTHS: usize = 4;
 
 #[test]
 fn random_states() {
@@ -61,6 +63,15 @@ fn forged_lengths() {
 #[test]
 fn forged_ticks() {
     assert_eq!(hostile::forged_ticks(&Linked), Ok(hostile::DUE_TICKS.to_vec()));
+}
+
+#[test]
+fn every_length() {
+    let numbers = hostile::every_length(&Linked, 2_006, LENGTHS).unwrap();
+    assert!(numbers.total() > 20_000 * LENGTHS as u64, "{numbers:?}");
+    let often = [0, 1, 2, 4, 5, 9, 10, 16, 17, 18, 22, 25];
+    assert!(numbers.each_at_least(&often, 200 * LENGTHS as u64), "{numbers:?}");
+    assert!(numbers.each_at_least(&[3, 6, 19], LENGTHS as u64), "{numbers:?}");
 }
 
 #[test]

@@ -78,6 +78,8 @@ fn the_right_one_passes_hostile_input() {
     assert_eq!(hostile::overwritten_histories(&RIGHT, 310, 100), Ok(3_000));
     assert_eq!(hostile::forged_lengths(&RIGHT), Ok(96));
     assert_eq!(hostile::forged_ticks(&RIGHT), Ok(hostile::DUE_TICKS.to_vec()));
+    let numbers = hostile::every_length(&RIGHT, 336, 1).unwrap();
+    assert!(numbers.total() > 20_000, "{numbers:?}");
     assert_eq!(hostile::empty_slices(&RIGHT), Ok(()));
     assert_eq!(hostile::huge_lengths(&RIGHT), Ok(()));
 }
@@ -160,6 +162,10 @@ fn overwritten(library: &dyn Library) -> Check {
     hostile::overwritten_histories(library, 319, 40).map(|_| ())
 }
 
+fn every_length(library: &dyn Library) -> Check {
+    hostile::every_length(library, 337, 1).map(|_| ())
+}
+
 fn forged_lengths(library: &dyn Library) -> Check {
     hostile::forged_lengths(library).map(|_| ())
 }
@@ -190,6 +196,7 @@ const CAUGHT: &[(Flaw, Suite, &str)] = &[
     (Flaw::RefusesOverwritten, runs, "answered 21"),
     (Flaw::RefusesOverwritten, overwritten, "answered 21"),
     (Flaw::TakesShortReport, runs, "answered 0, due is 19"),
+    (Flaw::TakesShortReport, every_length, "answered 0, due is 19"),
     (Flaw::ForgetsToZero, runs, "the history is not as due"),
     (Flaw::ForgetsToZero, openings, "history not 0"),
     (Flaw::LeavesStateRoom, openings, "the state is not as due"),
@@ -230,7 +237,9 @@ const CAUGHT: &[(Flaw, Suite, &str)] = &[
     (Flaw::OpenBeforeTrying, recordings, "due is"),
     (Flaw::OpenAtHorizon, recordings, "due is (0, 0, 0)"),
     (Flaw::LongRecordings, long_recordings, "due is (16"),
+    (Flaw::LongRecordings, every_length, "due is (16"),
     (Flaw::SheetMayGoOn, sheets, "due is 2"),
+    (Flaw::SheetMayGoOn, every_length, "due is 2"),
     (Flaw::RuleBeforeLayout, sheets, "answered 3, due is 2"),
     (Flaw::ClearsBuffer, writers, "the buffer is not as due"),
     (Flaw::RoomBeforeLengths, writers, "answered 22, due is"),
@@ -253,6 +262,7 @@ const CAUGHT: &[(Flaw, Suite, &str)] = &[
     (Flaw::FiveDigits, text_cases, "due is 25"),
     (Flaw::FiveDigits, damaged_texts, "due is 25"),
     (Flaw::FourThousandAndNinetySeven, text_cases, "answered 9, due is 25"),
+    (Flaw::FourThousandAndNinetySeven, every_length, "answered 9, due is 25"),
     (Flaw::TakesLineEnd, text_cases, "answered 0, due is 25"),
     (Flaw::LeadingZeroIsMisspelt, texts, "answered 25, due is"),
     (Flaw::LeadingZeroIsMisspelt, text_cases, "answered 25, due is 0"),
@@ -305,7 +315,7 @@ fn each_wrong_one_is_caught() {
 /// The same suites pass without a flaw, so that it is the flaw they caught.
 #[test]
 fn the_catching_suites_pass_the_right_one() {
-    let suites: [Suite; 21] = [
+    let suites: [Suite; 22] = [
         runs,
         bodies,
         limits,
@@ -325,6 +335,7 @@ fn the_catching_suites_pass_the_right_one() {
         forged,
         damaged,
         overwritten,
+        every_length,
         forged_lengths,
         forged_ticks,
     ];

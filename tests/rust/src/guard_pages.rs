@@ -1,0 +1,247 @@
+//! Memory with a page before it and one after it that nobody may touch. What is lent there
+//! lies directly at one of them, so that reading or writing a byte outside ends the process
+//! with SIGSEGV. Guard words (`lent`) show what was written only.
+
+use crate::lent::Word;
+use crate::library::{Library, State, StepAnswer, StepLent, StepsAnswer};
+use std::cell::RefCell;
+use std::ffi::{c_int, c_long, c_void};
+use std::ptr;
+
+// The C library's, as of Linux on x86-64, for which alone the Rattle library is built.
+extern "C" {
+    fn mmap(
+        address: *mut c_void,
+        length: usize,
+        protection: c_int,
+        flags: c_int,
+        file: c_int,
+        offset: c_long,
+    ) -> *mut c_void;
+    fn mprotect(address: *mut c_void, length: usize, protection: c_int) -> c_int;
+    fn munmap(address: *mut c_void, length: usize) -> c_int;
+}
+
+const PAGE: usize = 4096;
+const NO_ACCESS: c_int = 0;
+const READ_AND_WRITE: c_int = 1 | 2;
+const PRIVATE_AND_ANONYMOUS: c_int = 0x02 | 0x20;
+
+/// Where the guard page lies that what is lent touches.
+#[derive(Clone, Copy, Debug, PartialEq, Eq)]
+pub enum Guard {
+    Before,
+    After,
+}
+
+/// Whole pages between two guard pages.
+pub struct Pages {
+    start: *mut u8,
+    bytes: usize,
+    guard: Guard,
+}
+
+impl Pages {
+    /// Room for so many bytes.
+    pub fn new(bytes: usize, guard: Guard) -> Pages {
+        let bytes = bytes.max(1).next_multiple_of(PAGE);
+        let length = bytes + 2 * PAGE;
+        // SAFETY: new memory, at a place that the system chooses.
+        let all = unsafe { mmap(ptr::null_mut(), length, NO_ACCESS, PRIVATE_AND_ANONYMOUS, -1, 0) };
+        assert!(all as isize != -1, "no memory for {length} bytes");
+        let start = all.cast::<u8>().wrapping_add(PAGE);
+        // SAFETY: pages of the memory that was just got.
+        let opened = unsafe { mprotect(start.cast(), bytes, READ_AND_WRITE) };
+        assert_eq!(opened, 0, "the pages between the guards cannot be opened");
+        Pages { start, bytes, guard }
+    }
+
+    /// A copy of the content that touches the guard page.
+    pub fn lend<T: Word>(&mut self, content: &[T]) -> &mut [T] {
+        let size = size_of_val(content);
+        if size > self.bytes {
+            *self = Pages::new(size, self.guard);
+        }
+        let at = match self.guard {
+            Guard::Before => 0,
+            Guard::After => self.bytes - size,
+        };
+        let start = self.start.wrapping_add(at).cast::<T>();
+        // SAFETY: so many bytes between the guards are this value's own. They begin or end
+        // with a page, so they are aligned; any bytes are a word; and they are borrowed alone.
+        unsafe {
+            ptr::copy_nonoverlapping(content.as_ptr(), start, content.len());
+            std::slice::from_raw_parts_mut(start, content.len())
+        }
+    }
+
+    /// The same of one number.
+    pub fn lend_one<T: Word>(&mut self, content: &T) -> &mut T {
+        &mut self.lend(std::slice::from_ref(content))[0]
+    }
+}
+
+impl Drop for Pages {
+    fn drop(&mut self) {
+        let all = self.start.wrapping_sub(PAGE);
+        // SAFETY: the memory that `new` got, which nobody has borrowed any more.
+        unsafe { munmap(all.cast(), self.bytes + 2 * PAGE) };
+    }
+}
+
+/// A library whose every buffer and every answer is lent at a guard page of its own.
+pub struct Guarded<'a> {
+    library: &'a dyn Library,
+    /// As many as the call with the most of them needs.
+    pages: RefCell<[Pages; 8]>,
+}
+
+impl Guarded<'_> {
+    pub fn new(library: &dyn Library, guard: Guard) -> Guarded<'_> {
+        let pages = RefCell::new(std::array::from_fn(|_| Pages::new(PAGE, guard)));
+        Guarded { library, pages }
+    }
+}
+
+/// What is lent to be read is not written.
+fn check_kept<T: Word>(lent: &[T], content: &[T]) {
+    assert!(lent == content, "what was lent to be read was changed");
+}
+
+fn state_of(lent: &mut [u8]) -> &mut State {
+    lent.try_into().expect("a state has 544 bytes")
+}
+
+impl Library for Guarded<'_> {
+    fn rule_place(&self, sheet: &[u8], rule: usize, start: &mut usize, size: &mut usize) -> u32 {
+        let [a, b, c, ..] = &mut *self.pages.borrow_mut();
+        let (lent, at, length) = (a.lend(sheet), b.lend_one(start), c.lend_one(size));
+        let number = self.library.rule_place(lent, rule, at, length);
+        (*start, *size) = (*at, *length);
+        check_kept(lent, sheet);
+        number
+    }
+
+    fn write_sheet(
+        &self,
+        lengths: &[u16],
+        bodies: &[u8],
+        out: &mut [u8],
+        written: &mut usize,
+    ) -> u32 {
+        let [a, b, c, d, ..] = &mut *self.pages.borrow_mut();
+        let (lent_lengths, lent_bodies) = (a.lend(lengths), b.lend(bodies));
+        let (sheet, length) = (c.lend(out), d.lend_one(written));
+        let number = self.library.write_sheet(lent_lengths, lent_bodies, sheet, length);
+        out.copy_from_slice(sheet);
+        *written = *length;
+        check_kept(lent_lengths, lengths);
+        check_kept(lent_bodies, bodies);
+        number
+    }
+
+    fn rule_from_text(&self, text: &[u8], body: &mut [u8], written: &mut usize) -> u32 {
+        let [a, b, c, ..] = &mut *self.pages.borrow_mut();
+        let (lent, out, length) = (a.lend(text), b.lend(body), c.lend_one(written));
+        let number = self.library.rule_from_text(lent, out, length);
+        body.copy_from_slice(out);
+        *written = *length;
+        check_kept(lent, text);
+        number
+    }
+
+    fn rule_to_text(&self, body: &[u8], text: &mut [u8], written: &mut usize) -> u32 {
+        let [a, b, c, ..] = &mut *self.pages.borrow_mut();
+        let (lent, out, length) = (a.lend(body), b.lend(text), c.lend_one(written));
+        let number = self.library.rule_to_text(lent, out, length);
+        text.copy_from_slice(out);
+        *written = *length;
+        check_kept(lent, body);
+        number
+    }
+
+    fn figures(&self, body: &[u8], history: &mut u64, delay: &mut u64, cells: &mut u64) -> u32 {
+        let [a, b, c, d, ..] = &mut *self.pages.borrow_mut();
+        let lent = a.lend(body);
+        let (h, dl, cs) = (b.lend_one(history), c.lend_one(delay), d.lend_one(cells));
+        let number = self.library.figures(lent, h, dl, cs);
+        (*history, *delay, *cells) = (*h, *dl, *cs);
+        check_kept(lent, body);
+        number
+    }
+
+    fn outcome(
+        &self,
+        body: &[u8],
+        recording: &[u8],
+        tick: usize,
+        verdict: &mut u32,
+        step: &mut u64,
+    ) -> u32 {
+        let [a, b, c, d, ..] = &mut *self.pages.borrow_mut();
+        let (lent_body, lent_recording) = (a.lend(body), b.lend(recording));
+        let (answer, at) = (c.lend_one(verdict), d.lend_one(step));
+        let number = self.library.outcome(lent_body, lent_recording, tick, answer, at);
+        (*verdict, *step) = (*answer, *at);
+        check_kept(lent_body, body);
+        check_kept(lent_recording, recording);
+        number
+    }
+
+    fn open(
+        &self,
+        sheet: &[u8],
+        rule: usize,
+        history: &mut [u8],
+        cells: &[u32],
+        state: &mut State,
+    ) -> u32 {
+        let [a, b, c, d, ..] = &mut *self.pages.borrow_mut();
+        let (lent_sheet, lent_cells) = (a.lend(sheet), b.lend(cells));
+        let (flags, opened) = (c.lend(history), state_of(d.lend(state)));
+        let number = self.library.open(lent_sheet, rule, flags, lent_cells, opened);
+        history.copy_from_slice(flags);
+        *state = *opened;
+        check_kept(lent_sheet, sheet);
+        check_kept(lent_cells, cells);
+        number
+    }
+
+    fn step(&self, state: &mut State, flag: u8, lent: StepLent, answer: StepAnswer) -> u32 {
+        let [a, b, c, d, e, f, ..] = &mut *self.pages.borrow_mut();
+        let own = state_of(a.lend(state));
+        let (history, cells) = (b.lend(lent.history), c.lend(lent.cells));
+        let report = d.lend(lent.report);
+        let (reported, live) = (e.lend_one(answer.reported), f.lend_one(answer.live));
+        let own_answer = StepAnswer { reported: &mut *reported, live: &mut *live };
+        let number = self.library.step(own, flag, parts(history, cells, report), own_answer);
+        *state = *own;
+        lent.history.copy_from_slice(history);
+        lent.cells.copy_from_slice(cells);
+        lent.report.copy_from_slice(report);
+        (*answer.reported, *answer.live) = (*reported, *live);
+        number
+    }
+
+    fn steps(&self, state: &mut State, flags: &[u8], lent: StepLent, answer: StepsAnswer) -> u32 {
+        let [a, b, c, d, e, f, g, h] = &mut *self.pages.borrow_mut();
+        let (own, lent_flags) = (state_of(a.lend(state)), b.lend(flags));
+        let (history, cells) = (c.lend(lent.history), d.lend(lent.cells));
+        let report = e.lend(lent.report);
+        let (taken, pairs) = (f.lend_one(answer.taken), g.lend_one(answer.pairs));
+        let live = h.lend_one(answer.live);
+        let own_answer = StepsAnswer { taken: &mut *taken, pairs: &mut *pairs, live: &mut *live };
+        let number = self.library.steps(own, lent_flags, parts(history, cells, report), own_answer);
+        *state = *own;
+        lent.history.copy_from_slice(history);
+        lent.cells.copy_from_slice(cells);
+        lent.report.copy_from_slice(report);
+        (*answer.taken, *answer.pairs, *answer.live) = (*taken, *pairs, *live);
+        check_kept(lent_flags, flags);
+        number
+    }
+}
+
+fn parts<'a>(history: &'a mut [u8], cells: &'a mut [u32], report: &'a mut [u32]) -> StepLent<'a> {
+    StepLent { history, cells, report }
+}
