@@ -8,11 +8,10 @@ use lib.ListN.{length, getD, drop}
 use Rattle.rule.specs.declared.Outcome.{Outcome}
 use Rattle.rule.specs.Meaning.{both, outcome}
 use Rattle.rule.specs.Started.{Reach}
-use Rattle.instances.specs.declared.env.Env.{Env}
 use Rattle.instances.specs.Tree.{Tree, beside-node, formula-of}
 use Rattle.instances.specs.Cells.{held, window}
 use Rattle.instances.specs.Run.{own-tick, RunHolds, RunReady}
-use Rattle.instances.specs.Calls.{places, Advanced, PartAdvanced}
+use Rattle.instances.specs.Calls.{Env, places, Advanced, PartAdvanced}
 use Rattle.instances.proofs.Marks.{rest-take}
 
 module _ {f : ℕ} {F G : Tree} {hist : List ℕ} {b : ℕ} {e : Env} {s t : ℕ} {run : List ℕ} where

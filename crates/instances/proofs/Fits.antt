@@ -17,11 +17,10 @@ use Rattle.rule.specs.Positions.{Fits, Lies, Within}
 use Rattle.rule.proofs.Pairs.{fits-more, range-lies, width-holds}
 use Rattle.rule.proofs.Reach.{at-most}
 use Rattle.ranges.specs.Plans.{Plans}
-use Rattle.instances.specs.declared.env.Env.{Env}
 use Rattle.instances.specs.Tree.{Tree, flag-node, not-node, then-node, beside-node, range-node, words, Formed}
 use Rattle.instances.specs.Leading.{HeadFit}
 use Rattle.instances.specs.Run.{bind, own-tick}
-use Rattle.instances.specs.Calls.{places, entered, Fit, SlotFit, WalkFit, PartFit}
+use Rattle.instances.specs.Calls.{Env, places, entered, Fit, SlotFit, WalkFit, PartFit}
 use Rattle.instances.proofs.Slots.{slot-before}
 use Rattle.instances.proofs.Parts.{tick-is}
 use Rattle.instances.proofs.Positions.{places-entered}
@@ -55,14 +54,14 @@ past-set t ps n q h g s v = elim (decLt v n) [
   ]
 ]
 
-pub fit-entered : (F : Tree) (e e′ : Env) (t q b len n : ℕ) → SlotFit F e t q len → e′ ≡ entered e q b → n ≡ len → PartFit F e′ t 0 4 n n
-fit-entered F e e′ t q b len n f ee en =
+pub fit-entered : (F : Tree) (e : Env) (t q b len n : ℕ) → SlotFit F e t q len → n ≡ len → PartFit F (entered e q b) t 0 4 n n
+fit-entered F e t q b len n f en =
     let room : 4 + words F ≤ len = f .room in
     let le : 4 ≤ len = omega arith in
     let deep : e .n < 5 = f .depth in
     let w : length (e .pos) ≡ 5 = f .five-places in
     let pe : places (entered e q b) ≡ bind (places e) q = places-entered e q b deep (f .five-places) (f .five-bytes) in
-    rw (ee, en) (record {
+    rw en (record {
       fit = record {
         pairs = f .pairs;
         fits = subst (λ (env : List ℕ). Fits (own-tick env) (f .pairs) env) (sym pe) (f .fits);

@@ -28,12 +28,11 @@ use Rattle.ranges.specs.Spans as spans
 use Rattle.ranges.specs.Plans.{first-of, Plans}
 use Rattle.ranges.proofs.Held.{held-at-same, held-same}
 use Rattle.ranges.proofs.Bounds.{range-same}
-use Rattle.instances.specs.declared.env.Env.{Env}
 use Rattle.instances.specs.Tree.{Tree, range-node, formula-of}
 use Rattle.instances.specs.Cells.{held, CellHolds, since, slot}
 use Rattle.instances.specs.Leading.{Leading, latest-of, leading-of, HeadStored}
 use Rattle.instances.specs.Run.{out, bind, own-tick, RunHolds, SlotHolds, RunReady, SlotReady}
-use Rattle.instances.specs.Calls.{places, Advanced, PositionsWalked}
+use Rattle.instances.specs.Calls.{Env, places, Advanced, PositionsWalked}
 use Rattle.instances.proofs.Marks.{tail-drop, tail-take}
 use Rattle.instances.proofs.Heads.{leading-start, leading-kept, leading-walk, leading-on, leading-at, leading-most, leading-none, latest-back}
 

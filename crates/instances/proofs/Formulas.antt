@@ -13,10 +13,9 @@ use Rattle.rule.specs.Started.{Reach}
 use Rattle.rule.proofs.Progress.{clash}
 use Rattle.nodes.specs.Table.{bound-at}
 use Rattle.nodes.proofs.Nodes.{some-left}
-use Rattle.instances.specs.declared.env.Env.{Env}
 use Rattle.instances.specs.Tree.{Tree, flag-node, not-node, then-node, beside-node, range-node, formula-of, tree-at}
 use Rattle.instances.specs.Run.{RunHolds, RunReady}
-use Rattle.instances.specs.Calls.{places, flagged, Advanced}
+use Rattle.instances.specs.Calls.{Env, places, flagged, Advanced}
 
 opposite-open : (o : Outcome) → opposite o ≡ Open → o ≡ Open
 unfolding opposite
@@ -24,7 +23,7 @@ opposite-open Open q = refl
 opposite-open (Decided v d) q = clash _ q refl
 
 module _ {hist : List ℕ} {b : ℕ} {e : Env} {s t : ℕ} {run : List ℕ} where
-  pub flag-of : (v k : ℕ) (r : Outcome) → v < e .n → r ≡ flagged e v k s → Advanced (flag-node v k) hist b e s t run r run
+  pub flag-of : (v k : ℕ) (r : Outcome) → v < e .n → r ≡ flagged (e .byte) v k s → Advanced (flag-node v k) hist b e s t run r run
   unfolding outcome RunHolds formula-of
   flag-of v k r h er = record {
     gives = λ flags H hon reach ready.

@@ -9,9 +9,8 @@ use Rattle.outcomes.proofs.Opposites.{one-more, turned-back}
 use Rattle.nodes.specs.declared.operand.Operand.{Operand}
 use Rattle.nodes.specs.Nots.{past-nots}
 use Rattle.nodes.proofs.Nots.{over-nots}
-use Rattle.instances.specs.declared.env.Env.{Env}
 use Rattle.instances.specs.Tree.{Tree, tree-at}
-use Rattle.instances.specs.Calls.{Fit, Advanced}
+use Rattle.instances.specs.Calls.{Env, Fit, Advanced}
 use Rattle.instances.proofs.Formulas.{is-not, not-of}
 use Rattle.instances.proofs.Fits.{fit-not}
 

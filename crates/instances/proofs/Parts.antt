@@ -13,11 +13,10 @@ use Rattle.rule.specs.declared.Outcome.the-variants.{Decided, Open}
 use Rattle.rule.specs.Meaning.{after}
 use Rattle.rule.specs.Started.{Before}
 use Rattle.rule.proofs.Progress.{clash, stays, fresh}
-use Rattle.instances.specs.declared.env.Env.{Env}
 use Rattle.instances.specs.Tree.{Tree, formula-of}
 use Rattle.instances.specs.Cells.{held, CellHolds, mark, window}
 use Rattle.instances.specs.Run.{out, own-tick, RunHolds, RunReady}
-use Rattle.instances.specs.Calls.{places, PartFit, Advanced, Untouched, PartAdvanced}
+use Rattle.instances.specs.Calls.{Env, places, PartFit, Advanced, Untouched, PartAdvanced}
 use Rattle.instances.proofs.Marks.{mark-drop, mark-held, Small, part-window, part-kept, same-kept}
 
 pub tick-is : (e : Env) → 0 < e .n → getD (e .pos) 0 0 ≡ own-tick (places e)

@@ -12,11 +12,10 @@ use lib.ListN.{length, getD, drop, set}
 use lib.Seq.{take-suc-set, getD-set-same, getD-set-other}
 use Rattle.rule.specs.declared.Outcome.{Outcome}
 use Rattle.rule.specs.Started.{Before, Reach}
-use Rattle.instances.specs.declared.env.Env.{Env}
 use Rattle.instances.specs.Tree.{Tree, formula-of}
 use Rattle.instances.specs.Cells.{CellHolds, window}
 use Rattle.instances.specs.Run.{out, bind, own-tick, RunHolds, SlotHolds, SlotReady}
-use Rattle.instances.specs.Calls.{places, entered, byte-of, AtHand, PositionAdvanced, PartAdvanced}
+use Rattle.instances.specs.Calls.{Env, places, entered, byte-of, AtHand, PositionAdvanced, PartAdvanced}
 use Rattle.instances.proofs.Marks.{tail-take, rest-take}
 
 module _ (e : Env) (q b : ℕ) (deep : e .n < 5) (five : length (e .pos) ≡ 5) (five₂ : length (e .byte) ≡ 5) where
@@ -75,15 +74,15 @@ module _ (F : Tree) (hist : List ℕ) (b : ℕ) (e : Env) (s t q : ℕ) where
         rw (n .1, tail-take cell) (y .3 .0, inr (y .0, y .1, y .2, y .3 .1)))
         x
 
-    pub position-of : (start : ℕ) (e′ : Env) (r : Outcome) (cell mid cell′ : List ℕ) → start ≡ max s q → 4 ≤ length cell → 4 ≤ length mid
+    pub position-of : (start : ℕ) (r : Outcome) (cell mid cell′ : List ℕ) → start ≡ max s q → 4 ≤ length cell → 4 ≤ length mid
         → (((c : ℕ) × (t ≡ start) × (mid ≡ set cell 1 c) × (c ≡ byte-of hist b t q) × (c < 256)) ⊎ ((t ≡ start → ⊥) × (mid ≡ cell)))
-        → e′ ≡ entered e q (getD mid 1 0 % 256) → PartAdvanced F hist b e′ start t 0 4 (length mid) mid r cell′
+        → PartAdvanced F hist b (entered e q (getD mid 1 0 % 256)) start t 0 4 (length mid) mid r cell′
         → PositionAdvanced F hist b e s t q cell r cell′
     unfolding SlotHolds
-    position-of start e′ r cell mid cell′ es room room2 x ee st = record {
+    position-of start r cell mid cell′ es room room2 x st = record {
       gives = λ flags H hon reach ready.
           let c : ℕ = getD mid 1 0 % 256 in
-          let st′ : PartAdvanced F hist b (entered e q c) (max s q) t 0 4 (length mid) mid r cell′ = rw (ee, es) at st in
+          let st′ : PartAdvanced F hist b (entered e q c) (max s q) t 0 4 (length mid) mid r cell′ = rw es at st in
           let was = position-was flags H hon (reach .0) start cell mid es room x ready in
           let pe : places (entered e q c) ≡ bind (places e) q = places-entered e q c deep five five₂ in
           let y = st′ .gives .1 flags H (at-hand-entered e q c deep five five₂ flags H hist b t hon (was .0)) (subst (λ (env : List ℕ). Reach H flags env (max s q) (formula-of F)) (sym pe) (reach .1))

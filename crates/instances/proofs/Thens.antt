@@ -13,11 +13,10 @@ use Rattle.rule.specs.declared.Outcome.the-variants.{Decided, Open}
 use Rattle.rule.specs.Meaning.{after, outcome}
 use Rattle.rule.specs.Started.{Before, Reach}
 use Rattle.rule.proofs.Progress.{clash, within}
-use Rattle.instances.specs.declared.env.Env.{Env}
 use Rattle.instances.specs.Tree.{Tree, then-node, formula-of}
 use Rattle.instances.specs.Cells.{CellHolds, window}
 use Rattle.instances.specs.Run.{out, own-tick, RunHolds, RunReady}
-use Rattle.instances.specs.Calls.{places, Advanced, DecidedNow, PartAdvanced}
+use Rattle.instances.specs.Calls.{Env, places, Advanced, DecidedNow, PartAdvanced}
 use Rattle.instances.proofs.Marks.{tail-drop, tail-head, tail-take, rest-take}
 
 after-open : (o : Outcome) (g : ℕ → Outcome) (d : ℕ) → o ≡ Decided True d → after o g ≡ Open → g d ≡ Open

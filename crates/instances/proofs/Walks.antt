@@ -12,11 +12,10 @@ use Rattle.rule.specs.declared.Outcome.{Outcome}
 use Rattle.rule.specs.Meaning.{both, walk}
 use Rattle.rule.specs.Started.{From, Reach}
 use Rattle.rule.proofs.Horizon.{from-both, from-less, from-start}
-use Rattle.instances.specs.declared.env.Env.{Env}
 use Rattle.instances.specs.Tree.{Tree, formula-of}
 use Rattle.instances.specs.Cells.{slot}
 use Rattle.instances.specs.Run.{out, bind, SlotHolds, SlotReady}
-use Rattle.instances.specs.Calls.{places, AtHand, PositionAdvanced, PositionsWalked}
+use Rattle.instances.specs.Calls.{Env, places, AtHand, PositionAdvanced, PositionsWalked}
 use Rattle.instances.proofs.Slots.{slot-same, slot-below, slot-above, slot-before}
 use Rattle.instances.proofs.Heads.{walk-last}
 

@@ -13,12 +13,21 @@ use Rattle.rule.specs.declared.Pair.{Pair}
 use Rattle.rule.specs.Meaning.{up, verdict, walk}
 use Rattle.rule.specs.Positions.{Fits}
 use Rattle.rule.specs.Started.{From, Before, Reach}
-use Rattle.instances.specs.declared.env.Env.{Env}
 use Rattle.instances.specs.Tree.{Tree, formula-of, words, Formed}
 use Rattle.instances.specs.Cells.{held, CellHolds, window, slot}
 use Rattle.instances.specs.Run.{out, bind, own-tick, RunHolds, SlotHolds, RunReady, SlotReady}
 
 -- ---- the variables and their bytes
+
+-- The first n variables are bound: the position of each, and the flag byte at it.
+pub record Env : Type 0 where
+  pub n : ℕ
+  pub pos : List ℕ
+  pub byte : List ℕ
+
+-- The code has them as a number and two arrays.
+abbrev pub env-of : ℕ → List ℕ → List ℕ → Env
+env-of n pos byte = record { n = n; pos = pos; byte = byte }
 
 -- The positions of the variables that are bound.
 abbrev pub places : Env → List ℕ
@@ -29,8 +38,8 @@ abbrev pub entered : Env → ℕ → ℕ → Env
 entered e q b = record { n = e .n + 1; pos = set (e .pos) (e .n) q; byte = set (e .byte) (e .n) b }
 
 -- The flag formula, by the byte that was saved for its variable.
-abbrev pub flagged : Env → ℕ → ℕ → ℕ → Outcome
-flagged e v k s = Decided (verdict (up k (getD (e .byte) v 0))) s
+abbrev pub flagged : List ℕ → ℕ → ℕ → ℕ → Outcome
+flagged bytes v k s = Decided (verdict (up k (getD bytes v 0))) s
 
 -- The byte of tick q: the current one, or that of the history.
 abbrev pub history-byte : List ℕ → ℕ → ℕ

@@ -4,11 +4,9 @@ ghost use Prim.Native.Nat.{_+_, _<_};
 ghost use lib.ListN.{length, getD};
 ghost use Rattle.nodes.specs.Table.{bound-at};
 ghost use Rattle.instances.specs.Tree.{then-node, beside-node, range-node, tree-at};
-ghost use Rattle.instances.specs.Calls.{Fit, SlotFit, WalkFit, PartFit, Advanced, PositionAdvanced, PositionsWalked, PartAdvanced};
+ghost use Rattle.instances.specs.Calls.{env-of, Fit, SlotFit, WalkFit, PartFit, Advanced, PositionAdvanced, PositionsWalked, PartAdvanced};
 use crate::cells::load_outcome;
 use crate::cells::store_outcome;
-use crate::env::Env;
-use crate::env::enter;
 use crate::env::flag_at;
 use crate::env::own_tick;
 use crate::head::load_head;
@@ -31,9 +29,16 @@ fn wide(b: u8) -> u32
     b as u32
 }
 
+// The words of one position's slot, for the range whose node starts at word i. The range's width, as every word, is below 2^32.
+fn slot_words(nodes: &[u32], i: usize) -> u32
+    ensures { λ r. ⌜ (r ≡ getD (now (nodes .entry)) (i + 9) 0) × (getD (now (nodes .entry)) (i + 8) 0 < 4294967296) ⌝ }
+{
+    node_word(nodes, i, SLOT_WORDS)
+}
+
 // Moves the formula whose run is the words from a to z, and whose outcome the words k and k + 2 hold.
 fn advance_part(
-    nodes: &[u32],
+    nodes: &[u32; 768],
     left: usize,
     i: usize,
     run: &mut [u32],
@@ -42,60 +47,96 @@ fn advance_part(
     z: usize,
     history: &[u8],
     flag: u8,
-    env: Env,
+    m: usize,
+    pos: &[u64; 5],
+    byte: &[u8; 5],
     s: u64,
     t: u64,
 ) -> Outcome
-    requires { ⌜ PartFit (tree-at left (now nodes) i) env t k a z (length (now run)) ⌝ }
-    ensures { λ r. ⌜ PartAdvanced (tree-at left (now (nodes .entry)) i) (now (history .entry)) flag env s t k a z (now (run .entry)) r (now (run .exit)) ⌝ }
+    requires { ⌜ PartFit (tree-at left (now nodes) i) (env-of m (now pos) (now byte)) t k a z (length (now run)) ⌝ }
+    ensures { λ r. ⌜ PartAdvanced (tree-at left (now (nodes .entry)) i) (now (history .entry)) flag (env-of m (now (pos .entry)) (now (byte .entry))) s t k a z (now (run .entry)) r (now (run .exit)) ⌝ }
 {
-    let p = own_tick(env);
+    let p = own_tick(pos);
     if t != s {
         let h = load_outcome(run, k, p);
         if let Outcome::Decided(_, _) = h {
             return h;
         }
     }
-    let o = advance(nodes, left, i, &mut run[a..z], history, flag, env, s, t);
+    let o = advance(
+        nodes,
+        left,
+        i,
+        &mut run[a..z],
+        history,
+        flag,
+        m,
+        pos,
+        byte,
+        s,
+        t,
+    );
     store_outcome(run, k, p, o);
     o
 }
 
 // One position q of a range, in its slot: the position's cell, then the body's run. The byte at q is saved when the body starts.
 pub(crate) fn advance_position(
-    nodes: &[u32],
+    nodes: &[u32; 768],
     left: usize,
     i: usize,
     slot: &mut [u32],
     history: &[u8],
     flag: u8,
-    env: Env,
+    m: usize,
+    pos: &[u64; 5],
+    byte: &[u8; 5],
     s: u64,
     t: u64,
     q: u64,
 ) -> Outcome
-    requires { ⌜ SlotFit (tree-at left (now nodes) i) env t q (length (now slot)) ⌝ }
-    ensures { λ r. ⌜ PositionAdvanced (tree-at left (now (nodes .entry)) i) (now (history .entry)) flag env s t q (now (slot .entry)) r (now (slot .exit)) ⌝ }
+    requires { ⌜ SlotFit (tree-at left (now nodes) i) (env-of m (now pos) (now byte)) t q (length (now slot)) ⌝ }
+    ensures { λ r. ⌜ PositionAdvanced (tree-at left (now (nodes .entry)) i) (now (history .entry)) flag (env-of m (now (pos .entry)) (now (byte .entry))) s t q (now (slot .entry)) r (now (slot .exit)) ⌝ }
 {
     let start = outcomes::later(s, q);
     if t == start {
         slot[1] = wide(byte_of(history, flag, t, q));
     }
     let c = (slot[1] % 256) as u8;
-    let e = enter(env, q, c);
+    let mut places = *pos;
+    places[m] = q;
+    let mut bytes = *byte;
+    bytes[m] = c;
     let z = slot.len();
-    advance_part(nodes, left, i, slot, 0, 4, z, history, flag, e, start, t)
+    advance_part(
+        nodes,
+        left,
+        i,
+        slot,
+        0,
+        4,
+        z,
+        history,
+        flag,
+        m + 1,
+        &places,
+        &bytes,
+        start,
+        t,
+    )
 }
 
 // Of n positions from `first` on, each in its slot of z words, those after the leading ones, all side by side, and `end` beside them.
 fn walk_positions(
-    nodes: &[u32],
+    nodes: &[u32; 768],
     left: usize,
     i: usize,
     run: &mut [u32],
     history: &[u8],
     flag: u8,
-    env: Env,
+    m: usize,
+    pos: &[u64; 5],
+    byte: &[u8; 5],
     s: u64,
     t: u64,
     first: u64,
@@ -104,8 +145,8 @@ fn walk_positions(
     end: Outcome,
     z: usize,
 ) -> Outcome
-    requires { ⌜ WalkFit (tree-at left (now nodes) i) env t first leading n z (length (now run)) ⌝ }
-    ensures { λ r. ⌜ PositionsWalked (tree-at left (now (nodes .entry)) i) (now (history .entry)) flag env s t first leading n end z (now (run .entry)) r (now (run .exit)) ⌝ }
+    requires { ⌜ WalkFit (tree-at left (now nodes) i) (env-of m (now pos) (now byte)) t first leading n z (length (now run)) ⌝ }
+    ensures { λ r. ⌜ PositionsWalked (tree-at left (now (nodes .entry)) i) (now (history .entry)) flag (env-of m (now (pos .entry)) (now (byte .entry))) s t first leading n end z (now (run .entry)) r (now (run .exit)) ⌝ }
 {
     let mut acc = end;
     let mut j = n;
@@ -120,7 +161,9 @@ fn walk_positions(
             &mut run[at..top],
             history,
             flag,
-            env,
+            m,
+            pos,
+            byte,
             s,
             t,
             first + j,
@@ -132,27 +175,28 @@ fn walk_positions(
 
 // The range whose node starts at word i.
 fn advance_range(
-    nodes: &[u32],
+    nodes: &[u32; 768],
     left: usize,
     i: usize,
     run: &mut [u32],
     history: &[u8],
     flag: u8,
-    env: Env,
+    m: usize,
+    pos: &[u64; 5],
+    byte: &[u8; 5],
     s: u64,
     t: u64,
 ) -> Outcome
-    requires { ⌜ (i < length (now nodes)) × Fit (range-node (bound-at (now nodes) (i + 1)) (bound-at (now nodes) (i + 4)) (getD (now nodes) (i + 8) 0) (getD (now nodes) (i + 9) 0) (tree-at left (now nodes) (i + 12))) env t (length (now run)) ⌝ }
-    ensures { λ r. ⌜ Advanced (range-node (bound-at (now (nodes .entry)) (i + 1)) (bound-at (now (nodes .entry)) (i + 4)) (getD (now (nodes .entry)) (i + 8) 0) (getD (now (nodes .entry)) (i + 9) 0) (tree-at left (now (nodes .entry)) (i + 12))) (now (history .entry)) flag env s t (now (run .entry)) r (now (run .exit)) ⌝ }
+    requires { ⌜ (i < length (now nodes)) × Fit (range-node (bound-at (now nodes) (i + 1)) (bound-at (now nodes) (i + 4)) (getD (now nodes) (i + 8) 0) (getD (now nodes) (i + 9) 0) (tree-at left (now nodes) (i + 12))) (env-of m (now pos) (now byte)) t (length (now run)) ⌝ }
+    ensures { λ r. ⌜ Advanced (range-node (bound-at (now (nodes .entry)) (i + 1)) (bound-at (now (nodes .entry)) (i + 4)) (getD (now (nodes .entry)) (i + 8) 0) (getD (now (nodes .entry)) (i + 9) 0) (tree-at left (now (nodes .entry)) (i + 12))) (now (history .entry)) flag (env-of m (now (pos .entry)) (now (byte .entry))) s t (now (run .entry)) r (now (run .exit)) ⌝ }
 {
-    let z = node_word(nodes, i, SLOT_WORDS) as usize;
-    let pos = env.pos;
+    let z = slot_words(nodes, i) as usize;
     let span = ranges::range_at(nodes, i, pos);
     let plan = ranges::plan_up_to(span, t, s);
     let first = plan.first;
     let n = plan.n;
     let end = plan.end;
-    let p = own_tick(env);
+    let p = own_tick(pos);
     let h = load_head(run, p, s, t, n);
     let rest = walk_positions(
         nodes,
@@ -161,7 +205,9 @@ fn advance_range(
         &mut run[4..],
         history,
         flag,
-        env,
+        m,
+        pos,
+        byte,
         s,
         t,
         first,
@@ -176,34 +222,63 @@ fn advance_range(
 
 // The formula at word f, then the one at word g, which is started at the first one's step.
 fn advance_then(
-    nodes: &[u32],
+    nodes: &[u32; 768],
     left: usize,
     f: usize,
     g: usize,
     run: &mut [u32],
     history: &[u8],
     flag: u8,
-    env: Env,
+    m: usize,
+    pos: &[u64; 5],
+    byte: &[u8; 5],
     s: u64,
     t: u64,
 ) -> Outcome
-    requires { ⌜ Fit (then-node (tree-at left (now nodes) f) (tree-at left (now nodes) g)) env t (length (now run)) ⌝ }
-    ensures { λ r. ⌜ Advanced (then-node (tree-at left (now (nodes .entry)) f) (tree-at left (now (nodes .entry)) g)) (now (history .entry)) flag env s t (now (run .entry)) r (now (run .exit)) ⌝ }
+    requires { ⌜ Fit (then-node (tree-at left (now nodes) f) (tree-at left (now nodes) g)) (env-of m (now pos) (now byte)) t (length (now run)) ⌝ }
+    ensures { λ r. ⌜ Advanced (then-node (tree-at left (now (nodes .entry)) f) (tree-at left (now (nodes .entry)) g)) (now (history .entry)) flag (env-of m (now (pos .entry)) (now (byte .entry))) s t (now (run .entry)) r (now (run .exit)) ⌝ }
 {
     let z = run.len();
-    let o = advance_part(nodes, left, f, run, 0, 4, z, history, flag, env, s, t);
+    let o = advance_part(
+        nodes,
+        left,
+        f,
+        run,
+        0,
+        4,
+        z,
+        history,
+        flag,
+        m,
+        pos,
+        byte,
+        s,
+        t,
+    );
     match o {
         Outcome::Open => o,
         Outcome::Decided(v, d) => match v {
             Verdict::False => o,
-            Verdict::True => advance(nodes, left, g, &mut run[4..], history, flag, env, d, t),
+            Verdict::True => advance(
+                nodes,
+                left,
+                g,
+                &mut run[4..],
+                history,
+                flag,
+                m,
+                pos,
+                byte,
+                d,
+                t,
+            ),
         },
     }
 }
 
 // The formula at word f, in w words, beside the one at word g.
 fn advance_beside(
-    nodes: &[u32],
+    nodes: &[u32; 768],
     left: usize,
     f: usize,
     g: usize,
@@ -211,57 +286,118 @@ fn advance_beside(
     run: &mut [u32],
     history: &[u8],
     flag: u8,
-    env: Env,
+    m: usize,
+    pos: &[u64; 5],
+    byte: &[u8; 5],
     s: u64,
     t: u64,
 ) -> Outcome
-    requires { ⌜ Fit (beside-node w (tree-at left (now nodes) f) (tree-at left (now nodes) g)) env t (length (now run)) ⌝ }
-    ensures { λ r. ⌜ Advanced (beside-node w (tree-at left (now (nodes .entry)) f) (tree-at left (now (nodes .entry)) g)) (now (history .entry)) flag env s t (now (run .entry)) r (now (run .exit)) ⌝ }
+    requires { ⌜ Fit (beside-node w (tree-at left (now nodes) f) (tree-at left (now nodes) g)) (env-of m (now pos) (now byte)) t (length (now run)) ⌝ }
+    ensures { λ r. ⌜ Advanced (beside-node w (tree-at left (now (nodes .entry)) f) (tree-at left (now (nodes .entry)) g)) (now (history .entry)) flag (env-of m (now (pos .entry)) (now (byte .entry))) s t (now (run .entry)) r (now (run .exit)) ⌝ }
 {
     let z = run.len();
-    let m = 4 + w;
-    let x = advance_part(nodes, left, f, run, 0, 4, m, history, flag, env, s, t);
-    let y = advance_part(nodes, left, g, run, 1, m, z, history, flag, env, s, t);
+    let mid = 4 + w;
+    let x = advance_part(
+        nodes,
+        left,
+        f,
+        run,
+        0,
+        4,
+        mid,
+        history,
+        flag,
+        m,
+        pos,
+        byte,
+        s,
+        t,
+    );
+    let y = advance_part(
+        nodes,
+        left,
+        g,
+        run,
+        1,
+        mid,
+        z,
+        history,
+        flag,
+        m,
+        pos,
+        byte,
+        s,
+        t,
+    );
     outcomes::both(x, y)
 }
 
 // Moves the formula at word i, started at s, to tick t. A run of nots has the run of what stands under it, and is taken in one call.
 fn advance(
-    nodes: &[u32],
+    nodes: &[u32; 768],
     left: usize,
     i: usize,
     run: &mut [u32],
     history: &[u8],
     flag: u8,
-    env: Env,
+    m: usize,
+    pos: &[u64; 5],
+    byte: &[u8; 5],
     s: u64,
     t: u64,
 ) -> Outcome
-    requires { ⌜ Fit (tree-at left (now nodes) i) env t (length (now run)) ⌝ }
-    ensures { λ r. ⌜ Advanced (tree-at left (now (nodes .entry)) i) (now (history .entry)) flag env s t (now (run .entry)) r (now (run .exit)) ⌝ }
+    requires { ⌜ Fit (tree-at left (now nodes) i) (env-of m (now pos) (now byte)) t (length (now run)) ⌝ }
+    ensures { λ r. ⌜ Advanced (tree-at left (now (nodes .entry)) i) (now (history .entry)) flag (env-of m (now (pos .entry)) (now (byte .entry))) s t (now (run .entry)) r (now (run .exit)) ⌝ }
 {
     if left == 0 {
-        return flag_at(env, 0, 0, s);
+        return flag_at(byte, 0, 0, s);
     }
     let code = node_word(nodes, i, CODE);
     if code == 2 {
         let u = skip_nots(nodes, left, i);
-        let o = advance(nodes, u.left, u.i, run, history, flag, env, s, t);
+        let o = advance(nodes, u.left, u.i, run, history, flag, m, pos, byte, s, t);
         return outcomes::opposite_if(u.odd, o);
     }
     if code == 3 {
         let g = node_word(nodes, i, SECOND_PART) as usize;
-        return advance_then(nodes, left - 1, i + 12, g, run, history, flag, env, s, t);
+        return advance_then(
+            nodes,
+            left - 1,
+            i + 12,
+            g,
+            run,
+            history,
+            flag,
+            m,
+            pos,
+            byte,
+            s,
+            t,
+        );
     }
     if code == 4 {
         let g = node_word(nodes, i, SECOND_PART) as usize;
         let w = node_word(nodes, i, FIRST_WORDS) as usize;
-        return advance_beside(nodes, left - 1, i + 12, g, w, run, history, flag, env, s, t);
+        return advance_beside(
+            nodes,
+            left - 1,
+            i + 12,
+            g,
+            w,
+            run,
+            history,
+            flag,
+            m,
+            pos,
+            byte,
+            s,
+            t,
+        );
     }
     if code == 5 {
-        return advance_range(nodes, left - 1, i, run, history, flag, env, s, t);
+        return advance_range(nodes, left - 1, i, run, history, flag, m, pos, byte, s, t);
     }
     let v = node_word(nodes, i, VARIABLE) as usize;
     let k = node_word(nodes, i, FLAG);
-    flag_at(env, v, k, s)
+    flag_at(byte, v, k, s)
 }

@@ -7,7 +7,6 @@ ghost use Rattle.instances.specs.Tree.{tree-at};
 ghost use Rattle.instances.specs.Instances.{InstanceMoved, InstanceFit, tick-if-false, open-count, TicksFit, TicksMoved, Spared};
 ghost use Rattle.instances.specs.Moves.{TickFit, TickMoved};
 use crate::advance::advance_position;
-use crate::env::Env;
 use crate::ring::remember;
 use rule::Figures;
 use rule::Outcome;
@@ -21,7 +20,7 @@ pub(crate) struct Moved {
 
 // The instance of tick p, moved to tick t: a range's position with no variable before it.
 fn move_instance(
-    nodes: &[u32],
+    nodes: &[u32; 768],
     left: usize,
     run: &mut [u32],
     history: &[u8],
@@ -32,12 +31,9 @@ fn move_instance(
     requires { ⌜ InstanceFit (tree-at left (now nodes) 0) t p (length (now run)) ⌝ }
     ensures { λ r. ⌜ InstanceMoved (tree-at left (now (nodes .entry)) 0) (now (history .entry)) flag t p (now (run .entry)) r (now (run .exit)) ⌝ }
 {
-    let env = Env {
-        n: 0,
-        pos: [0u64; 5],
-        byte: [0u8; 5],
-    };
-    advance_position(nodes, left, 0, run, history, flag, env, p, t, p)
+    let pos = [0u64; 5];
+    let byte = [0u8; 5];
+    advance_position(nodes, left, 0, run, history, flag, 0, &pos, &byte, p, t, p)
 }
 
 // One for an open outcome.
@@ -85,7 +81,7 @@ fn oldest_tick(t: u64, n: u64) -> u64
 
 // Moves the ticks from `low` to t, each in its slot of c words.
 fn move_ticks(
-    nodes: &[u32],
+    nodes: &[u32; 768],
     left: usize,
     table: &mut [u32],
     history: &[u8],

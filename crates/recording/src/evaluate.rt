@@ -130,7 +130,7 @@ fn walk_range(
         return flag_at(recording, env, 0, 0, s);
     }
     let pos = env.pos;
-    let plan = ranges::plan_up_to(ranges::range_at(nodes, i, pos), t, s);
+    let plan = ranges::plan_up_to(ranges::range_at(nodes, i, &pos), t, s);
     let alike = alike(nodes, left, env.nested, i, plan.n);
     let mut acc = plan.end;
     let mut q = plan.first;

@@ -13,7 +13,7 @@ use Rattle.nodes.proofs.Nots.{nots-less}
 use Rattle.ranges.specs.Spans.{positions-of}
 use Rattle.instances.specs.Tree.{Tree, then-node, beside-node, tree-at}
 use Rattle.instances.specs.Run.{own-tick}
-use Rattle.instances.specs.Calls.{places, flagged, Fit, SlotFit, Advanced}
+use Rattle.instances.specs.Calls.{env-of, places, flagged, Fit, SlotFit, Advanced}
 use Rattle.instances.proofs.Slots.{slot-before}
 use Rattle.instances.proofs.Marks.{tail-take}
 use Rattle.instances.proofs.Heads.{leading-least}
@@ -49,10 +49,10 @@ use Rattle.instances.proofs.advance.+advance+advance_beside+advance_par
 use Rattle.instances.proofs.advance.walk_positions.Reads as walk-positions
 use Rattle.instances.proofs.advance.walk_positions.Kinds as walk-positions-kinds
 use Rattle.instances.proofs.advance.+advance+advance_beside+advance_part+advance_position+advance_range+advance_then+walk_positions.Lts-walk_positions as walk-positions-lts
+use Rattle.instances.proofs.advance.slot_words.Reads as slot-words-reads
 use Rattle.instances.proofs.advance.wide.Reads as wide-reads
 use Rattle.instances.proofs.cells.load_outcome.Reads as load-outcome-reads
 use Rattle.instances.proofs.cells.store_outcome.Reads as store-outcome-reads
-use Rattle.instances.proofs.env.enter.Reads as enter-reads
 use Rattle.instances.proofs.env.flag_at.Reads as flag-at-reads
 use Rattle.instances.proofs.env.own_tick.Reads as own-tick-reads
 use Rattle.instances.proofs.head.load_head.Reads as load-head-reads
@@ -65,118 +65,122 @@ use Rattle.outcomes.proofs.later.Reads as later-reads
 use Rattle.outcomes.proofs.opposite_if.Reads as opposite-if-reads
 use Rattle.ranges.proofs.plan_up_to.Reads as plan-up-to-reads
 use Rattle.ranges.proofs.range_at.Reads as range-at-reads
-use Rattle.instances.proofs.advance.+advance+advance_beside+advance_part+advance_position+advance_range+advance_then+walk_positions.{statement}
-use Rattle.instances.proofs.advance.+advance+advance_beside+advance_part+advance_position+advance_range+advance_then+walk_positions.Tie.{close}
+use Rattle.instances.proofs.advance.+advance+advance_beside+advance_part+advance_position+advance_range+advance_then+walk_positions.{
+  statement,
+}
+use Rattle.instances.proofs.advance.+advance+advance_beside+advance_part+advance_position+advance_range+advance_then+walk_positions.Tie.{
+  close,
+}
 
-abbrev μ-advance : Measures 3 advance-kinds.ps ℕ
+abbrev μ-advance : Measures 5 advance-kinds.ps ℕ
 μ-advance κs a = 8 * (a .1 .0)
 
-abbrev μ-advance-beside : Measures 3 advance-beside-kinds.ps ℕ
+abbrev μ-advance-beside : Measures 5 advance-beside-kinds.ps ℕ
 μ-advance-beside κs a = 8 * (a .1 .0) + 3
 
-abbrev μ-advance-part : Measures 3 advance-part-kinds.ps ℕ
+abbrev μ-advance-part : Measures 5 advance-part-kinds.ps ℕ
 μ-advance-part κs a = 8 * (a .1 .0) + 1
 
-abbrev μ-advance-position : Measures 3 advance-position-kinds.ps ℕ
+abbrev μ-advance-position : Measures 5 advance-position-kinds.ps ℕ
 μ-advance-position κs a = 8 * (a .1 .0) + 2
 
-abbrev μ-advance-range : Measures 3 advance-range-kinds.ps ℕ
+abbrev μ-advance-range : Measures 5 advance-range-kinds.ps ℕ
 μ-advance-range κs a = 8 * (a .1 .0) + 4
 
-abbrev μ-advance-then : Measures 3 advance-then-kinds.ps ℕ
+abbrev μ-advance-then : Measures 5 advance-then-kinds.ps ℕ
 μ-advance-then κs a = 8 * (a .1 .0) + 3
 
-abbrev μ-walk-positions : Measures 3 walk-positions-kinds.ps ℕ
+abbrev μ-walk-positions : Measures 5 walk-positions-kinds.ps ℕ
 μ-walk-positions κs a = 8 * (a .1 .0) + 3
 
-abbrev advance-at : ℕ → In 3 advance-kinds.ps
-advance-at t = and 3 advance-kinds.ps (is 3 advance-kinds.ps μ-advance t) advance.Pre
+abbrev advance-at : ℕ → In 5 advance-kinds.ps
+advance-at t = and 5 advance-kinds.ps (is 5 advance-kinds.ps μ-advance t) advance.Pre
 
-abbrev advance-below : ℕ → In 3 advance-kinds.ps
-advance-below t = and 3 advance-kinds.ps (falls 3 advance-kinds.ps _<_ μ-advance t) advance.Pre
+abbrev advance-below : ℕ → In 5 advance-kinds.ps
+advance-below t = and 5 advance-kinds.ps (falls 5 advance-kinds.ps _<_ μ-advance t) advance.Pre
 
-abbrev advance-beside-at : ℕ → In 3 advance-beside-kinds.ps
+abbrev advance-beside-at : ℕ → In 5 advance-beside-kinds.ps
 advance-beside-at t =
     and
-    3
+    5
     advance-beside-kinds.ps
-    (is 3 advance-beside-kinds.ps μ-advance-beside t)
+    (is 5 advance-beside-kinds.ps μ-advance-beside t)
     advance-beside.Pre
 
-abbrev advance-beside-below : ℕ → In 3 advance-beside-kinds.ps
+abbrev advance-beside-below : ℕ → In 5 advance-beside-kinds.ps
 advance-beside-below t =
     and
-    3
+    5
     advance-beside-kinds.ps
-    (falls 3 advance-beside-kinds.ps _<_ μ-advance-beside t)
+    (falls 5 advance-beside-kinds.ps _<_ μ-advance-beside t)
     advance-beside.Pre
 
-abbrev advance-part-at : ℕ → In 3 advance-part-kinds.ps
+abbrev advance-part-at : ℕ → In 5 advance-part-kinds.ps
 advance-part-at t =
-    and 3 advance-part-kinds.ps (is 3 advance-part-kinds.ps μ-advance-part t) advance-part.Pre
+    and 5 advance-part-kinds.ps (is 5 advance-part-kinds.ps μ-advance-part t) advance-part.Pre
 
-abbrev advance-part-below : ℕ → In 3 advance-part-kinds.ps
+abbrev advance-part-below : ℕ → In 5 advance-part-kinds.ps
 advance-part-below t =
     and
-    3
+    5
     advance-part-kinds.ps
-    (falls 3 advance-part-kinds.ps _<_ μ-advance-part t)
+    (falls 5 advance-part-kinds.ps _<_ μ-advance-part t)
     advance-part.Pre
 
-abbrev advance-position-at : ℕ → In 3 advance-position-kinds.ps
+abbrev advance-position-at : ℕ → In 5 advance-position-kinds.ps
 advance-position-at t =
     and
-    3
+    5
     advance-position-kinds.ps
-    (is 3 advance-position-kinds.ps μ-advance-position t)
+    (is 5 advance-position-kinds.ps μ-advance-position t)
     advance-position.Pre
 
-abbrev advance-position-below : ℕ → In 3 advance-position-kinds.ps
+abbrev advance-position-below : ℕ → In 5 advance-position-kinds.ps
 advance-position-below t =
     and
-    3
+    5
     advance-position-kinds.ps
-    (falls 3 advance-position-kinds.ps _<_ μ-advance-position t)
+    (falls 5 advance-position-kinds.ps _<_ μ-advance-position t)
     advance-position.Pre
 
-abbrev advance-range-at : ℕ → In 3 advance-range-kinds.ps
+abbrev advance-range-at : ℕ → In 5 advance-range-kinds.ps
 advance-range-at t =
-    and 3 advance-range-kinds.ps (is 3 advance-range-kinds.ps μ-advance-range t) advance-range.Pre
+    and 5 advance-range-kinds.ps (is 5 advance-range-kinds.ps μ-advance-range t) advance-range.Pre
 
-abbrev advance-range-below : ℕ → In 3 advance-range-kinds.ps
+abbrev advance-range-below : ℕ → In 5 advance-range-kinds.ps
 advance-range-below t =
     and
-    3
+    5
     advance-range-kinds.ps
-    (falls 3 advance-range-kinds.ps _<_ μ-advance-range t)
+    (falls 5 advance-range-kinds.ps _<_ μ-advance-range t)
     advance-range.Pre
 
-abbrev advance-then-at : ℕ → In 3 advance-then-kinds.ps
+abbrev advance-then-at : ℕ → In 5 advance-then-kinds.ps
 advance-then-at t =
-    and 3 advance-then-kinds.ps (is 3 advance-then-kinds.ps μ-advance-then t) advance-then.Pre
+    and 5 advance-then-kinds.ps (is 5 advance-then-kinds.ps μ-advance-then t) advance-then.Pre
 
-abbrev advance-then-below : ℕ → In 3 advance-then-kinds.ps
+abbrev advance-then-below : ℕ → In 5 advance-then-kinds.ps
 advance-then-below t =
     and
-    3
+    5
     advance-then-kinds.ps
-    (falls 3 advance-then-kinds.ps _<_ μ-advance-then t)
+    (falls 5 advance-then-kinds.ps _<_ μ-advance-then t)
     advance-then.Pre
 
-abbrev walk-positions-at : ℕ → In 3 walk-positions-kinds.ps
+abbrev walk-positions-at : ℕ → In 5 walk-positions-kinds.ps
 walk-positions-at t =
     and
-    3
+    5
     walk-positions-kinds.ps
-    (is 3 walk-positions-kinds.ps μ-walk-positions t)
+    (is 5 walk-positions-kinds.ps μ-walk-positions t)
     walk-positions.Pre
 
-abbrev walk-positions-below : ℕ → In 3 walk-positions-kinds.ps
+abbrev walk-positions-below : ℕ → In 5 walk-positions-kinds.ps
 walk-positions-below t =
     and
-    3
+    5
     walk-positions-kinds.ps
-    (falls 3 walk-positions-kinds.ps _<_ μ-walk-positions t)
+    (falls 5 walk-positions-kinds.ps _<_ μ-walk-positions t)
     walk-positions.Pre
 
 abbrev advance-claims : ℕ → advance-lts.Claims
@@ -189,10 +193,10 @@ abbrev advance-part-claims : ℕ → advance-part-lts.Claims
 advance-part-claims t = (own-tick-reads.Asked, own-tick-reads.Learnt, load-outcome-reads.Asked, load-outcome-reads.Learnt, advance-below t, advance.Post, store-outcome-reads.Asked, store-outcome-reads.Learnt)
 
 abbrev advance-position-claims : ℕ → advance-position-lts.Claims
-advance-position-claims t = (later-reads.Asked, later-reads.Learnt, byte-of-reads.Asked, byte-of-reads.Learnt, wide-reads.Asked, wide-reads.Learnt, enter-reads.Asked, enter-reads.Learnt, advance-part-below t, advance-part.Post)
+advance-position-claims t = (later-reads.Asked, later-reads.Learnt, byte-of-reads.Asked, byte-of-reads.Learnt, wide-reads.Asked, wide-reads.Learnt, advance-part-below t, advance-part.Post)
 
 abbrev advance-range-claims : ℕ → advance-range-lts.Claims
-advance-range-claims t = (node-word-reads.Asked, node-word-reads.Learnt, range-at-reads.Asked, range-at-reads.Learnt, plan-up-to-reads.Asked, plan-up-to-reads.Learnt, own-tick-reads.Asked, own-tick-reads.Learnt, load-head-reads.Asked, load-head-reads.Learnt, walk-positions-below t, walk-positions.Post, store-head-reads.Asked, store-head-reads.Learnt, both-reads.Asked, both-reads.Learnt)
+advance-range-claims t = (slot-words-reads.Asked, slot-words-reads.Learnt, range-at-reads.Asked, range-at-reads.Learnt, plan-up-to-reads.Asked, plan-up-to-reads.Learnt, own-tick-reads.Asked, own-tick-reads.Learnt, load-head-reads.Asked, load-head-reads.Learnt, walk-positions-below t, walk-positions.Post, store-head-reads.Asked, store-head-reads.Learnt, both-reads.Asked, both-reads.Learnt)
 
 abbrev advance-then-claims : ℕ → advance-then-lts.Claims
 advance-then-claims t = (advance-part-below t, advance-part.Post, advance-below t, advance.Post)
@@ -205,14 +209,14 @@ advance-flag-at-requires t c κs = omega arith
 
 advance-returns : (t : ℕ) → advance-lts.Need-returns (advance-claims t) (advance-at t) advance.Post
 advance-returns measure c =
-    let s₀ = c .before .before .before .before .before in
+    let s₀ = c .before .before .before .before in
     let nodes = s₀ .args .nodes .now in
     let run = s₀ .args .run .now in
     let hist = s₀ .args .history .now in
     let left = s₀ .args .left in
     let i = s₀ .args .i in
     let b = s₀ .args .flag in
-    let env = s₀ .args .env in
+    let env = env-of (s₀ .args .m) (s₀ .args .pos .now) (s₀ .args .byte .now) in
     let s = s₀ .args .s in
     let t = s₀ .args .t in
     let at-if1 = c .before .if1 in
@@ -229,13 +233,13 @@ advance-skip-nots-requires t c κs = search needs
 
 advance-advance-requires : (t : ℕ) → advance-lts.Need-advance-requires (advance-claims t) (advance-at t) advance.Post
 advance-advance-requires measure c κs =
-    let s₀ = c .before .before .before .before .before .before .before .before in
+    let s₀ = c .before .before .before .before .before .before .before .before .before in
     let nodes = s₀ .args .nodes .now in
     let left = s₀ .args .left in
     let i = s₀ .args .i in
-    let at-if1 = c .before .before .before .before .if1 in
-    let at-node-word = c .before .before .before .node-word in
-    let at-if2 = c .before .before .if2 in
+    let at-if1 = c .before .before .before .before .before .before .if1 in
+    let at-node-word = c .before .before .before .before .node-word in
+    let at-if2 = c .before .before .before .if2 in
     let at-skip-nots = c .before .skip-nots in
     let u = at-skip-nots .result in
     (omega (arith, s₀ .pre .0, nots-less nodes left i false u (at-skip-nots .ensures) (at-if1 .left) (sym (at-node-word .ensures) ∙ at-if2 .taken)), fit-nots nodes left i u (at-skip-nots .ensures) (s₀ .pre .1))
@@ -248,7 +252,7 @@ advance-same-length t c = search needs
 
 advance-returns-2 : (t : ℕ) → advance-lts.Need-returns-2 (advance-claims t) (advance-at t) advance.Post
 advance-returns-2 measure c =
-    let s₀ = c .before .before .before .before .before .before .before .before .before .before .before .before in
+    let s₀ = c .before .before .before .before .before .before .before .before .before .before .before .before .before in
     let at-skip-nots = c .before .before .before .before .before .skip-nots in
     let at-advance = c .before .before .before .advance in
     let at-opposite-if = c .opposite-if in
@@ -265,26 +269,27 @@ advance-sub-advance-then t c = search needs
 
 advance-add-advance-then : (t : ℕ) → advance-lts.Need-add-advance-then (advance-claims t) (advance-at t) advance.Post
 advance-add-advance-then measure c =
-    let s₀ = c .before .before .before .before .before .before .before .before in
+    let s₀ = c .before .before .before .before .before .before .before .before .before in
     let nodes = s₀ .args .nodes .now in
     let i = s₀ .args .i in
-    let at-node-word = c .before .before .before .node-word in
-    let at-if3 = c .before .if3 in
-    omega (arith, word-in nodes i 2 (sym (at-node-word .ensures) ∙ at-if3 .taken), s₀ .good .0)
+    let at-node-word = c .before .before .before .before .node-word in
+    let at-if3 = c .before .before .if3 in
+    let at-node-word-arg = c .before .before .before .before .before .node-word-arg in
+    omega (arith, word-in nodes i 2 (sym (at-node-word .ensures) ∙ at-if3 .taken), at-node-word-arg .given)
 
 advance-advance-then-requires : (t : ℕ) → advance-lts.Need-advance-then-requires (advance-claims t) (advance-at t) advance.Post
 advance-advance-then-requires measure c κs =
-    let s₀ = c .before .before .before .before .before .before .before .before .before in
+    let s₀ = c .before .before .before .before .before .before .before .before .before .before in
     let nodes = s₀ .args .nodes .now in
     let run = s₀ .args .run .now in
     let left = s₀ .args .left in
     let i = s₀ .args .i in
-    let env = s₀ .args .env in
+    let env = env-of (s₀ .args .m) (s₀ .args .pos .now) (s₀ .args .byte .now) in
     let t = s₀ .args .t in
-    let at-if1 = c .before .before .before .before .before .if1 in
-    let at-node-word = c .before .before .before .before .node-word in
-    let at-if2 = c .before .before .before .if2 in
-    let at-if3 = c .before .before .if3 in
+    let at-if1 = c .before .before .before .before .before .before .before .if1 in
+    let at-node-word = c .before .before .before .before .before .node-word in
+    let at-if2 = c .before .before .before .before .if2 in
+    let at-if3 = c .before .before .before .if3 in
     let at-node-word2 = c .before .node-word2 in
     let is = is-then nodes i left (at-if1 .left) (λ x. at-if2 .left (at-node-word .ensures ∙ x)) (sym (at-node-word .ensures) ∙ at-if3 .taken) in
     let fit = subst (λ (G : Tree). Fit G env t (length run)) is (s₀ .pre .1) in
@@ -295,20 +300,20 @@ advance-same-length-2 t c = search needs
 
 advance-returns-3 : (t : ℕ) → advance-lts.Need-returns-3 (advance-claims t) (advance-at t) advance.Post
 advance-returns-3 measure c =
-    let s₀ = c .before .before .before .before .before .before .before .before .before .before .before .before in
+    let s₀ = c .before .before .before .before .before .before .before .before .before .before .before .before .before in
     let nodes = s₀ .args .nodes .now in
     let run = s₀ .args .run .now in
     let hist = s₀ .args .history .now in
     let left = s₀ .args .left in
     let i = s₀ .args .i in
     let b = s₀ .args .flag in
-    let env = s₀ .args .env in
+    let env = env-of (s₀ .args .m) (s₀ .args .pos .now) (s₀ .args .byte .now) in
     let s = s₀ .args .s in
     let t = s₀ .args .t in
-    let at-if1 = c .before .before .before .before .before .before .before .before .if1 in
-    let at-node-word = c .before .before .before .before .before .before .before .node-word in
-    let at-if2 = c .before .before .before .before .before .before .if2 in
-    let at-if3 = c .before .before .before .before .before .if3 in
+    let at-if1 = c .before .before .before .before .before .before .before .before .before .before .if1 in
+    let at-node-word = c .before .before .before .before .before .before .before .before .node-word in
+    let at-if2 = c .before .before .before .before .before .before .before .if2 in
+    let at-if3 = c .before .before .before .before .before .before .if3 in
     let at-node-word2 = c .before .before .before .before .node-word2 in
     let at-advance-then = c .before .before .advance-then in
     let is = is-then nodes i left (at-if1 .left) (λ x. at-if2 .left (at-node-word .ensures ∙ x)) (sym (at-node-word .ensures) ∙ at-if3 .taken) in
@@ -332,28 +337,29 @@ advance-sub-advance-beside t c = search needs
 
 advance-add-advance-beside : (t : ℕ) → advance-lts.Need-add-advance-beside (advance-claims t) (advance-at t) advance.Post
 advance-add-advance-beside measure c =
-    let s₀ = c .before .before .before .before .before .before .before .before .before .before in
+    let s₀ = c .before .before .before .before .before .before .before .before .before .before .before .before in
     let nodes = s₀ .args .nodes .now in
     let i = s₀ .args .i in
-    let at-node-word = c .before .before .before .before .before .node-word in
-    let at-if4 = c .before .before .if4 in
-    omega (arith, word-in nodes i 3 (sym (at-node-word .ensures) ∙ at-if4 .taken), s₀ .good .0)
+    let at-node-word = c .before .before .before .before .before .before .before .node-word in
+    let at-if4 = c .before .before .before .before .if4 in
+    let at-node-word-arg = c .before .before .before .before .before .before .before .before .node-word-arg in
+    omega (arith, word-in nodes i 3 (sym (at-node-word .ensures) ∙ at-if4 .taken), at-node-word-arg .given)
 
 advance-advance-beside-requires : (t : ℕ) → advance-lts.Need-advance-beside-requires (advance-claims t) (advance-at t) advance.Post
 advance-advance-beside-requires measure c κs =
-    let s₀ = c .before .before .before .before .before .before .before .before .before .before .before in
+    let s₀ = c .before .before .before .before .before .before .before .before .before .before .before .before .before in
     let nodes = s₀ .args .nodes .now in
     let run = s₀ .args .run .now in
     let left = s₀ .args .left in
     let i = s₀ .args .i in
-    let env = s₀ .args .env in
+    let env = env-of (s₀ .args .m) (s₀ .args .pos .now) (s₀ .args .byte .now) in
     let t = s₀ .args .t in
-    let at-if1 = c .before .before .before .before .before .before .before .if1 in
-    let at-node-word = c .before .before .before .before .before .before .node-word in
-    let at-if2 = c .before .before .before .before .before .if2 in
-    let at-if3 = c .before .before .before .before .if3 in
-    let at-if4 = c .before .before .before .if4 in
-    let at-node-word3 = c .before .before .node-word3 in
+    let at-if1 = c .before .before .before .before .before .before .before .before .before .before .if1 in
+    let at-node-word = c .before .before .before .before .before .before .before .before .node-word in
+    let at-if2 = c .before .before .before .before .before .before .before .if2 in
+    let at-if3 = c .before .before .before .before .before .before .if3 in
+    let at-if4 = c .before .before .before .before .before .if4 in
+    let at-node-word3 = c .before .before .before .node-word3 in
     let at-node-word4 = c .before .node-word4 in
     let is = is-beside nodes i left (at-if1 .left) (λ x. at-if2 .left (at-node-word .ensures ∙ x)) (λ x. at-if3 .left (at-node-word .ensures ∙ x)) (sym (at-node-word .ensures) ∙ at-if4 .taken) in
     let fit = subst (λ (G : Tree). Fit G env t (length run)) is (s₀ .pre .1) in (
@@ -367,22 +373,22 @@ advance-same-length-3 t c = search needs
 
 advance-returns-4 : (t : ℕ) → advance-lts.Need-returns-4 (advance-claims t) (advance-at t) advance.Post
 advance-returns-4 measure c =
-    let s₀ = c .before .before .before .before .before .before .before .before .before .before .before .before .before .before in
+    let s₀ = c .before .before .before .before .before .before .before .before .before .before .before .before .before .before .before .before in
     let nodes = s₀ .args .nodes .now in
     let run = s₀ .args .run .now in
     let hist = s₀ .args .history .now in
     let left = s₀ .args .left in
     let i = s₀ .args .i in
     let b = s₀ .args .flag in
-    let env = s₀ .args .env in
+    let env = env-of (s₀ .args .m) (s₀ .args .pos .now) (s₀ .args .byte .now) in
     let s = s₀ .args .s in
     let t = s₀ .args .t in
-    let at-if1 = c .before .before .before .before .before .before .before .before .before .before .if1 in
-    let at-node-word = c .before .before .before .before .before .before .before .before .before .node-word in
-    let at-if2 = c .before .before .before .before .before .before .before .before .if2 in
-    let at-if3 = c .before .before .before .before .before .before .before .if3 in
-    let at-if4 = c .before .before .before .before .before .before .if4 in
-    let at-node-word3 = c .before .before .before .before .before .node-word3 in
+    let at-if1 = c .before .before .before .before .before .before .before .before .before .before .before .before .before .if1 in
+    let at-node-word = c .before .before .before .before .before .before .before .before .before .before .before .node-word in
+    let at-if2 = c .before .before .before .before .before .before .before .before .before .before .if2 in
+    let at-if3 = c .before .before .before .before .before .before .before .before .before .if3 in
+    let at-if4 = c .before .before .before .before .before .before .before .before .if4 in
+    let at-node-word3 = c .before .before .before .before .before .before .node-word3 in
     let at-node-word4 = c .before .before .before .before .node-word4 in
     let at-advance-beside = c .before .before .advance-beside in
     let is = is-beside nodes i left (at-if1 .left) (λ x. at-if2 .left (at-node-word .ensures ∙ x)) (λ x. at-if3 .left (at-node-word .ensures ∙ x)) (sym (at-node-word .ensures) ∙ at-if4 .taken) in
@@ -400,9 +406,9 @@ advance-advance-range-requires measure c κs =
     let run = s₀ .args .run .now in
     let left = s₀ .args .left in
     let i = s₀ .args .i in
-    let env = s₀ .args .env in
+    let env = env-of (s₀ .args .m) (s₀ .args .pos .now) (s₀ .args .byte .now) in
     let t = s₀ .args .t in
-    let at-if1 = c .before .before .before .before .before .before .if1 in
+    let at-if1 = c .before .before .before .before .before .before .before .if1 in
     let at-node-word = c .before .before .before .before .before .node-word in
     let at-if2 = c .before .before .before .before .if2 in
     let at-if3 = c .before .before .before .if3 in
@@ -424,10 +430,10 @@ advance-returns-5 measure c =
     let left = s₀ .args .left in
     let i = s₀ .args .i in
     let b = s₀ .args .flag in
-    let env = s₀ .args .env in
+    let env = env-of (s₀ .args .m) (s₀ .args .pos .now) (s₀ .args .byte .now) in
     let s = s₀ .args .s in
     let t = s₀ .args .t in
-    let at-if1 = c .before .before .before .before .before .before .before .before .before .if1 in
+    let at-if1 = c .before .before .before .before .before .before .before .before .before .before .if1 in
     let at-node-word = c .before .before .before .before .before .before .before .before .node-word in
     let at-if2 = c .before .before .before .before .before .before .before .if2 in
     let at-if3 = c .before .before .before .before .before .before .if3 in
@@ -449,64 +455,64 @@ advance-node-word-requires-6 t c κs = search needs
 
 advance-flag-at-requires-2 : (t : ℕ) → advance-lts.Need-flag-at-requires-2 (advance-claims t) (advance-at t) advance.Post
 advance-flag-at-requires-2 measure c κs =
-    let s₀ = c .before .before .before .before .before .before .before .before .before .before .before in
+    let s₀ = c .before .before .before .before .before .before .before .before .before .before .before .before .before in
     let nodes = s₀ .args .nodes .now in
     let run = s₀ .args .run .now in
     let left = s₀ .args .left in
     let i = s₀ .args .i in
-    let env = s₀ .args .env in
+    let env = env-of (s₀ .args .m) (s₀ .args .pos .now) (s₀ .args .byte .now) in
     let t = s₀ .args .t in
-    let at-if1 = c .before .before .before .before .before .before .before .if1 in
-    let at-node-word = c .before .before .before .before .before .before .node-word in
-    let at-if2 = c .before .before .before .before .before .if2 in
-    let at-if3 = c .before .before .before .before .if3 in
-    let at-if4 = c .before .before .before .if4 in
-    let at-if5 = c .before .before .if5 in
-    let at-node-word5 = c .before .node-word5 in
+    let at-if1 = c .before .before .before .before .before .before .before .before .before .before .if1 in
+    let at-node-word = c .before .before .before .before .before .before .before .before .node-word in
+    let at-if2 = c .before .before .before .before .before .before .before .if2 in
+    let at-if3 = c .before .before .before .before .before .before .if3 in
+    let at-if4 = c .before .before .before .before .before .if4 in
+    let at-if5 = c .before .before .before .before .if5 in
+    let at-node-word5 = c .before .before .node-word5 in
     let is = is-flag nodes i left (at-if1 .left) (λ x. at-if2 .left (at-node-word .ensures ∙ x)) (λ x. at-if3 .left (at-node-word .ensures ∙ x)) (λ x. at-if4 .left (at-node-word .ensures ∙ x)) (λ x. at-if5 .left (at-node-word .ensures ∙ x)) in
     let fit = subst (λ (G : Tree). Fit G env t (length run)) is (s₀ .pre .1) in
     omega (arith, fit-flag fit, s₀ .pre .1 .depth, at-node-word5 .ensures)
 
 advance-returns-6 : (t : ℕ) → advance-lts.Need-returns-6 (advance-claims t) (advance-at t) advance.Post
 advance-returns-6 measure c =
-    let s₀ = c .before .before .before .before .before .before .before .before .before .before .before .before in
+    let s₀ = c .before .before .before .before .before .before .before .before .before .before .before .before .before .before in
     let nodes = s₀ .args .nodes .now in
     let run = s₀ .args .run .now in
     let hist = s₀ .args .history .now in
     let left = s₀ .args .left in
     let i = s₀ .args .i in
     let b = s₀ .args .flag in
-    let env = s₀ .args .env in
+    let env = env-of (s₀ .args .m) (s₀ .args .pos .now) (s₀ .args .byte .now) in
     let s = s₀ .args .s in
     let t = s₀ .args .t in
-    let at-if1 = c .before .before .before .before .before .before .before .before .if1 in
-    let at-node-word = c .before .before .before .before .before .before .before .node-word in
-    let at-if2 = c .before .before .before .before .before .before .if2 in
-    let at-if3 = c .before .before .before .before .before .if3 in
-    let at-if4 = c .before .before .before .before .if4 in
-    let at-if5 = c .before .before .before .if5 in
-    let at-node-word5 = c .before .before .node-word5 in
+    let at-if1 = c .before .before .before .before .before .before .before .before .before .before .before .if1 in
+    let at-node-word = c .before .before .before .before .before .before .before .before .before .node-word in
+    let at-if2 = c .before .before .before .before .before .before .before .before .if2 in
+    let at-if3 = c .before .before .before .before .before .before .before .if3 in
+    let at-if4 = c .before .before .before .before .before .before .if4 in
+    let at-if5 = c .before .before .before .before .before .if5 in
+    let at-node-word5 = c .before .before .before .node-word5 in
     let at-node-word6 = c .before .node-word6 in
     let at-flag-at2 = c .flag-at2 in
     let is = is-flag nodes i left (at-if1 .left) (λ x. at-if2 .left (at-node-word .ensures ∙ x)) (λ x. at-if3 .left (at-node-word .ensures ∙ x)) (λ x. at-if4 .left (at-node-word .ensures ∙ x)) (λ x. at-if5 .left (at-node-word .ensures ∙ x)) in
     let fit = subst (λ (G : Tree). Fit G env t (length run)) is (s₀ .pre .1) in
     subst (λ (G : Tree). Advanced G hist b env s t run (at-flag-at2 .result) run) (sym is)
     (flag-of (getD nodes (i + 1) 0) (getD nodes (i + 2) 0) (at-flag-at2 .result) (fit-flag fit)
-    (at-flag-at2 .ensures ∙ ap (λ (n : ℕ). flagged env n (at-node-word6 .result) s) (at-node-word5 .ensures) ∙ ap (λ (n : ℕ). flagged env (getD nodes (i + 1) 0) n s) (at-node-word6 .ensures)))
+    (at-flag-at2 .ensures ∙ ap (λ (n : ℕ). flagged (s₀ .args .byte .now) n (at-node-word6 .result) s) (at-node-word5 .ensures) ∙ ap (λ (n : ℕ). flagged (s₀ .args .byte .now) (getD nodes (i + 1) 0) n s) (at-node-word6 .ensures)))
 
-advance-beside-add-m : (t : ℕ) → advance-beside-lts.Need-add-m (advance-beside-claims t) (advance-beside-at t) advance-beside.Post
-advance-beside-add-m measure c =
-    let s₀ = c .before .before .before in
+advance-beside-add-mid : (t : ℕ) → advance-beside-lts.Need-add-mid (advance-beside-claims t) (advance-beside-at t) advance-beside.Post
+advance-beside-add-mid measure c =
+    let s₀ = c .before .before in
     omega (arith, fit-left (s₀ .pre .1) .end, s₀ .good .1 .1 .1 .1 .1 .0)
 
 advance-beside-advance-part-requires : (t : ℕ) → advance-beside-lts.Need-advance-part-requires (advance-beside-claims t) (advance-beside-at t) advance-beside.Post
 advance-beside-advance-part-requires measure c κs =
-    let s₀ = c .before .before .before .before in
+    let s₀ = c .before .before .before in
     (omega (arith, s₀ .pre .0), fit-left (s₀ .pre .1))
 
 advance-beside-advance-part-requires-2 : (t : ℕ) → advance-beside-lts.Need-advance-part-requires-2 (advance-beside-claims t) (advance-beside-at t) advance-beside.Post
 advance-beside-advance-part-requires-2 measure c κs =
-    let s₀ = c .before .before .before .before .before .before .before .before in
+    let s₀ = c .before .before .before .before .before .before .before in
     let at-advance-part = c .before .before .before .advance-part in
     (omega (arith, s₀ .pre .0), fit-right (length (at-advance-part .last .1 .1 .1 .0)) (at-advance-part .kept .1 .1 .1 .0) (s₀ .pre .1))
 
@@ -518,7 +524,7 @@ advance-beside-same-length t c = search needs
 
 advance-beside-returns : (t : ℕ) → advance-beside-lts.Need-returns (advance-beside-claims t) (advance-beside-at t) advance-beside.Post
 advance-beside-returns measure c =
-    let s₀ = c .before .before .before .before .before .before .before .before .before .before .before .before in
+    let s₀ = c .before .before .before .before .before .before .before .before .before .before .before in
     let at-advance-part = c .before .before .before .before .before .before .before .advance-part in
     let at-advance-part2 = c .before .before .before .advance-part2 in
     let at-both = c .both in
@@ -529,8 +535,8 @@ advance-part-own-tick-requires t c κs = search needs
 
 advance-part-load-outcome-requires : (t : ℕ) → advance-part-lts.Need-load-outcome-requires (advance-part-claims t) (advance-part-at t) advance-part.Post
 advance-part-load-outcome-requires measure c κs =
-    let s₀ = c .before .before .before .before .before .before in
-    let env = s₀ .args .env in
+    let s₀ = c .before .before .before .before .before in
+    let env = env-of (s₀ .args .m) (s₀ .args .pos .now) (s₀ .args .byte .now) in
     let at-own-tick = c .before .before .own-tick in
     let h : at-own-tick .result ≡ own-tick (places env) = at-own-tick .ensures ∙ tick-is env (s₀ .pre .1 .fit .some) in
     (omega (arith, s₀ .pre .1 .after-cell, s₀ .pre .1 .start, s₀ .pre .1 .end), s₀ .pre .1 .cell, omega (arith, s₀ .pre .1 .fit .low, fit-come (s₀ .pre .1 .fit)))
@@ -543,14 +549,14 @@ advance-part-same-length t c = search needs
 
 advance-part-returns : (t : ℕ) → advance-part-lts.Need-returns (advance-part-claims t) (advance-part-at t) advance-part.Post
 advance-part-returns measure c =
-    let s₀ = c .before .before .before .before .before .before .before .before .before in
+    let s₀ = c .before .before .before .before .before .before .before .before in
     let nodes = s₀ .args .nodes .now in
     let run = s₀ .args .run .now in
     let hist = s₀ .args .history .now in
     let left = s₀ .args .left in
     let i = s₀ .args .i in
     let b = s₀ .args .flag in
-    let env = s₀ .args .env in
+    let env = env-of (s₀ .args .m) (s₀ .args .pos .now) (s₀ .args .byte .now) in
     let s = s₀ .args .s in
     let t = s₀ .args .t in
     let k = s₀ .args .k in
@@ -579,12 +585,12 @@ advance-part-part-advance-end t c = search needs
 
 advance-part-advance-requires : (t : ℕ) → advance-part-lts.Need-advance-requires (advance-part-claims t) (advance-part-at t) advance-part.Post
 advance-part-advance-requires measure c κs =
-    let s₀ = c .before .before .before .before .before .before in
+    let s₀ = c .before .before .before .before .before in
     let nodes = s₀ .args .nodes .now in
     let run = s₀ .args .run .now in
     let left = s₀ .args .left in
     let i = s₀ .args .i in
-    let env = s₀ .args .env in
+    let env = env-of (s₀ .args .m) (s₀ .args .pos .now) (s₀ .args .byte .now) in
     let t = s₀ .args .t in
     let a = s₀ .args .a in
     let z = s₀ .args .z in
@@ -598,14 +604,14 @@ advance-part-same-length-2 t c = search needs
 
 advance-part-returns-2 : (t : ℕ) → advance-part-lts.Need-returns-2 (advance-part-claims t) (advance-part-at t) advance-part.Post
 advance-part-returns-2 measure c =
-    let s₀ = c .before .before .before .before .before .before .before .before .before .before .before .before .before in
+    let s₀ = c .before .before .before .before .before .before .before .before .before .before .before .before in
     let nodes = s₀ .args .nodes .now in
     let run = s₀ .args .run .now in
     let hist = s₀ .args .history .now in
     let left = s₀ .args .left in
     let i = s₀ .args .i in
     let b = s₀ .args .flag in
-    let env = s₀ .args .env in
+    let env = env-of (s₀ .args .m) (s₀ .args .pos .now) (s₀ .args .byte .now) in
     let s = s₀ .args .s in
     let t = s₀ .args .t in
     let k = s₀ .args .k in
@@ -633,7 +639,7 @@ advance-position-slice-write-slot t c = search needs
 
 advance-position-slice-read-c : (t : ℕ) → advance-position-lts.Need-slice-read-c (advance-position-claims t) (advance-position-at t) advance-position.Post
 advance-position-slice-read-c measure c =
-    let s₀ = c .before .before .before .before .before .before in
+    let s₀ = c .before .before .before .before .before in
     let slot = s₀ .args .slot .now in
     let at-if1 = c .before .if1 in
     let l : length (at-if1 .slot) ≡ length slot = ⊎-elim (λ x. ap length (x .3) ∙ length-set slot 1 (x .2 .result)) (λ x. ap length (x .1)) (at-if1 .came) in omega (arith, s₀ .pre .1 .room)
@@ -641,58 +647,65 @@ advance-position-slice-read-c measure c =
 advance-position-cast-c : (t : ℕ) → advance-position-lts.Need-cast-c (advance-position-claims t) (advance-position-at t) advance-position.Post
 advance-position-cast-c t c = search needs
 
-advance-position-enter-requires : (t : ℕ) → advance-position-lts.Need-enter-requires (advance-position-claims t) (advance-position-at t) advance-position.Post
-advance-position-enter-requires t c κs = search needs
+advance-position-mul-places : (t : ℕ) → advance-position-lts.Need-mul-places (advance-position-claims t) (advance-position-at t) advance-position.Post
+advance-position-mul-places t c = search needs
+
+advance-position-array-write-places : (t : ℕ) → advance-position-lts.Need-array-write-places (advance-position-claims t) (advance-position-at t) advance-position.Post
+advance-position-array-write-places t c = search needs
+
+advance-position-array-write-bytes : (t : ℕ) → advance-position-lts.Need-array-write-bytes (advance-position-claims t) (advance-position-at t) advance-position.Post
+advance-position-array-write-bytes t c = search needs
+
+advance-position-add-advance-part : (t : ℕ) → advance-position-lts.Need-add-advance-part (advance-position-claims t) (advance-position-at t) advance-position.Post
+advance-position-add-advance-part t c = search needs
 
 advance-position-advance-part-requires : (t : ℕ) → advance-position-lts.Need-advance-part-requires (advance-position-claims t) (advance-position-at t) advance-position.Post
 advance-position-advance-part-requires measure c κs =
-    let s₀ = c .before .before .before .before .before .before .before .before in
+    let s₀ = c .before .before .before .before .before .before .before .before .before .before in
     let nodes = s₀ .args .nodes .now in
     let slot = s₀ .args .slot .now in
     let left = s₀ .args .left in
     let i = s₀ .args .i in
-    let env = s₀ .args .env in
+    let env = env-of (s₀ .args .m) (s₀ .args .pos .now) (s₀ .args .byte .now) in
     let t = s₀ .args .t in
     let q = s₀ .args .q in
-    let at-if1 = c .before .before .before .if1 in
-    let at-enter = c .before .enter in (
+    let at-if1 = c .before .before .before .before .before .before .if1 in (
       omega (arith, s₀ .pre .0),
-      fit-entered (tree-at left nodes i) env (at-enter .result) t q (getD (at-if1 .slot) 1 0 % 256) (length slot) (length (at-if1 .slot)) (s₀ .pre .1) (at-enter .ensures)
+      fit-entered (tree-at left nodes i) env t q (getD (at-if1 .slot) 1 0 % 256) (length slot) (length (at-if1 .slot)) (s₀ .pre .1)
           (⊎-elim (λ x. ap length (x .3) ∙ length-set slot 1 (x .2 .result)) (λ x. ap length (x .1)) (at-if1 .came)),
     )
 
 advance-position-same-length : (t : ℕ) → advance-position-lts.Need-same-length (advance-position-claims t) (advance-position-at t) advance-position.Post
 advance-position-same-length measure c =
-    let s₀ = c .before .before .before .before .before .before .before .before .before .before .before in
+    let s₀ = c .before .before .before .before .before .before .before .before .before .before .before .before .before in
     let slot = s₀ .args .slot .now in
-    let at-if1 = c .before .before .before .before .before .before .if1 in
+    let at-if1 = c .before .before .before .before .before .before .before .before .before .if1 in
     let at-advance-part = c .before .before .advance-part in
     at-advance-part .kept .1 .1 .1 .0 ∙ (⊎-elim (λ x. ap length (x .3) ∙ length-set slot 1 (x .2 .result)) (λ x. ap length (x .1)) (at-if1 .came))
 
 advance-position-returns : (t : ℕ) → advance-position-lts.Need-returns (advance-position-claims t) (advance-position-at t) advance-position.Post
 advance-position-returns measure c =
-    let s₀ = c .before .before .before .before .before .before .before .before .before .before .before in
+    let s₀ = c .before .before .before .before .before .before .before .before .before .before .before .before .before in
     let nodes = s₀ .args .nodes .now in
     let slot = s₀ .args .slot .now in
     let hist = s₀ .args .history .now in
     let left = s₀ .args .left in
     let i = s₀ .args .i in
     let b = s₀ .args .flag in
-    let env = s₀ .args .env in
+    let env = env-of (s₀ .args .m) (s₀ .args .pos .now) (s₀ .args .byte .now) in
     let s = s₀ .args .s in
     let t = s₀ .args .t in
     let q = s₀ .args .q in
-    let at-later = c .before .before .before .before .before .before .before .later in
-    let at-if1 = c .before .before .before .before .before .before .if1 in
-    let at-enter = c .before .before .before .before .enter in
+    let at-later = c .before .before .before .before .before .before .before .before .before .before .later in
+    let at-if1 = c .before .before .before .before .before .before .before .before .before .if1 in
     let at-advance-part = c .before .before .advance-part in
     let l : length (at-if1 .slot) ≡ length slot = ⊎-elim (λ x. ap length (x .3) ∙ length-set slot 1 (x .2 .result)) (λ x. ap length (x .1)) (at-if1 .came) in
-    position-of (tree-at left nodes i) hist b env s t q (s₀ .pre .1 .depth) (s₀ .pre .1 .five-places) (s₀ .pre .1 .five-bytes) (s₀ .pre .1 .come) (at-later .result) (at-enter .result) (at-advance-part .result) slot (at-if1 .slot) (at-advance-part .last .1 .1 .1 .0) (at-later .ensures)
+    position-of (tree-at left nodes i) hist b env s t q (s₀ .pre .1 .depth) (s₀ .pre .1 .five-places) (s₀ .pre .1 .five-bytes) (s₀ .pre .1 .come) (at-later .result) (at-advance-part .result) slot (at-if1 .slot) (at-advance-part .last .1 .1 .1 .0) (at-later .ensures)
     (omega (arith, s₀ .pre .1 .room)) (omega (arith, s₀ .pre .1 .room))
-    (⊎-elim (λ x. inl (x .2 .result, x .0 .taken, x .3, x .2 .ensures .0 ∙ x .1 .ensures, x .2 .ensures .1)) (λ x. inr (x .0 .left, x .1)) (at-if1 .came)) (at-enter .ensures) (at-advance-part .ensures)
+    (⊎-elim (λ x. inl (x .2 .result, x .0 .taken, x .3, x .2 .ensures .0 ∙ x .1 .ensures, x .2 .ensures .1)) (λ x. inr (x .0 .left, x .1)) (at-if1 .came)) (at-advance-part .ensures)
 
-advance-range-node-word-requires : (t : ℕ) → advance-range-lts.Need-node-word-requires (advance-range-claims t) (advance-range-at t) advance-range.Post
-advance-range-node-word-requires t c κs = search needs
+advance-range-slot-words-requires : (t : ℕ) → advance-range-lts.Need-slot-words-requires (advance-range-claims t) (advance-range-at t) advance-range.Post
+advance-range-slot-words-requires t c κs = search needs
 
 advance-range-cast-z : (t : ℕ) → advance-range-lts.Need-cast-z (advance-range-claims t) (advance-range-at t) advance-range.Post
 advance-range-cast-z t c = search needs
@@ -709,7 +722,7 @@ advance-range-own-tick-requires t c κs = search needs
 advance-range-load-head-requires : (t : ℕ) → advance-range-lts.Need-load-head-requires (advance-range-claims t) (advance-range-at t) advance-range.Post
 advance-range-load-head-requires measure c κs =
     let s₀ = c .before .before .before .before .before .before .before .before .before in
-    let env = s₀ .args .env in
+    let env = env-of (s₀ .args .m) (s₀ .args .pos .now) (s₀ .args .byte .now) in
     let at-own-tick = c .before .own-tick in
     let h : at-own-tick .result ≡ own-tick (places env) = at-own-tick .ensures ∙ tick-is env (s₀ .pre .1 .1 .some) in
     (fit-head (s₀ .pre .1 .1), omega (arith, s₀ .pre .1 .1 .low, fit-come (s₀ .pre .1 .1)))
@@ -717,7 +730,8 @@ advance-range-load-head-requires measure c κs =
 advance-range-add-walk-positions : (t : ℕ) → advance-range-lts.Need-add-walk-positions (advance-range-claims t) (advance-range-at t) advance-range.Post
 advance-range-add-walk-positions measure c =
     let s₀ = c .before .before .before .before .before .before .before .before .before .before in
-    omega (arith, s₀ .pre .1 .0, s₀ .good .0)
+    let at-slot-words-arg = c .before .before .before .before .before .before .before .slot-words-arg in
+    omega (arith, s₀ .pre .1 .0, at-slot-words-arg .given)
 
 advance-range-sub-walk-positions : (t : ℕ) → advance-range-lts.Need-sub-walk-positions (advance-range-claims t) (advance-range-at t) advance-range.Post
 advance-range-sub-walk-positions measure c =
@@ -739,18 +753,18 @@ advance-range-walk-positions-requires measure c κs =
     let nodes = s₀ .args .nodes .now in
     let run = s₀ .args .run .now in
     let i = s₀ .args .i in
-    let env = s₀ .args .env in
+    let env = env-of (s₀ .args .m) (s₀ .args .pos .now) (s₀ .args .byte .now) in
     let s = s₀ .args .s in
     let t = s₀ .args .t in
-    let at-node-word = c .before .before .before .before .before .before .before .node-word in
+    let at-slot-words = c .before .before .before .before .before .before .before .slot-words in
     let at-range-at = c .before .before .before .before .before .range-at in
     let at-plan-up-to = c .before .before .before .before .plan-up-to in
     let at-own-tick = c .before .before .before .own-tick in
     let at-load-head = c .before .load-head in
     let plan = plan-here (bound-at nodes (i + 1)) (bound-at nodes (i + 4)) env t s (at-plan-up-to .result .first) (at-plan-up-to .result .n) (at-plan-up-to .result .end) (positions-of (at-range-at .result)) (s₀ .pre .1 .1 .low) (s₀ .pre .1 .1 .past) (s₀ .pre .1 .1 .unbound) (at-range-at .ensures) (at-plan-up-to .ensures) in (
       omega (arith, s₀ .pre .0),
-      fit-walk (s₀ .pre .1 .1) s (at-plan-up-to .result .first) (at-load-head .result .leading) (at-plan-up-to .result .n) (at-node-word .result) (length (take (length run - 4) (drop 4 run))) (at-plan-up-to .result .end)
-          (subst (λ (x : ℕ). x ≤ at-plan-up-to .result .n) (sym (at-load-head .ensures .0)) (leading-least (at-own-tick .result) s t (at-plan-up-to .result .n) (getD run 0 0) (getD run 2 0))) (at-node-word .ensures) (tail-length run) plan,
+      fit-walk (s₀ .pre .1 .1) s (at-plan-up-to .result .first) (at-load-head .result .leading) (at-plan-up-to .result .n) (at-slot-words .result) (length (take (length run - 4) (drop 4 run))) (at-plan-up-to .result .end)
+          (subst (λ (x : ℕ). x ≤ at-plan-up-to .result .n) (sym (at-load-head .ensures .0)) (leading-least (at-own-tick .result) s t (at-plan-up-to .result .n) (getD run 0 0) (getD run 2 0))) (at-slot-words .ensures .0) (tail-length run) plan,
     )
 
 advance-range-store-head-requires : (t : ℕ) → advance-range-lts.Need-store-head-requires (advance-range-claims t) (advance-range-at t) advance-range.Post
@@ -759,18 +773,18 @@ advance-range-store-head-requires measure c κs =
     let nodes = s₀ .args .nodes .now in
     let run = s₀ .args .run .now in
     let i = s₀ .args .i in
-    let env = s₀ .args .env in
+    let env = env-of (s₀ .args .m) (s₀ .args .pos .now) (s₀ .args .byte .now) in
     let s = s₀ .args .s in
     let t = s₀ .args .t in
-    let at-node-word = c .before .before .before .before .before .before .before .before .before .before .before .node-word in
+    let at-slot-words = c .before .before .before .before .before .before .before .before .before .before .before .slot-words in
     let at-range-at = c .before .before .before .before .before .before .before .before .before .range-at in
     let at-plan-up-to = c .before .before .before .before .before .before .before .before .plan-up-to in
     let at-own-tick = c .before .before .before .before .before .before .before .own-tick in
     let at-load-head = c .before .before .before .before .before .load-head in
     let at-walk-positions = c .before .before .before .walk-positions in
     let plan = plan-here (bound-at nodes (i + 1)) (bound-at nodes (i + 4)) env t s (at-plan-up-to .result .first) (at-plan-up-to .result .n) (at-plan-up-to .result .end) (positions-of (at-range-at .result)) (s₀ .pre .1 .1 .low) (s₀ .pre .1 .1 .past) (s₀ .pre .1 .1 .unbound) (at-range-at .ensures) (at-plan-up-to .ensures) in
-    fit-store (s₀ .pre .1 .1) s (at-plan-up-to .result .first) (at-load-head .result .leading) (at-plan-up-to .result .n) (at-node-word .result) (at-own-tick .result) (length (putMid 4 (length run - 4) run (at-walk-positions .last .1 .1 .1 .0))) (at-plan-up-to .result .end)
-    (subst (λ (x : ℕ). x ≤ at-plan-up-to .result .n) (sym (at-load-head .ensures .0)) (leading-least (at-own-tick .result) s t (at-plan-up-to .result .n) (getD run 0 0) (getD run 2 0))) (at-node-word .ensures) (at-own-tick .ensures ∙ tick-is env (s₀ .pre .1 .1 .some)) (same-len-mid 4 (length run - 4) run (at-walk-positions .last .1 .1 .1 .0) (at-walk-positions .kept .1 .1 .1 .0)) plan
+    fit-store (s₀ .pre .1 .1) s (at-plan-up-to .result .first) (at-load-head .result .leading) (at-plan-up-to .result .n) (at-slot-words .result) (at-own-tick .result) (length (putMid 4 (length run - 4) run (at-walk-positions .last .1 .1 .1 .0))) (at-plan-up-to .result .end)
+    (subst (λ (x : ℕ). x ≤ at-plan-up-to .result .n) (sym (at-load-head .ensures .0)) (leading-least (at-own-tick .result) s t (at-plan-up-to .result .n) (getD run 0 0) (getD run 2 0))) (at-slot-words .ensures .0) (at-own-tick .ensures ∙ tick-is env (s₀ .pre .1 .1 .some)) (same-len-mid 4 (length run - 4) run (at-walk-positions .last .1 .1 .1 .0) (at-walk-positions .kept .1 .1 .1 .0)) plan
 
 advance-range-both-requires : (t : ℕ) → advance-range-lts.Need-both-requires (advance-range-claims t) (advance-range-at t) advance-range.Post
 advance-range-both-requires t c κs = search needs
@@ -789,11 +803,10 @@ advance-range-returns measure c =
     let nodes = s₀ .args .nodes .now in
     let run = s₀ .args .run .now in
     let i = s₀ .args .i in
-    let env = s₀ .args .env in
+    let env = env-of (s₀ .args .m) (s₀ .args .pos .now) (s₀ .args .byte .now) in
     let s = s₀ .args .s in
     let t = s₀ .args .t in
-    let first-known = c .before .before .before .before .before .before .before .before .before .before .before .before .before .before .before .before .before .before .shared-slice-known in
-    let at-node-word = c .before .before .before .before .before .before .before .before .before .before .before .before .before .before .before .node-word in
+    let at-slot-words = c .before .before .before .before .before .before .before .before .before .before .before .before .before .before .before .slot-words in
     let at-range-at = c .before .before .before .before .before .before .before .before .before .before .before .before .before .range-at in
     let at-plan-up-to = c .before .before .before .before .before .before .before .before .before .before .before .before .plan-up-to in
     let at-own-tick = c .before .before .before .before .before .before .before .before .before .before .before .own-tick in
@@ -802,14 +815,14 @@ advance-range-returns measure c =
     let at-store-head = c .before .before .before .store-head in
     let at-both = c .both in
     let plan = plan-here (bound-at nodes (i + 1)) (bound-at nodes (i + 4)) env t s (at-plan-up-to .result .first) (at-plan-up-to .result .n) (at-plan-up-to .result .end) (positions-of (at-range-at .result)) (s₀ .pre .1 .1 .low) (s₀ .pre .1 .1 .past) (s₀ .pre .1 .1 .unbound) (at-range-at .ensures) (at-plan-up-to .ensures) in
-    range-of (at-plan-up-to .result .first) (at-plan-up-to .result .n) (at-load-head .result .leading) (at-load-head .result .latest) (at-own-tick .result) (at-node-word .result) (at-plan-up-to .result .end) (at-walk-positions .result) (at-both .result) (at-walk-positions .last .1 .1 .1 .0) (putMid 4 (length run - 4) run (at-walk-positions .last .1 .1 .1 .0)) (at-store-head .last .0)
-    (at-node-word .ensures) (fit-head (s₀ .pre .1 .1)) plan (at-own-tick .ensures ∙ tick-is env (s₀ .pre .1 .1 .some)) (omega (arith, fit-long (s₀ .pre .1 .1), s₀ .pre .1 .1 .some)) (s₀ .pre .1 .1 .near)
-    (omega (arith, fit-few (s₀ .pre .1 .1) s (at-plan-up-to .result .first) (at-plan-up-to .result .n) (at-plan-up-to .result .end) plan, first-known .given (i + 8)))
+    range-of (at-plan-up-to .result .first) (at-plan-up-to .result .n) (at-load-head .result .leading) (at-load-head .result .latest) (at-own-tick .result) (at-slot-words .result) (at-plan-up-to .result .end) (at-walk-positions .result) (at-both .result) (at-walk-positions .last .1 .1 .1 .0) (putMid 4 (length run - 4) run (at-walk-positions .last .1 .1 .1 .0)) (at-store-head .last .0)
+    (at-slot-words .ensures .0) (fit-head (s₀ .pre .1 .1)) plan (at-own-tick .ensures ∙ tick-is env (s₀ .pre .1 .1 .some)) (omega (arith, fit-long (s₀ .pre .1 .1), s₀ .pre .1 .1 .some)) (s₀ .pre .1 .1 .near)
+    (omega (arith, fit-few (s₀ .pre .1 .1) s (at-plan-up-to .result .first) (at-plan-up-to .result .n) (at-plan-up-to .result .end) plan, at-slot-words .ensures .1))
     (at-load-head .ensures .0) (at-load-head .ensures .1) (at-walk-positions .ensures) refl (at-store-head .ensures) (at-both .ensures)
 
 advance-then-advance-part-requires : (t : ℕ) → advance-then-lts.Need-advance-part-requires (advance-then-claims t) (advance-then-at t) advance-then.Post
 advance-then-advance-part-requires measure c κs =
-    let s₀ = c .before .before .before .before in
+    let s₀ = c .before .before .before in
     (omega (arith, s₀ .pre .0), fit-first (s₀ .pre .1))
 
 advance-then-enum-told : (t : ℕ) → advance-then-lts.Need-enum-told (advance-then-claims t) (advance-then-at t) advance-then.Post
@@ -826,13 +839,13 @@ advance-then-enum-told-3 t c = search needs
 
 advance-then-sub-advance : (t : ℕ) → advance-then-lts.Need-sub-advance (advance-then-claims t) (advance-then-at t) advance-then.Post
 advance-then-sub-advance measure c =
-    let s₀ = c .before .before .before .before .before .before .before .before .before .before .before .before in
+    let s₀ = c .before .before .before .before .before .before .before .before .before .before .before in
     let at-advance-part = c .before .before .before .before .before .before .before .advance-part in
     omega (arith, fit-first (s₀ .pre .1) .start, at-advance-part .kept .1 .1 .1 .0)
 
 advance-then-part-advance-start : (t : ℕ) → advance-then-lts.Need-part-advance-start (advance-then-claims t) (advance-then-at t) advance-then.Post
 advance-then-part-advance-start measure c =
-    let s₀ = c .before .before .before .before .before .before .before .before .before .before .before .before in
+    let s₀ = c .before .before .before .before .before .before .before .before .before .before .before in
     let at-advance-part = c .before .before .before .before .before .before .before .advance-part in
     omega (arith, fit-first (s₀ .pre .1) .start, at-advance-part .kept .1 .1 .1 .0)
 
@@ -841,10 +854,10 @@ advance-then-part-advance-end t c = search needs
 
 advance-then-advance-requires : (t : ℕ) → advance-then-lts.Need-advance-requires (advance-then-claims t) (advance-then-at t) advance-then.Post
 advance-then-advance-requires measure c κs =
-    let s₀ = c .before .before .before .before .before .before .before .before .before .before .before .before .before in
+    let s₀ = c .before .before .before .before .before .before .before .before .before .before .before .before in
     let nodes = s₀ .args .nodes .now in
     let left = s₀ .args .left in
-    let env = s₀ .args .env in
+    let env = env-of (s₀ .args .m) (s₀ .args .pos .now) (s₀ .args .byte .now) in
     let t = s₀ .args .t in
     let g = s₀ .args .g in
     let at-advance-part = c .before .before .before .before .before .before .before .before .advance-part in
@@ -855,13 +868,13 @@ advance-then-same-length t c = search needs
 
 advance-then-returns : (t : ℕ) → advance-then-lts.Need-returns (advance-then-claims t) (advance-then-at t) advance-then.Post
 advance-then-returns measure c =
-    let s₀ = c .before .before .before .before .before .before .before .before .before in
+    let s₀ = c .before .before .before .before .before .before .before .before in
     let nodes = s₀ .args .nodes .now in
     let run = s₀ .args .run .now in
     let hist = s₀ .args .history .now in
     let left = s₀ .args .left in
     let b = s₀ .args .flag in
-    let env = s₀ .args .env in
+    let env = env-of (s₀ .args .m) (s₀ .args .pos .now) (s₀ .args .byte .now) in
     let s = s₀ .args .s in
     let t = s₀ .args .t in
     let f = s₀ .args .f in
@@ -875,13 +888,13 @@ advance-then-same-length-2 t c = search needs
 
 advance-then-returns-2 : (t : ℕ) → advance-then-lts.Need-returns-2 (advance-then-claims t) (advance-then-at t) advance-then.Post
 advance-then-returns-2 measure c =
-    let s₀ = c .before .before .before .before .before .before .before .before .before .before .before .before in
+    let s₀ = c .before .before .before .before .before .before .before .before .before .before .before in
     let nodes = s₀ .args .nodes .now in
     let run = s₀ .args .run .now in
     let hist = s₀ .args .history .now in
     let left = s₀ .args .left in
     let b = s₀ .args .flag in
-    let env = s₀ .args .env in
+    let env = env-of (s₀ .args .m) (s₀ .args .pos .now) (s₀ .args .byte .now) in
     let s = s₀ .args .s in
     let t = s₀ .args .t in
     let f = s₀ .args .f in
@@ -896,13 +909,13 @@ advance-then-same-length-3 t c = search needs
 
 advance-then-returns-3 : (t : ℕ) → advance-then-lts.Need-returns-3 (advance-then-claims t) (advance-then-at t) advance-then.Post
 advance-then-returns-3 measure c =
-    let s₀ = c .before .before .before .before .before .before .before .before .before .before .before .before .before .before .before .before in
+    let s₀ = c .before .before .before .before .before .before .before .before .before .before .before .before .before .before .before in
     let nodes = s₀ .args .nodes .now in
     let run = s₀ .args .run .now in
     let hist = s₀ .args .history .now in
     let left = s₀ .args .left in
     let b = s₀ .args .flag in
-    let env = s₀ .args .env in
+    let env = env-of (s₀ .args .m) (s₀ .args .pos .now) (s₀ .args .byte .now) in
     let s = s₀ .args .s in
     let t = s₀ .args .t in
     let f = s₀ .args .f in
@@ -915,15 +928,15 @@ advance-then-returns-3 measure c =
     (omega (arith, fit-first (s₀ .pre .1) .start, at-advance-part .kept .1 .1 .1 .0)) (tail-take (at-advance-part .last .1 .1 .1 .0)) (at-advance .ensures) refl
 
 abbrev walk-positions-Inv-loop : walk-positions-lts.InvT-loop
-walk-positions-Inv-loop nodes left i run₀ hist b env s t first leading n z acc₀ j₀ run acc j =
-    (j ≤ n) × ((leading ≤ j) × ((length run ≡ length run₀) × WalkedTo (tree-at left nodes i) hist b env s t first leading n acc₀ z run₀ j acc run))
+walk-positions-Inv-loop nodes left i run₀ hist b m pos byte s t first leading n z acc₀ j₀ run acc j =
+    (j ≤ n) × ((leading ≤ j) × ((length run ≡ length run₀) × WalkedTo (tree-at left nodes i) hist b (env-of m pos byte) s t first leading n acc₀ z run₀ j acc run))
 
 abbrev walk-positions-μ-loop : walk-positions-lts.MeasureT-loop
-walk-positions-μ-loop nodes left i run₀ hist b env s t first leading n z acc₀ j₀ run acc j = j
+walk-positions-μ-loop nodes left i run₀ hist b m pos byte s t first leading n z acc₀ j₀ run acc j = j
 
 walk-positions-loop-holds : (t : ℕ) → walk-positions-lts.Need-loop-holds (walk-positions-claims t) (walk-positions-at t) walk-positions.Post walk-positions-Inv-loop walk-positions-μ-loop
 walk-positions-loop-holds measure c =
-    let s₀ = c .before .before .before in
+    let s₀ = c .before .before in
     (omega arith, (s₀ .pre .1 .within, (refl, walk-begun)))
 
 walk-positions-sub-j : (t : ℕ) → walk-positions-lts.Need-sub-j (walk-positions-claims t) (walk-positions-at t) walk-positions.Post walk-positions-Inv-loop walk-positions-μ-loop
@@ -933,7 +946,7 @@ walk-positions-sub-j measure c =
 
 walk-positions-mul-at : (t : ℕ) → walk-positions-lts.Need-mul-at (walk-positions-claims t) (walk-positions-at t) walk-positions.Post walk-positions-Inv-loop walk-positions-μ-loop
 walk-positions-mul-at measure c =
-    let s₀ = c .before .before .before .before .before in
+    let s₀ = c .before .before .before .before in
     let z = s₀ .args .z in
     let n = s₀ .args .n in
     let at-loop = c .before .loop in
@@ -942,7 +955,7 @@ walk-positions-mul-at measure c =
 
 walk-positions-add-top : (t : ℕ) → walk-positions-lts.Need-add-top (walk-positions-claims t) (walk-positions-at t) walk-positions.Post walk-positions-Inv-loop walk-positions-μ-loop
 walk-positions-add-top measure c =
-    let s₀ = c .before .before .before .before .before in
+    let s₀ = c .before .before .before .before in
     let z = s₀ .args .z in
     let n = s₀ .args .n in
     let at-loop = c .before .loop in
@@ -951,7 +964,7 @@ walk-positions-add-top measure c =
 
 walk-positions-mul-advance-position : (t : ℕ) → walk-positions-lts.Need-mul-advance-position (walk-positions-claims t) (walk-positions-at t) walk-positions.Post walk-positions-Inv-loop walk-positions-μ-loop
 walk-positions-mul-advance-position measure c =
-    let s₀ = c .before .before .before .before .before in
+    let s₀ = c .before .before .before .before in
     let z = s₀ .args .z in
     let n = s₀ .args .n in
     let at-loop = c .before .loop in
@@ -960,7 +973,7 @@ walk-positions-mul-advance-position measure c =
 
 walk-positions-sub-advance-position : (t : ℕ) → walk-positions-lts.Need-sub-advance-position (walk-positions-claims t) (walk-positions-at t) walk-positions.Post walk-positions-Inv-loop walk-positions-μ-loop
 walk-positions-sub-advance-position measure c =
-    let s₀ = c .before .before .before .before .before in
+    let s₀ = c .before .before .before .before in
     let z = s₀ .args .z in
     let n = s₀ .args .n in
     let at-loop = c .before .loop in
@@ -970,7 +983,7 @@ walk-positions-sub-advance-position measure c =
 walk-positions-part-advance-position-start :
     (t : ℕ) → walk-positions-lts.Need-part-advance-position-start (walk-positions-claims t) (walk-positions-at t) walk-positions.Post walk-positions-Inv-loop walk-positions-μ-loop
 walk-positions-part-advance-position-start measure c =
-    let s₀ = c .before .before .before .before .before in
+    let s₀ = c .before .before .before .before in
     let z = s₀ .args .z in
     let n = s₀ .args .n in
     let at-loop = c .before .loop in
@@ -980,7 +993,7 @@ walk-positions-part-advance-position-start measure c =
 walk-positions-part-advance-position-end :
     (t : ℕ) → walk-positions-lts.Need-part-advance-position-end (walk-positions-claims t) (walk-positions-at t) walk-positions.Post walk-positions-Inv-loop walk-positions-μ-loop
 walk-positions-part-advance-position-end measure c =
-    let s₀ = c .before .before .before .before .before in
+    let s₀ = c .before .before .before .before in
     let z = s₀ .args .z in
     let n = s₀ .args .n in
     let at-loop = c .before .loop in
@@ -989,7 +1002,7 @@ walk-positions-part-advance-position-end measure c =
 
 walk-positions-add-advance-position : (t : ℕ) → walk-positions-lts.Need-add-advance-position (walk-positions-claims t) (walk-positions-at t) walk-positions.Post walk-positions-Inv-loop walk-positions-μ-loop
 walk-positions-add-advance-position measure c =
-    let s₀ = c .before .before .before .before .before .before in
+    let s₀ = c .before .before .before .before .before in
     let at-loop = c .before .before .loop in
     let at-loop-test = c .before .loop-test in
     let fit = s₀ .pre .1 .slots (at-loop .j - 1) (omega (arith, at-loop-test .taken, at-loop .inv .0)) in omega (arith, fit .come, fit .low)
@@ -997,11 +1010,11 @@ walk-positions-add-advance-position measure c =
 walk-positions-advance-position-requires :
     (t : ℕ) → walk-positions-lts.Need-advance-position-requires (walk-positions-claims t) (walk-positions-at t) walk-positions.Post walk-positions-Inv-loop walk-positions-μ-loop
 walk-positions-advance-position-requires measure c κs =
-    let s₀ = c .before .before .before .before .before .before in
+    let s₀ = c .before .before .before .before .before in
     let nodes = s₀ .args .nodes .now in
     let left = s₀ .args .left in
     let i = s₀ .args .i in
-    let env = s₀ .args .env in
+    let env = env-of (s₀ .args .m) (s₀ .args .pos .now) (s₀ .args .byte .now) in
     let t = s₀ .args .t in
     let z = s₀ .args .z in
     let first = s₀ .args .first in
@@ -1020,7 +1033,7 @@ walk-positions-loop-less measure c =
 
 walk-positions-loop-again : (t : ℕ) → walk-positions-lts.Need-loop-again (walk-positions-claims t) (walk-positions-at t) walk-positions.Post walk-positions-Inv-loop walk-positions-μ-loop
 walk-positions-loop-again measure c =
-    let s₀ = c .before .before .before .before .before .before .before .before .before .before in
+    let s₀ = c .before .before .before .before .before .before .before .before .before in
     let z = s₀ .args .z in
     let at-loop = c .before .before .before .before .before .before .loop in
     let at-loop-test = c .before .before .before .before .before .loop-test in
@@ -1097,7 +1110,7 @@ pub +advance+advance-beside+advance-part+advance-position+advance-range+advance-
     (λ t. advance-beside-lts.spec (advance-beside-claims t)
     (advance-beside-at t)
     advance-beside.Post
-    (advance-beside-add-m t)
+    (advance-beside-add-mid t)
     (advance-beside-advance-part-requires t)
     (advance-beside-advance-part-requires-2 t)
     (advance-beside-both-requires t)
@@ -1129,14 +1142,17 @@ pub +advance+advance-beside+advance-part+advance-position+advance-range+advance-
     (advance-position-slice-write-slot t)
     (advance-position-slice-read-c t)
     (advance-position-cast-c t)
-    (advance-position-enter-requires t)
+    (advance-position-mul-places t)
+    (advance-position-array-write-places t)
+    (advance-position-array-write-bytes t)
+    (advance-position-add-advance-part t)
     (advance-position-advance-part-requires t)
     (advance-position-same-length t)
     (advance-position-returns t))
     (λ t. advance-range-lts.spec (advance-range-claims t)
     (advance-range-at t)
     advance-range.Post
-    (advance-range-node-word-requires t)
+    (advance-range-slot-words-requires t)
     (advance-range-cast-z t)
     (advance-range-range-at-requires t)
     (advance-range-plan-up-to-requires t)

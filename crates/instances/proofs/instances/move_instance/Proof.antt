@@ -8,7 +8,7 @@ use Rattle.instances.proofs.instances.move_instance.Tie as tie
 
 advance-position-requires : tie.Need-advance-position-requires
 advance-position-requires c κs =
-    let s₀ = c .before .before .before .before in
+    let s₀ = c .before .before .before .before .before in
     slot-fit (tree-at (s₀ .args .left) (s₀ .args .nodes .now) 0) (s₀ .args .t) (s₀ .args .p) (length (s₀ .args .run .now)) (s₀ .pre)
 
 same-length : tie.Need-same-length
@@ -16,7 +16,7 @@ same-length c = search needs
 
 returns : tie.Need-returns
 returns c =
-    let s₀ = c .before .before .before .before .before .before .before in
+    let s₀ = c .before .before .before .before .before .before .before .before in
     let moved = c .before .before .advance-position in
     moved-of (tree-at (s₀ .args .left) (s₀ .args .nodes .now) 0) (s₀ .args .history .now) (s₀ .args .flag) (s₀ .args .t) (s₀ .args .p) _ _ (s₀ .args .run .now) (moved .last .1 .1 .1 .0) (moved .result) (moved .ensures)
 

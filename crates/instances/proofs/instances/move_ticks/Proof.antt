@@ -18,7 +18,7 @@ abbrev μ-loop : tie.MeasureT-loop
 
 loop-holds : tie.Need-loop-holds Inv-loop μ-loop
 loop-holds c =
-    let s₀ = c .before .before .before .before in
+    let s₀ = c .before .before .before in
     until-none (tree-at (s₀ .args .left) (s₀ .args .nodes .now) 0) (s₀ .args .n) (s₀ .args .c) (s₀ .args .history .now) (s₀ .args .flag) (s₀ .args .t) (s₀ .args .low) (s₀ .args .table .now) (s₀ .args .report .now) (s₀ .pre .1)
 
 rem-j : tie.Need-rem-j Inv-loop μ-loop
@@ -26,19 +26,19 @@ rem-j c = search needs
 
 mul-at : tie.Need-mul-at Inv-loop μ-loop
 mul-at c =
-    let s₀ = c .before .before .before .before .before .before in
+    let s₀ = c .before .before .before .before .before in
     let inside = slot-inside (s₀ .args .n) (s₀ .args .c) (c .before .loop .p) (length (s₀ .args .table .now)) (s₀ .pre .0 .some) (s₀ .pre .0 .table) in
     omega (arith, inside .1, s₀ .good .1 .1 .0)
 
 add-end : tie.Need-add-end Inv-loop μ-loop
 add-end c =
-    let s₀ = c .before .before .before .before .before .before in
+    let s₀ = c .before .before .before .before .before in
     let inside = slot-inside (s₀ .args .n) (s₀ .args .c) (c .before .loop .p) (length (s₀ .args .table .now)) (s₀ .pre .0 .some) (s₀ .pre .0 .table) in
     omega (arith, inside .1, s₀ .good .1 .1 .0)
 
 mul-move-instance : tie.Need-mul-move-instance Inv-loop μ-loop
 mul-move-instance c =
-    let s₀ = c .before .before .before .before .before .before in
+    let s₀ = c .before .before .before .before .before in
     let inside = slot-inside (s₀ .args .n) (s₀ .args .c) (c .before .loop .p) (length (s₀ .args .table .now)) (s₀ .pre .0 .some) (s₀ .pre .0 .table) in
     omega (arith, inside .1, s₀ .good .1 .1 .0)
 
@@ -50,13 +50,13 @@ part-move-instance-start c = search needs
 
 part-move-instance-end : tie.Need-part-move-instance-end Inv-loop μ-loop
 part-move-instance-end c =
-    let s₀ = c .before .before .before .before .before .before in
+    let s₀ = c .before .before .before .before .before in
     let inside = slot-inside (s₀ .args .n) (s₀ .args .c) (c .before .loop .p) (length (s₀ .args .table .now)) (s₀ .pre .0 .some) (s₀ .pre .0 .table) in
     omega (arith, inside .1, c .before .loop .inv .table-length)
 
 move-instance-requires : tie.Need-move-instance-requires Inv-loop μ-loop
 move-instance-requires c κs =
-    let s₀ = c .before .before .before .before .before .before .before in
+    let s₀ = c .before .before .before .before .before .before in
     let now = c .before .before .loop in
     let fits = s₀ .pre .0 in
     let long = slot-length-at (s₀ .args .n) (s₀ .args .c) (now .p) (now .table) (fits .some) (omega (arith, now .inv .table-length, fits .table)) in
@@ -69,12 +69,12 @@ move-instance-requires c κs =
 
 cast-report-if-false : tie.Need-cast-report-if-false Inv-loop μ-loop
 cast-report-if-false c =
-    let s₀ = c .before .before .before .before .before .before .before .before .before .before .before in
+    let s₀ = c .before .before .before .before .before .before .before .before .before .before in
     omega (arith, s₀ .pre .0 .low, c .before .before .before .before .before .loop-test .taken)
 
 report-if-false-requires : tie.Need-report-if-false-requires Inv-loop μ-loop
 report-if-false-requires c κs =
-    let s₀ = c .before .before .before .before .before .before .before .before .before .before .before in
+    let s₀ = c .before .before .before .before .before .before .before .before .before .before in
     let now = c .before .before .before .before .before .before .loop in
     omega (arith, s₀ .pre .0 .report, now .inv .few, now .inv .report-length, c .before .before .before .before .before .loop-test .taken, s₀ .pre .1)
 
@@ -83,13 +83,13 @@ one-if-open-requires c κs = search needs
 
 add-live : tie.Need-add-live Inv-loop μ-loop
 add-live c =
-    let s₀ = c .before .before .before .before .before .before .before .before .before .before .before .before .before .before .before in
+    let s₀ = c .before .before .before .before .before .before .before .before .before .before .before .before .before .before in
     let now = c .before .before .before .before .before .before .before .before .before .before .loop in
     omega (arith, now .inv .few-live, now .inv .to-now, s₀ .pre .0 .low, c .one-if-open .ensures .1)
 
 add-p : tie.Need-add-p Inv-loop μ-loop
 add-p c =
-    let s₀ = c .before .before .before .before .before .before .before .before .before .before .before .before .before .before .before in
+    let s₀ = c .before .before .before .before .before .before .before .before .before .before .before .before .before .before in
     omega (arith, s₀ .pre .0 .low, c .before .before .before .before .before .before .before .before .before .loop-test .taken)
 
 loop-less : tie.Need-loop-less Inv-loop μ-loop
@@ -97,7 +97,7 @@ loop-less c = omega (arith, c .before .before .before .before .before .before .b
 
 loop-again : tie.Need-loop-again Inv-loop μ-loop
 loop-again c =
-    let s₀ = c .before .before .before .before .before .before .before .before .before .before .before .before .before .before .before in
+    let s₀ = c .before .before .before .before .before .before .before .before .before .before .before .before .before .before in
     let now = c .before .before .before .before .before .before .before .before .before .before .loop in
     let moved = c .before .before .before .before .before .before .before .move-instance in
     let wrote = c .before .before .before .report-if-false in
@@ -114,7 +114,7 @@ same-length-2 c = c .before .loop .inv .report-length
 
 returns : tie.Need-returns Inv-loop μ-loop
 returns c =
-    let s₀ = c .before .before .before .before .before .before in
+    let s₀ = c .before .before .before .before .before in
     let now = c .before .loop in
     until-all (tree-at (s₀ .args .left) (s₀ .args .nodes .now) 0) (s₀ .args .n) (s₀ .args .c) (s₀ .args .history .now) (s₀ .args .flag) (s₀ .args .t) (s₀ .args .low) (s₀ .args .table .now) (s₀ .args .report .now)
     (s₀ .pre .1) (s₀ .pre .0 .some) (s₀ .pre .0 .table) (s₀ .pre .0 .report)

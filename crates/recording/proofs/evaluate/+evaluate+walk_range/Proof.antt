@@ -282,14 +282,14 @@ walk-range-plan-up-to-requires t c κs = search needs
 
 walk-range-alike-requires : (t : ℕ) → walk-range-lts.Need-alike-requires (walk-range-claims t) (walk-range-at t) walk-range.Post walk-range-Inv-loop walk-range-μ-loop
 walk-range-alike-requires t c κs =
-    let p = c .before .before .before .before .before .before .before .pre .1 in
-    (omega (arith, p .few), (omega (arith, p .near), omega (arith, c .before .before .before .if1 .left)))
+    let p = c .before .before .before .before .before .before .before .before .pre .1 in
+    (omega (arith, p .few), (omega (arith, p .near), omega (arith, c .before .before .before .before .if1 .left)))
 
 walk-range-loop-holds : (t : ℕ) → walk-range-lts.Need-loop-holds (walk-range-claims t) (walk-range-at t) walk-range.Post walk-range-Inv-loop walk-range-μ-loop
 walk-range-loop-holds t c =
-    let s = c .before .before .before .before .before .before .before .before in
+    let s = c .before .before .before .before .before .before .before .before .before in
     let p = plan-here (s .args .left) (s .args .nodes .now) (s .args .i) (s .args .recording .now) (s .args .t) (s .args .env) (s .args .s) (s .pre .1) (c .before .before .range-at .ensures) (c .before .plan-up-to .ensures) in
-    (p .few, by-forall (s .args .left) (s .args .nodes .now) (s .args .i) (s .args .recording .now) (s .args .t) (s .args .env) (s .args .s) (omega (arith, c .before .before .before .before .if1 .left)) p)
+    (p .few, by-forall (s .args .left) (s .args .nodes .now) (s .args .i) (s .args .recording .now) (s .args .t) (s .args .env) (s .args .s) (omega (arith, c .before .before .before .before .before .if1 .left)) p)
 
 -- ---- a turn of the walk
 
@@ -298,14 +298,14 @@ Turn t = walk-range-lts.In-loop (walk-range-claims t) (walk-range-at t) walk-ran
 
 module _ (t : ℕ) (l : Turn t) where
   abbrev begun : walk-range-lts.Start (walk-range-claims t) (walk-range-at t) walk-range.Post walk-range-Inv-loop walk-range-μ-loop
-  begun = l .before .before .before .before .before .before .before .before .before .before
+  begun = l .before .before .before .before .before .before .before .before .before .before .before
 
   -- the outcome of the body at each position
   abbrev bodies : ℕ → Outcome
   bodies = body-at (formula-in (begun .args .left) (begun .args .nodes .now) (begun .args .env .nested + 1) (begun .args .i + 12)) (begun .args .recording .now) (begun .args .t) (places (begun .args .env)) (begun .args .s)
 
   shallow : begun .args .env .nested < 4
-  shallow = omega (arith, l .before .before .before .before .before .before .if1 .left)
+  shallow = omega (arith, l .before .before .before .before .before .before .before .if1 .left)
 
   not-above : l .before .loop .q ≤ begun .args .t
   not-above = omega (arith, l .before .loop .inv .0, l .loop-test .taken)
@@ -332,11 +332,11 @@ walk-range-settled-requires t c κs = search needs
 walk-range-returns-2 : (t : ℕ) → walk-range-lts.Need-returns-2 (walk-range-claims t) (walk-range-at t) walk-range.Post walk-range-Inv-loop walk-range-μ-loop
 walk-range-returns-2 t c =
     let l = c .before .before .before .before .loop in
-    let s = c .before .before .before .before .before .before .before .before .before .before .before .before .before in
+    let s = c .before .before .before .before .before .before .before .before .before .before .before .before .before .before in
     sym (l .inv .1 ∙ body-settled (formula-in (s .args .left) (s .args .nodes .now) (s .args .env .nested + 1) (s .args .i + 12)) (s .args .recording .now) (s .args .t) (places (s .args .env)) (s .args .s) (l .n) (l .q) (l .acc) (c .before .before .later .ensures) (c .before .settled .ensures) (c .if2 .taken))
 
 walk-range-add-evaluate : (t : ℕ) → walk-range-lts.Need-add-evaluate (walk-range-claims t) (walk-range-at t) walk-range.Post walk-range-Inv-loop walk-range-μ-loop
-walk-range-add-evaluate t c = omega (arith, c .before .before .before .before .before .before .before .before .before .before .before .before .before .pre .1 .near)
+walk-range-add-evaluate t c = omega (arith, c .before .before .before .before .before .before .before .before .before .before .before .before .before .before .pre .1 .near)
 
 walk-range-enter-requires : (t : ℕ) → walk-range-lts.Need-enter-requires (walk-range-claims t) (walk-range-at t) walk-range.Post walk-range-Inv-loop walk-range-μ-loop
 walk-range-enter-requires t c κs = shallow t (c .before .before .before)
@@ -393,7 +393,7 @@ walk-range-loop-again t c =
 walk-range-returns-4 : (t : ℕ) → walk-range-lts.Need-returns-4 (walk-range-claims t) (walk-range-at t) walk-range.Post walk-range-Inv-loop walk-range-μ-loop
 walk-range-returns-4 t c =
     let l = c .before .loop in
-    let s = c .before .before .before .before .before .before .before .before .before .before in
+    let s = c .before .before .before .before .before .before .before .before .before .before .before in
     sym (l .inv .1 ∙ walk-none (body-at (formula-in (s .args .left) (s .args .nodes .now) (s .args .env .nested + 1) (s .args .i + 12)) (s .args .recording .now) (s .args .t) (places (s .args .env)) (s .args .s)) (l .n) (l .q) (l .acc) (omega (arith, c .loop-test .left)))
 
 pub +evaluate+walk-range-spec : {M : Type 1} → statement M
