@@ -187,6 +187,10 @@ fit-second {F} {G} {e} {t} {len} f =
     let r : 4 + max (words F) (words G) ≤ len = f .room in
     fit-as G (len - 4) f (f .formed .1) (omega arith)
 
+-- the sizes and places that are read off the node are its own
+pub fit-beside : (e : Env) (t len : ℕ) (F : Tree) (G : ℕ → Tree) {w w′ g g′ : ℕ} → w′ ≡ w → g′ ≡ g → Fit (beside-node w F (G g)) e t len → Fit (beside-node w′ F (G g′)) e t len
+fit-beside e t len F G ew eg f = rw (ew, eg) f
+
 pub fit-left : {w : ℕ} {F G : Tree} {e : Env} {t len : ℕ} → Fit (beside-node w F G) e t len → PartFit F e t 0 4 (4 + w) len
 unfolding words Formed
 fit-left {w} {F} {G} {e} {t} {len} f =

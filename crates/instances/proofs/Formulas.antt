@@ -40,7 +40,7 @@ module _ {hist : List ℕ} {b : ℕ} {e : Env} {s t : ℕ} {run : List ℕ} wher
   }
 
 module _ (ns : List ℕ) (i : ℕ) where
-  pub is-none : (left : ℕ) → left ≡ 0 → tree-at left ns i ≡ flag-node 0 0
+  pub is-none : (left : ℕ) → left ≡ 0 → tree-at left ns i ≡ flag-node (getD ns (i + 1) 0) (getD ns (i + 2) 0)
   unfolding tree-at
   is-none left h = rw h refl
 

@@ -26,15 +26,19 @@ formula-of (then-node F G) = then (formula-of F) (formula-of G)
 formula-of (beside-node f F G) = beside (formula-of F) (formula-of G)
 formula-of (range-node B₁ B₂ w z F) = forall B₁ B₂ (formula-of F)
 
--- The tree at word i of a node table, read off with `left` formulas left (crates/nodes says the layout).
+-- The tree at word i of a node table, read off with `left` formulas left (crates/nodes says the layout); a flag where none is left.
 unfoldable pub tree-at : ℕ → List ℕ → ℕ → Tree
-tree-at zero ns i = flag-node 0 0
+tree-at zero ns i = flag-node (getD ns (i + 1) 0) (getD ns (i + 2) 0)
 tree-at (suc left) ns i =
     cond (eqb (getD ns (i + 0) 0) 2) (not-node (tree-at left ns (i + 12)))
     (cond (eqb (getD ns (i + 0) 0) 3) (then-node (tree-at left ns (i + 12)) (tree-at left ns (getD ns (i + 7) 0)))
     (cond (eqb (getD ns (i + 0) 0) 4) (beside-node (getD ns (i + 10) 0) (tree-at left ns (i + 12)) (tree-at left ns (getD ns (i + 7) 0)))
     (cond (eqb (getD ns (i + 0) 0) 5) (range-node (bound-at ns (i + 1)) (bound-at ns (i + 4)) (getD ns (i + 8) 0) (getD ns (i + 9) 0) (tree-at left ns (i + 12)))
     (flag-node (getD ns (i + 1) 0) (getD ns (i + 2) 0)))))
+
+-- It is no flag.
+abbrev pub HasParts : ℕ → List ℕ → ℕ → Type 0
+HasParts left ns i = (left ≡ 0 → ⊥) × ((2 ≤ getD ns (i + 0) 0) × (getD ns (i + 0) 0 ≤ 5))
 
 -- The words of a formula's run: 01's cells, four words each.
 unfoldable pub words : Tree → ℕ

@@ -1,10 +1,11 @@
 // One formula, moved by one tick at a time over its run of cells.
 ghost use mathlib.Core.Path.{_≡_};
+ghost use mathlib.Core.Bool.{true, false};
 ghost use Prim.Native.Nat.{_+_, _<_};
 ghost use lib.ListN.{length, getD};
 ghost use Rattle.nodes.specs.Table.{bound-at};
-ghost use Rattle.instances.specs.Tree.{then-node, beside-node, range-node, tree-at};
-ghost use Rattle.instances.specs.Calls.{env-of, Fit, SlotFit, WalkFit, PartFit, Advanced, PositionAdvanced, PositionsWalked, PartAdvanced};
+ghost use Rattle.instances.specs.Tree.{flag-node, then-node, beside-node, range-node, tree-at, HasParts};
+ghost use Rattle.instances.specs.Calls.{env-of, flagged, Fit, SlotFit, WalkFit, PartFit, Advanced, PositionAdvanced, PositionsWalked, PartAdvanced};
 use crate::cells::load_outcome;
 use crate::cells::store_outcome;
 use crate::env::flag_at;
@@ -34,6 +35,33 @@ fn slot_words(nodes: &[u32], i: usize) -> u32
     ensures { λ r. ⌜ (r ≡ getD (now (nodes .entry)) (i + 9) 0) × (getD (now (nodes .entry)) (i + 8) 0 < 4294967296) ⌝ }
 {
     node_word(nodes, i, SLOT_WORDS)
+}
+
+// Whether the formula at word i is a flag: so is every code but 2 to 5, and whatever stands there with no formula left.
+fn is_flag(nodes: &[u32], left: usize, i: usize) -> bool
+    ensures { λ r. ⌜ (r ≡ true → tree-at left (now (nodes .entry)) i ≡ flag-node (getD (now (nodes .entry)) (i + 1) 0) (getD (now (nodes .entry)) (i + 2) 0)) × (r ≡ false → HasParts left (now (nodes .entry)) i) ⌝ }
+{
+    if left == 0 {
+        return true;
+    }
+    let code = node_word(nodes, i, CODE);
+    if code < 2 {
+        return true;
+    }
+    if 5 < code {
+        return true;
+    }
+    false
+}
+
+// The flag whose node starts at word i, at step s.
+fn flag_in(nodes: &[u32], i: usize, byte: &[u8; 5], s: u64) -> Outcome
+    requires { ⌜ getD (now nodes) (i + 1) 0 < 5 ⌝ }
+    ensures { λ r. ⌜ r ≡ flagged (now (byte .entry)) (getD (now (nodes .entry)) (i + 1) 0) (getD (now (nodes .entry)) (i + 2) 0) s ⌝ }
+{
+    let v = node_word(nodes, i, VARIABLE) as usize;
+    let k = node_word(nodes, i, FLAG);
+    flag_at(byte, v, k, s)
 }
 
 // Moves the formula whose run is the words from a to z, and whose outcome the words k and k + 2 hold.
@@ -187,7 +215,7 @@ fn advance_range(
     s: u64,
     t: u64,
 ) -> Outcome
-    requires { ⌜ (i < length (now nodes)) × Fit (range-node (bound-at (now nodes) (i + 1)) (bound-at (now nodes) (i + 4)) (getD (now nodes) (i + 8) 0) (getD (now nodes) (i + 9) 0) (tree-at left (now nodes) (i + 12))) (env-of m (now pos) (now byte)) t (length (now run)) ⌝ }
+    requires { ⌜ (i < 768) × Fit (range-node (bound-at (now nodes) (i + 1)) (bound-at (now nodes) (i + 4)) (getD (now nodes) (i + 8) 0) (getD (now nodes) (i + 9) 0) (tree-at left (now nodes) (i + 12))) (env-of m (now pos) (now byte)) t (length (now run)) ⌝ }
     ensures { λ r. ⌜ Advanced (range-node (bound-at (now (nodes .entry)) (i + 1)) (bound-at (now (nodes .entry)) (i + 4)) (getD (now (nodes .entry)) (i + 8) 0) (getD (now (nodes .entry)) (i + 9) 0) (tree-at left (now (nodes .entry)) (i + 12))) (now (history .entry)) flag (env-of m (now (pos .entry)) (now (byte .entry))) s t (now (run .entry)) r (now (run .exit)) ⌝ }
 {
     let z = slot_words(nodes, i) as usize;
@@ -220,12 +248,11 @@ fn advance_range(
     outcomes::both(Outcome::Decided(Verdict::True, h.latest), rest)
 }
 
-// The formula at word f, then the one at word g, which is started at the first one's step.
+// "Then" at word i: its first part, then the second, which is started at the first one's step.
 fn advance_then(
     nodes: &[u32; 768],
     left: usize,
-    f: usize,
-    g: usize,
+    i: usize,
     run: &mut [u32],
     history: &[u8],
     flag: u8,
@@ -235,14 +262,14 @@ fn advance_then(
     s: u64,
     t: u64,
 ) -> Outcome
-    requires { ⌜ Fit (then-node (tree-at left (now nodes) f) (tree-at left (now nodes) g)) (env-of m (now pos) (now byte)) t (length (now run)) ⌝ }
-    ensures { λ r. ⌜ Advanced (then-node (tree-at left (now (nodes .entry)) f) (tree-at left (now (nodes .entry)) g)) (now (history .entry)) flag (env-of m (now (pos .entry)) (now (byte .entry))) s t (now (run .entry)) r (now (run .exit)) ⌝ }
+    requires { ⌜ (i < 768) × Fit (then-node (tree-at left (now nodes) (i + 12)) (tree-at left (now nodes) (getD (now nodes) (i + 7) 0))) (env-of m (now pos) (now byte)) t (length (now run)) ⌝ }
+    ensures { λ r. ⌜ Advanced (then-node (tree-at left (now (nodes .entry)) (i + 12)) (tree-at left (now (nodes .entry)) (getD (now (nodes .entry)) (i + 7) 0))) (now (history .entry)) flag (env-of m (now (pos .entry)) (now (byte .entry))) s t (now (run .entry)) r (now (run .exit)) ⌝ }
 {
     let z = run.len();
     let o = advance_part(
         nodes,
         left,
-        f,
+        i + 12,
         run,
         0,
         4,
@@ -259,30 +286,31 @@ fn advance_then(
         Outcome::Open => o,
         Outcome::Decided(v, d) => match v {
             Verdict::False => o,
-            Verdict::True => advance(
-                nodes,
-                left,
-                g,
-                &mut run[4..],
-                history,
-                flag,
-                m,
-                pos,
-                byte,
-                d,
-                t,
-            ),
+            Verdict::True => {
+                let g = node_word(nodes, i, SECOND_PART) as usize;
+                advance(
+                    nodes,
+                    left,
+                    g,
+                    &mut run[4..],
+                    history,
+                    flag,
+                    m,
+                    pos,
+                    byte,
+                    d,
+                    t,
+                )
+            }
         },
     }
 }
 
-// The formula at word f, in w words, beside the one at word g.
+// "Beside" at word i: its first part, in the words that the node says, and the second.
 fn advance_beside(
     nodes: &[u32; 768],
     left: usize,
-    f: usize,
-    g: usize,
-    w: usize,
+    i: usize,
     run: &mut [u32],
     history: &[u8],
     flag: u8,
@@ -292,15 +320,16 @@ fn advance_beside(
     s: u64,
     t: u64,
 ) -> Outcome
-    requires { ⌜ Fit (beside-node w (tree-at left (now nodes) f) (tree-at left (now nodes) g)) (env-of m (now pos) (now byte)) t (length (now run)) ⌝ }
-    ensures { λ r. ⌜ Advanced (beside-node w (tree-at left (now (nodes .entry)) f) (tree-at left (now (nodes .entry)) g)) (now (history .entry)) flag (env-of m (now (pos .entry)) (now (byte .entry))) s t (now (run .entry)) r (now (run .exit)) ⌝ }
+    requires { ⌜ (i < 768) × Fit (beside-node (getD (now nodes) (i + 10) 0) (tree-at left (now nodes) (i + 12)) (tree-at left (now nodes) (getD (now nodes) (i + 7) 0))) (env-of m (now pos) (now byte)) t (length (now run)) ⌝ }
+    ensures { λ r. ⌜ Advanced (beside-node (getD (now (nodes .entry)) (i + 10) 0) (tree-at left (now (nodes .entry)) (i + 12)) (tree-at left (now (nodes .entry)) (getD (now (nodes .entry)) (i + 7) 0))) (now (history .entry)) flag (env-of m (now (pos .entry)) (now (byte .entry))) s t (now (run .entry)) r (now (run .exit)) ⌝ }
 {
     let z = run.len();
-    let mid = 4 + w;
+    let mid = 4 + node_word(nodes, i, FIRST_WORDS) as usize;
+    let g = node_word(nodes, i, SECOND_PART) as usize;
     let x = advance_part(
         nodes,
         left,
-        f,
+        i + 12,
         run,
         0,
         4,
@@ -332,7 +361,29 @@ fn advance_beside(
     outcomes::both(x, y)
 }
 
-// Moves the formula at word i, started at s, to tick t. A run of nots has the run of what stands under it, and is taken in one call.
+// A run of nots from word i on: what stands under it has the same run of cells, and is moved in one call.
+fn advance_not(
+    nodes: &[u32; 768],
+    left: usize,
+    i: usize,
+    run: &mut [u32],
+    history: &[u8],
+    flag: u8,
+    m: usize,
+    pos: &[u64; 5],
+    byte: &[u8; 5],
+    s: u64,
+    t: u64,
+) -> Outcome
+    requires { ⌜ (left ≡ 0 → ⊥) × ((getD (now nodes) (i + 0) 0 ≡ 2) × Fit (tree-at left (now nodes) i) (env-of m (now pos) (now byte)) t (length (now run))) ⌝ }
+    ensures { λ r. ⌜ Advanced (tree-at left (now (nodes .entry)) i) (now (history .entry)) flag (env-of m (now (pos .entry)) (now (byte .entry))) s t (now (run .entry)) r (now (run .exit)) ⌝ }
+{
+    let u = skip_nots(nodes, left, i);
+    let o = advance(nodes, u.left, u.i, run, history, flag, m, pos, byte, s, t);
+    outcomes::opposite_if(u.odd, o)
+}
+
+// Moves the formula at word i, started at s, to tick t. Flags come most often, and are looked for first.
 fn advance(
     nodes: &[u32; 768],
     left: usize,
@@ -349,55 +400,18 @@ fn advance(
     requires { ⌜ Fit (tree-at left (now nodes) i) (env-of m (now pos) (now byte)) t (length (now run)) ⌝ }
     ensures { λ r. ⌜ Advanced (tree-at left (now (nodes .entry)) i) (now (history .entry)) flag (env-of m (now (pos .entry)) (now (byte .entry))) s t (now (run .entry)) r (now (run .exit)) ⌝ }
 {
-    if left == 0 {
-        return flag_at(byte, 0, 0, s);
+    if is_flag(nodes, left, i) {
+        return flag_in(nodes, i, byte, s);
     }
     let code = node_word(nodes, i, CODE);
     if code == 2 {
-        let u = skip_nots(nodes, left, i);
-        let o = advance(nodes, u.left, u.i, run, history, flag, m, pos, byte, s, t);
-        return outcomes::opposite_if(u.odd, o);
+        return advance_not(nodes, left, i, run, history, flag, m, pos, byte, s, t);
     }
     if code == 3 {
-        let g = node_word(nodes, i, SECOND_PART) as usize;
-        return advance_then(
-            nodes,
-            left - 1,
-            i + 12,
-            g,
-            run,
-            history,
-            flag,
-            m,
-            pos,
-            byte,
-            s,
-            t,
-        );
+        return advance_then(nodes, left - 1, i, run, history, flag, m, pos, byte, s, t);
     }
     if code == 4 {
-        let g = node_word(nodes, i, SECOND_PART) as usize;
-        let w = node_word(nodes, i, FIRST_WORDS) as usize;
-        return advance_beside(
-            nodes,
-            left - 1,
-            i + 12,
-            g,
-            w,
-            run,
-            history,
-            flag,
-            m,
-            pos,
-            byte,
-            s,
-            t,
-        );
+        return advance_beside(nodes, left - 1, i, run, history, flag, m, pos, byte, s, t);
     }
-    if code == 5 {
-        return advance_range(nodes, left - 1, i, run, history, flag, m, pos, byte, s, t);
-    }
-    let v = node_word(nodes, i, VARIABLE) as usize;
-    let k = node_word(nodes, i, FLAG);
-    flag_at(byte, v, k, s)
+    advance_range(nodes, left - 1, i, run, history, flag, m, pos, byte, s, t)
 }

@@ -13,7 +13,7 @@ use Rattle.nodes.proofs.Nots.{nots-less}
 use Rattle.ranges.specs.Spans.{positions-of}
 use Rattle.instances.specs.Tree.{Tree, then-node, beside-node, tree-at}
 use Rattle.instances.specs.Run.{own-tick}
-use Rattle.instances.specs.Calls.{env-of, places, flagged, Fit, SlotFit, Advanced}
+use Rattle.instances.specs.Calls.{env-of, places, Fit, SlotFit, Advanced}
 use Rattle.instances.proofs.Slots.{slot-before}
 use Rattle.instances.proofs.Marks.{tail-take}
 use Rattle.instances.proofs.Heads.{leading-least}
@@ -23,37 +23,41 @@ use Rattle.instances.proofs.Positions.{position-of}
 use Rattle.instances.proofs.Thens.{then-open, then-false, then-true}
 use Rattle.instances.proofs.Besides.{beside-of}
 use Rattle.instances.proofs.Foralls.{plan-here, range-of}
-use Rattle.instances.proofs.Formulas.{flag-of, is-none, is-then, is-beside, is-range, is-flag}
+use Rattle.instances.proofs.Formulas.{flag-of, is-then, is-beside, is-range}
 use Rattle.instances.proofs.Nots.{fit-nots, nots-of}
-use Rattle.instances.proofs.Fits.{tail-length, window-length, slot-length, fit-entered, fit-head, fit-few, fit-long, fit-walk, fit-store, fit-first, fit-second, fit-left, fit-right, fit-flag, fit-come}
+use Rattle.instances.proofs.Fits.{tail-length, window-length, slot-length, fit-entered, fit-head, fit-few, fit-long, fit-walk, fit-store, fit-first, fit-second, fit-beside, fit-left, fit-right, fit-flag, fit-come}
 use borrow.Fn.Kinds.{In}
 use borrow.Fn.PlainCycle.{Measures, is, falls, and}
 use Rattle.instances.proofs.advance.advance.Reads as advance
 use Rattle.instances.proofs.advance.advance.Kinds as advance-kinds
-use Rattle.instances.proofs.advance.+advance+advance_beside+advance_part+advance_position+advance_range+advance_then+walk_positions.Lts-advance as advance-lts
+use Rattle.instances.proofs.advance.+advance+advance_beside+advance_not+advance_part+advance_position+advance_range+advance_then+walk_positions.Lts-advance as advance-lts
 use Rattle.instances.proofs.advance.advance_beside.Reads as advance-beside
 use Rattle.instances.proofs.advance.advance_beside.Kinds as advance-beside-kinds
-use Rattle.instances.proofs.advance.+advance+advance_beside+advance_part+advance_position+advance_range+advance_then+walk_positions.Lts-advance_beside as advance-beside-lts
+use Rattle.instances.proofs.advance.+advance+advance_beside+advance_not+advance_part+advance_position+advance_range+advance_then+walk_positions.Lts-advance_beside as advance-beside-lts
+use Rattle.instances.proofs.advance.advance_not.Reads as advance-not
+use Rattle.instances.proofs.advance.advance_not.Kinds as advance-not-kinds
+use Rattle.instances.proofs.advance.+advance+advance_beside+advance_not+advance_part+advance_position+advance_range+advance_then+walk_positions.Lts-advance_not as advance-not-lts
 use Rattle.instances.proofs.advance.advance_part.Reads as advance-part
 use Rattle.instances.proofs.advance.advance_part.Kinds as advance-part-kinds
-use Rattle.instances.proofs.advance.+advance+advance_beside+advance_part+advance_position+advance_range+advance_then+walk_positions.Lts-advance_part as advance-part-lts
+use Rattle.instances.proofs.advance.+advance+advance_beside+advance_not+advance_part+advance_position+advance_range+advance_then+walk_positions.Lts-advance_part as advance-part-lts
 use Rattle.instances.proofs.advance.advance_position.Reads as advance-position
 use Rattle.instances.proofs.advance.advance_position.Kinds as advance-position-kinds
-use Rattle.instances.proofs.advance.+advance+advance_beside+advance_part+advance_position+advance_range+advance_then+walk_positions.Lts-advance_position as advance-position-lts
+use Rattle.instances.proofs.advance.+advance+advance_beside+advance_not+advance_part+advance_position+advance_range+advance_then+walk_positions.Lts-advance_position as advance-position-lts
 use Rattle.instances.proofs.advance.advance_range.Reads as advance-range
 use Rattle.instances.proofs.advance.advance_range.Kinds as advance-range-kinds
-use Rattle.instances.proofs.advance.+advance+advance_beside+advance_part+advance_position+advance_range+advance_then+walk_positions.Lts-advance_range as advance-range-lts
+use Rattle.instances.proofs.advance.+advance+advance_beside+advance_not+advance_part+advance_position+advance_range+advance_then+walk_positions.Lts-advance_range as advance-range-lts
 use Rattle.instances.proofs.advance.advance_then.Reads as advance-then
 use Rattle.instances.proofs.advance.advance_then.Kinds as advance-then-kinds
-use Rattle.instances.proofs.advance.+advance+advance_beside+advance_part+advance_position+advance_range+advance_then+walk_positions.Lts-advance_then as advance-then-lts
+use Rattle.instances.proofs.advance.+advance+advance_beside+advance_not+advance_part+advance_position+advance_range+advance_then+walk_positions.Lts-advance_then as advance-then-lts
 use Rattle.instances.proofs.advance.walk_positions.Reads as walk-positions
 use Rattle.instances.proofs.advance.walk_positions.Kinds as walk-positions-kinds
-use Rattle.instances.proofs.advance.+advance+advance_beside+advance_part+advance_position+advance_range+advance_then+walk_positions.Lts-walk_positions as walk-positions-lts
+use Rattle.instances.proofs.advance.+advance+advance_beside+advance_not+advance_part+advance_position+advance_range+advance_then+walk_positions.Lts-walk_positions as walk-positions-lts
+use Rattle.instances.proofs.advance.flag_in.Reads as flag-in-reads
+use Rattle.instances.proofs.advance.is_flag.Reads as is-flag-reads
 use Rattle.instances.proofs.advance.slot_words.Reads as slot-words-reads
 use Rattle.instances.proofs.advance.wide.Reads as wide-reads
 use Rattle.instances.proofs.cells.load_outcome.Reads as load-outcome-reads
 use Rattle.instances.proofs.cells.store_outcome.Reads as store-outcome-reads
-use Rattle.instances.proofs.env.flag_at.Reads as flag-at-reads
 use Rattle.instances.proofs.env.own_tick.Reads as own-tick-reads
 use Rattle.instances.proofs.head.load_head.Reads as load-head-reads
 use Rattle.instances.proofs.head.store_head.Reads as store-head-reads
@@ -65,33 +69,36 @@ use Rattle.outcomes.proofs.later.Reads as later-reads
 use Rattle.outcomes.proofs.opposite_if.Reads as opposite-if-reads
 use Rattle.ranges.proofs.plan_up_to.Reads as plan-up-to-reads
 use Rattle.ranges.proofs.range_at.Reads as range-at-reads
-use Rattle.instances.proofs.advance.+advance+advance_beside+advance_part+advance_position+advance_range+advance_then+walk_positions.{
+use Rattle.instances.proofs.advance.+advance+advance_beside+advance_not+advance_part+advance_position+advance_range+advance_then+walk_positions.{
   statement,
 }
-use Rattle.instances.proofs.advance.+advance+advance_beside+advance_part+advance_position+advance_range+advance_then+walk_positions.Tie.{
+use Rattle.instances.proofs.advance.+advance+advance_beside+advance_not+advance_part+advance_position+advance_range+advance_then+walk_positions.Tie.{
   close,
 }
 
 abbrev μ-advance : Measures 5 advance-kinds.ps ℕ
-μ-advance κs a = 8 * (a .1 .0)
+μ-advance κs a = 8 * (a .1 .0) + 1
 
 abbrev μ-advance-beside : Measures 5 advance-beside-kinds.ps ℕ
-μ-advance-beside κs a = 8 * (a .1 .0) + 3
+μ-advance-beside κs a = 8 * (a .1 .0) + 4
+
+abbrev μ-advance-not : Measures 5 advance-not-kinds.ps ℕ
+μ-advance-not κs a = 8 * (a .1 .0)
 
 abbrev μ-advance-part : Measures 5 advance-part-kinds.ps ℕ
-μ-advance-part κs a = 8 * (a .1 .0) + 1
+μ-advance-part κs a = 8 * (a .1 .0) + 2
 
 abbrev μ-advance-position : Measures 5 advance-position-kinds.ps ℕ
-μ-advance-position κs a = 8 * (a .1 .0) + 2
+μ-advance-position κs a = 8 * (a .1 .0) + 3
 
 abbrev μ-advance-range : Measures 5 advance-range-kinds.ps ℕ
-μ-advance-range κs a = 8 * (a .1 .0) + 4
+μ-advance-range κs a = 8 * (a .1 .0) + 5
 
 abbrev μ-advance-then : Measures 5 advance-then-kinds.ps ℕ
-μ-advance-then κs a = 8 * (a .1 .0) + 3
+μ-advance-then κs a = 8 * (a .1 .0) + 4
 
 abbrev μ-walk-positions : Measures 5 walk-positions-kinds.ps ℕ
-μ-walk-positions κs a = 8 * (a .1 .0) + 3
+μ-walk-positions κs a = 8 * (a .1 .0) + 4
 
 abbrev advance-at : ℕ → In 5 advance-kinds.ps
 advance-at t = and 5 advance-kinds.ps (is 5 advance-kinds.ps μ-advance t) advance.Pre
@@ -114,6 +121,14 @@ advance-beside-below t =
     advance-beside-kinds.ps
     (falls 5 advance-beside-kinds.ps _<_ μ-advance-beside t)
     advance-beside.Pre
+
+abbrev advance-not-at : ℕ → In 5 advance-not-kinds.ps
+advance-not-at t =
+    and 5 advance-not-kinds.ps (is 5 advance-not-kinds.ps μ-advance-not t) advance-not.Pre
+
+abbrev advance-not-below : ℕ → In 5 advance-not-kinds.ps
+advance-not-below t =
+    and 5 advance-not-kinds.ps (falls 5 advance-not-kinds.ps _<_ μ-advance-not t) advance-not.Pre
 
 abbrev advance-part-at : ℕ → In 5 advance-part-kinds.ps
 advance-part-at t =
@@ -184,10 +199,13 @@ walk-positions-below t =
     walk-positions.Pre
 
 abbrev advance-claims : ℕ → advance-lts.Claims
-advance-claims t = (flag-at-reads.Asked, flag-at-reads.Learnt, node-word-reads.Asked, node-word-reads.Learnt, skip-nots-reads.Asked, skip-nots-reads.Learnt, advance-below t, advance.Post, opposite-if-reads.Asked, opposite-if-reads.Learnt, advance-then-below t, advance-then.Post, advance-beside-below t, advance-beside.Post, advance-range-below t, advance-range.Post)
+advance-claims t = (is-flag-reads.Asked, is-flag-reads.Learnt, flag-in-reads.Asked, flag-in-reads.Learnt, node-word-reads.Asked, node-word-reads.Learnt, advance-not-below t, advance-not.Post, advance-then-below t, advance-then.Post, advance-beside-below t, advance-beside.Post, advance-range-below t, advance-range.Post)
 
 abbrev advance-beside-claims : ℕ → advance-beside-lts.Claims
-advance-beside-claims t = (advance-part-below t, advance-part.Post, both-reads.Asked, both-reads.Learnt)
+advance-beside-claims t = (node-word-reads.Asked, node-word-reads.Learnt, advance-part-below t, advance-part.Post, both-reads.Asked, both-reads.Learnt)
+
+abbrev advance-not-claims : ℕ → advance-not-lts.Claims
+advance-not-claims t = (skip-nots-reads.Asked, skip-nots-reads.Learnt, advance-below t, advance.Post, opposite-if-reads.Asked, opposite-if-reads.Learnt)
 
 abbrev advance-part-claims : ℕ → advance-part-lts.Claims
 advance-part-claims t = (own-tick-reads.Asked, own-tick-reads.Learnt, load-outcome-reads.Asked, load-outcome-reads.Learnt, advance-below t, advance.Post, store-outcome-reads.Asked, store-outcome-reads.Learnt)
@@ -199,17 +217,31 @@ abbrev advance-range-claims : ℕ → advance-range-lts.Claims
 advance-range-claims t = (slot-words-reads.Asked, slot-words-reads.Learnt, range-at-reads.Asked, range-at-reads.Learnt, plan-up-to-reads.Asked, plan-up-to-reads.Learnt, own-tick-reads.Asked, own-tick-reads.Learnt, load-head-reads.Asked, load-head-reads.Learnt, walk-positions-below t, walk-positions.Post, store-head-reads.Asked, store-head-reads.Learnt, both-reads.Asked, both-reads.Learnt)
 
 abbrev advance-then-claims : ℕ → advance-then-lts.Claims
-advance-then-claims t = (advance-part-below t, advance-part.Post, advance-below t, advance.Post)
+advance-then-claims t = (advance-part-below t, advance-part.Post, node-word-reads.Asked, node-word-reads.Learnt, advance-below t, advance.Post)
 
 abbrev walk-positions-claims : ℕ → walk-positions-lts.Claims
 walk-positions-claims t = (advance-position-below t, advance-position.Post, both-reads.Asked, both-reads.Learnt)
 
-advance-flag-at-requires : (t : ℕ) → advance-lts.Need-flag-at-requires (advance-claims t) (advance-at t) advance.Post
-advance-flag-at-requires t c κs = omega arith
+advance-is-flag-requires : (t : ℕ) → advance-lts.Need-is-flag-requires (advance-claims t) (advance-at t) advance.Post
+advance-is-flag-requires t c κs = search needs
+
+advance-flag-in-requires : (t : ℕ) → advance-lts.Need-flag-in-requires (advance-claims t) (advance-at t) advance.Post
+advance-flag-in-requires measure c κs =
+    let s₀ = c .before .before .before .before .before .before in
+    let nodes = s₀ .args .nodes .now in
+    let run = s₀ .args .run .now in
+    let left = s₀ .args .left in
+    let i = s₀ .args .i in
+    let env = env-of (s₀ .args .m) (s₀ .args .pos .now) (s₀ .args .byte .now) in
+    let t = s₀ .args .t in
+    let at-is-flag = c .before .before .is-flag in
+    let at-if1 = c .before .if1 in
+    let fit = subst (λ (G : Tree). Fit G env t (length run)) (at-is-flag .ensures .0 (at-if1 .taken)) (s₀ .pre .1) in
+    omega (arith, fit-flag fit, s₀ .pre .1 .depth)
 
 advance-returns : (t : ℕ) → advance-lts.Need-returns (advance-claims t) (advance-at t) advance.Post
 advance-returns measure c =
-    let s₀ = c .before .before .before .before in
+    let s₀ = c .before .before .before .before .before .before .before in
     let nodes = s₀ .args .nodes .now in
     let run = s₀ .args .run .now in
     let hist = s₀ .args .history .now in
@@ -219,63 +251,39 @@ advance-returns measure c =
     let env = env-of (s₀ .args .m) (s₀ .args .pos .now) (s₀ .args .byte .now) in
     let s = s₀ .args .s in
     let t = s₀ .args .t in
-    let at-if1 = c .before .if1 in
-    let at-flag-at = c .flag-at in
-    let is = is-none nodes i left (at-if1 .taken) in
+    let at-is-flag = c .before .before .before .is-flag in
+    let at-if1 = c .before .before .if1 in
+    let at-flag-in = c .flag-in in
+    let is = at-is-flag .ensures .0 (at-if1 .taken) in
     let fit = subst (λ (G : Tree). Fit G env t (length run)) is (s₀ .pre .1) in
-    subst (λ (G : Tree). Advanced G hist b env s t run (at-flag-at .result) run) (sym is) (flag-of 0 0 (at-flag-at .result) (fit-flag fit) (at-flag-at .ensures))
+    subst (λ (G : Tree). Advanced G hist b env s t run (at-flag-in .result) run) (sym is)
+    (flag-of (getD nodes (i + 1) 0) (getD nodes (i + 2) 0) (at-flag-in .result) (fit-flag fit) (at-flag-in .ensures))
 
 advance-node-word-requires : (t : ℕ) → advance-lts.Need-node-word-requires (advance-claims t) (advance-at t) advance.Post
 advance-node-word-requires t c κs = search needs
 
-advance-skip-nots-requires : (t : ℕ) → advance-lts.Need-skip-nots-requires (advance-claims t) (advance-at t) advance.Post
-advance-skip-nots-requires t c κs = search needs
-
-advance-advance-requires : (t : ℕ) → advance-lts.Need-advance-requires (advance-claims t) (advance-at t) advance.Post
-advance-advance-requires measure c κs =
+advance-advance-not-requires : (t : ℕ) → advance-lts.Need-advance-not-requires (advance-claims t) (advance-at t) advance.Post
+advance-advance-not-requires measure c κs =
     let s₀ = c .before .before .before .before .before .before .before .before .before in
-    let nodes = s₀ .args .nodes .now in
-    let left = s₀ .args .left in
-    let i = s₀ .args .i in
-    let at-if1 = c .before .before .before .before .before .before .if1 in
-    let at-node-word = c .before .before .before .before .node-word in
-    let at-if2 = c .before .before .before .if2 in
-    let at-skip-nots = c .before .skip-nots in
-    let u = at-skip-nots .result in
-    (omega (arith, s₀ .pre .0, nots-less nodes left i false u (at-skip-nots .ensures) (at-if1 .left) (sym (at-node-word .ensures) ∙ at-if2 .taken)), fit-nots nodes left i u (at-skip-nots .ensures) (s₀ .pre .1))
-
-advance-opposite-if-requires : (t : ℕ) → advance-lts.Need-opposite-if-requires (advance-claims t) (advance-at t) advance.Post
-advance-opposite-if-requires t c κs = search needs
+    let at-is-flag = c .before .before .before .before .before .is-flag in
+    let at-if1 = c .before .before .before .before .if1 in
+    let at-node-word = c .before .before .node-word in
+    let at-if2 = c .before .if2 in
+    (omega (arith, s₀ .pre .0), (at-is-flag .ensures .1 (at-if1 .left) .0, (sym (at-node-word .ensures) ∙ at-if2 .taken, s₀ .pre .1)))
 
 advance-same-length : (t : ℕ) → advance-lts.Need-same-length (advance-claims t) (advance-at t) advance.Post
 advance-same-length t c = search needs
 
 advance-returns-2 : (t : ℕ) → advance-lts.Need-returns-2 (advance-claims t) (advance-at t) advance.Post
 advance-returns-2 measure c =
-    let s₀ = c .before .before .before .before .before .before .before .before .before .before .before .before .before in
-    let at-skip-nots = c .before .before .before .before .before .skip-nots in
-    let at-advance = c .before .before .before .advance in
-    let at-opposite-if = c .opposite-if in
-    nots-of (s₀ .args .nodes .now) (s₀ .args .left) (s₀ .args .i) (at-skip-nots .result) (at-skip-nots .ensures) (at-advance .result) (at-opposite-if .result) (at-advance .last .1 .1 .1 .0) (at-advance .ensures) (at-opposite-if .ensures)
-
-advance-node-word-requires-2 : (t : ℕ) → advance-lts.Need-node-word-requires-2 (advance-claims t) (advance-at t) advance.Post
-advance-node-word-requires-2 t c κs = search needs
-
-advance-cast-g : (t : ℕ) → advance-lts.Need-cast-g (advance-claims t) (advance-at t) advance.Post
-advance-cast-g t c = search needs
+    let at-advance-not = c .before .before .advance-not in
+    at-advance-not .ensures
 
 advance-sub-advance-then : (t : ℕ) → advance-lts.Need-sub-advance-then (advance-claims t) (advance-at t) advance.Post
-advance-sub-advance-then t c = search needs
-
-advance-add-advance-then : (t : ℕ) → advance-lts.Need-add-advance-then (advance-claims t) (advance-at t) advance.Post
-advance-add-advance-then measure c =
-    let s₀ = c .before .before .before .before .before .before .before .before .before in
-    let nodes = s₀ .args .nodes .now in
-    let i = s₀ .args .i in
-    let at-node-word = c .before .before .before .before .node-word in
-    let at-if3 = c .before .before .if3 in
-    let at-node-word-arg = c .before .before .before .before .before .node-word-arg in
-    omega (arith, word-in nodes i 2 (sym (at-node-word .ensures) ∙ at-if3 .taken), at-node-word-arg .given)
+advance-sub-advance-then measure c =
+    let at-is-flag = c .before .before .before .before .before .is-flag in
+    let at-if1 = c .before .before .before .before .if1 in
+    omega (arith, at-is-flag .ensures .1 (at-if1 .left) .0)
 
 advance-advance-then-requires : (t : ℕ) → advance-lts.Need-advance-then-requires (advance-claims t) (advance-at t) advance.Post
 advance-advance-then-requires measure c κs =
@@ -286,14 +294,17 @@ advance-advance-then-requires measure c κs =
     let i = s₀ .args .i in
     let env = env-of (s₀ .args .m) (s₀ .args .pos .now) (s₀ .args .byte .now) in
     let t = s₀ .args .t in
-    let at-if1 = c .before .before .before .before .before .before .before .if1 in
-    let at-node-word = c .before .before .before .before .before .node-word in
-    let at-if2 = c .before .before .before .before .if2 in
-    let at-if3 = c .before .before .before .if3 in
-    let at-node-word2 = c .before .node-word2 in
-    let is = is-then nodes i left (at-if1 .left) (λ x. at-if2 .left (at-node-word .ensures ∙ x)) (sym (at-node-word .ensures) ∙ at-if3 .taken) in
-    let fit = subst (λ (G : Tree). Fit G env t (length run)) is (s₀ .pre .1) in
-    (omega (arith, s₀ .pre .0, (at-if1 .left)), subst (λ (n : ℕ). Fit (then-node (tree-at (left - 1) nodes (i + 12)) (tree-at (left - 1) nodes n)) env t (length run)) (sym (at-node-word2 .ensures)) fit)
+    let at-is-flag = c .before .before .before .before .before .before .is-flag in
+    let at-if1 = c .before .before .before .before .before .if1 in
+    let at-node-word-arg = c .before .before .before .before .node-word-arg in
+    let at-node-word = c .before .before .before .node-word in
+    let at-if2 = c .before .before .if2 in
+    let at-if3 = c .before .if3 in
+    let parts = at-is-flag .ensures .1 (at-if1 .left) in
+    let is = is-then nodes i left (parts .0) (λ x. at-if2 .left (at-node-word .ensures ∙ x)) (sym (at-node-word .ensures) ∙ at-if3 .taken) in (
+      omega (arith, s₀ .pre .0, parts .0),
+      (omega (arith, word-in nodes i 2 (sym (at-node-word .ensures) ∙ at-if3 .taken), at-node-word-arg .given), subst (λ (G : Tree). Fit G env t (length run)) is (s₀ .pre .1)),
+    )
 
 advance-same-length-2 : (t : ℕ) → advance-lts.Need-same-length-2 (advance-claims t) (advance-at t) advance.Post
 advance-same-length-2 t c = search needs
@@ -310,62 +321,42 @@ advance-returns-3 measure c =
     let env = env-of (s₀ .args .m) (s₀ .args .pos .now) (s₀ .args .byte .now) in
     let s = s₀ .args .s in
     let t = s₀ .args .t in
-    let at-if1 = c .before .before .before .before .before .before .before .before .before .before .if1 in
-    let at-node-word = c .before .before .before .before .before .before .before .before .node-word in
-    let at-if2 = c .before .before .before .before .before .before .before .if2 in
-    let at-if3 = c .before .before .before .before .before .before .if3 in
-    let at-node-word2 = c .before .before .before .before .node-word2 in
+    let at-is-flag = c .before .before .before .before .before .before .before .before .before .is-flag in
+    let at-if1 = c .before .before .before .before .before .before .before .before .if1 in
+    let at-node-word = c .before .before .before .before .before .before .node-word in
+    let at-if2 = c .before .before .before .before .before .if2 in
+    let at-if3 = c .before .before .before .before .if3 in
     let at-advance-then = c .before .before .advance-then in
-    let is = is-then nodes i left (at-if1 .left) (λ x. at-if2 .left (at-node-word .ensures ∙ x)) (sym (at-node-word .ensures) ∙ at-if3 .taken) in
-    subst (λ (G : Tree). Advanced G hist b env s t run (at-advance-then .result) (at-advance-then .last .1 .1 .1 .1 .0)) (sym is)
-    (subst (λ (n : ℕ). Advanced (then-node (tree-at (left - 1) nodes (i + 12)) (tree-at (left - 1) nodes n)) hist b env s t run (at-advance-then .result) (at-advance-then .last .1 .1 .1 .1 .0)) (at-node-word2 .ensures) (at-advance-then .ensures))
-
-advance-node-word-requires-3 : (t : ℕ) → advance-lts.Need-node-word-requires-3 (advance-claims t) (advance-at t) advance.Post
-advance-node-word-requires-3 t c κs = search needs
-
-advance-cast-g-2 : (t : ℕ) → advance-lts.Need-cast-g-2 (advance-claims t) (advance-at t) advance.Post
-advance-cast-g-2 t c = search needs
-
-advance-node-word-requires-4 : (t : ℕ) → advance-lts.Need-node-word-requires-4 (advance-claims t) (advance-at t) advance.Post
-advance-node-word-requires-4 t c κs = search needs
-
-advance-cast-w : (t : ℕ) → advance-lts.Need-cast-w (advance-claims t) (advance-at t) advance.Post
-advance-cast-w t c = search needs
+    let parts = at-is-flag .ensures .1 (at-if1 .left) in
+    let is = is-then nodes i left (parts .0) (λ x. at-if2 .left (at-node-word .ensures ∙ x)) (sym (at-node-word .ensures) ∙ at-if3 .taken) in
+    subst (λ (G : Tree). Advanced G hist b env s t run (at-advance-then .result) (at-advance-then .last .1 .1 .1 .0)) (sym is) (at-advance-then .ensures)
 
 advance-sub-advance-beside : (t : ℕ) → advance-lts.Need-sub-advance-beside (advance-claims t) (advance-at t) advance.Post
-advance-sub-advance-beside t c = search needs
-
-advance-add-advance-beside : (t : ℕ) → advance-lts.Need-add-advance-beside (advance-claims t) (advance-at t) advance.Post
-advance-add-advance-beside measure c =
-    let s₀ = c .before .before .before .before .before .before .before .before .before .before .before .before in
-    let nodes = s₀ .args .nodes .now in
-    let i = s₀ .args .i in
-    let at-node-word = c .before .before .before .before .before .before .before .node-word in
-    let at-if4 = c .before .before .before .before .if4 in
-    let at-node-word-arg = c .before .before .before .before .before .before .before .before .node-word-arg in
-    omega (arith, word-in nodes i 3 (sym (at-node-word .ensures) ∙ at-if4 .taken), at-node-word-arg .given)
+advance-sub-advance-beside measure c =
+    let at-is-flag = c .before .before .before .before .before .before .is-flag in
+    let at-if1 = c .before .before .before .before .before .if1 in
+    omega (arith, at-is-flag .ensures .1 (at-if1 .left) .0)
 
 advance-advance-beside-requires : (t : ℕ) → advance-lts.Need-advance-beside-requires (advance-claims t) (advance-at t) advance.Post
 advance-advance-beside-requires measure c κs =
-    let s₀ = c .before .before .before .before .before .before .before .before .before .before .before .before .before in
+    let s₀ = c .before .before .before .before .before .before .before .before .before .before .before in
     let nodes = s₀ .args .nodes .now in
     let run = s₀ .args .run .now in
     let left = s₀ .args .left in
     let i = s₀ .args .i in
     let env = env-of (s₀ .args .m) (s₀ .args .pos .now) (s₀ .args .byte .now) in
     let t = s₀ .args .t in
-    let at-if1 = c .before .before .before .before .before .before .before .before .before .before .if1 in
-    let at-node-word = c .before .before .before .before .before .before .before .before .node-word in
-    let at-if2 = c .before .before .before .before .before .before .before .if2 in
-    let at-if3 = c .before .before .before .before .before .before .if3 in
-    let at-if4 = c .before .before .before .before .before .if4 in
-    let at-node-word3 = c .before .before .before .node-word3 in
-    let at-node-word4 = c .before .node-word4 in
-    let is = is-beside nodes i left (at-if1 .left) (λ x. at-if2 .left (at-node-word .ensures ∙ x)) (λ x. at-if3 .left (at-node-word .ensures ∙ x)) (sym (at-node-word .ensures) ∙ at-if4 .taken) in
-    let fit = subst (λ (G : Tree). Fit G env t (length run)) is (s₀ .pre .1) in (
-      omega (arith, s₀ .pre .0, (at-if1 .left)),
-      subst (λ (n : ℕ). Fit (beside-node n (tree-at (left - 1) nodes (i + 12)) (tree-at (left - 1) nodes (at-node-word3 .result))) env t (length run)) (sym (at-node-word4 .ensures))
-          (subst (λ (m : ℕ). Fit (beside-node (getD nodes (i + 10) 0) (tree-at (left - 1) nodes (i + 12)) (tree-at (left - 1) nodes m)) env t (length run)) (sym (at-node-word3 .ensures)) fit),
+    let at-is-flag = c .before .before .before .before .before .before .before .is-flag in
+    let at-if1 = c .before .before .before .before .before .before .if1 in
+    let at-node-word-arg = c .before .before .before .before .before .node-word-arg in
+    let at-node-word = c .before .before .before .before .node-word in
+    let at-if2 = c .before .before .before .if2 in
+    let at-if3 = c .before .before .if3 in
+    let at-if4 = c .before .if4 in
+    let parts = at-is-flag .ensures .1 (at-if1 .left) in
+    let is = is-beside nodes i left (parts .0) (λ x. at-if2 .left (at-node-word .ensures ∙ x)) (λ x. at-if3 .left (at-node-word .ensures ∙ x)) (sym (at-node-word .ensures) ∙ at-if4 .taken) in (
+      omega (arith, s₀ .pre .0, parts .0),
+      (omega (arith, word-in nodes i 3 (sym (at-node-word .ensures) ∙ at-if4 .taken), at-node-word-arg .given), subst (λ (G : Tree). Fit G env t (length run)) is (s₀ .pre .1)),
     )
 
 advance-same-length-3 : (t : ℕ) → advance-lts.Need-same-length-3 (advance-claims t) (advance-at t) advance.Post
@@ -373,108 +364,6 @@ advance-same-length-3 t c = search needs
 
 advance-returns-4 : (t : ℕ) → advance-lts.Need-returns-4 (advance-claims t) (advance-at t) advance.Post
 advance-returns-4 measure c =
-    let s₀ = c .before .before .before .before .before .before .before .before .before .before .before .before .before .before .before .before in
-    let nodes = s₀ .args .nodes .now in
-    let run = s₀ .args .run .now in
-    let hist = s₀ .args .history .now in
-    let left = s₀ .args .left in
-    let i = s₀ .args .i in
-    let b = s₀ .args .flag in
-    let env = env-of (s₀ .args .m) (s₀ .args .pos .now) (s₀ .args .byte .now) in
-    let s = s₀ .args .s in
-    let t = s₀ .args .t in
-    let at-if1 = c .before .before .before .before .before .before .before .before .before .before .before .before .before .if1 in
-    let at-node-word = c .before .before .before .before .before .before .before .before .before .before .before .node-word in
-    let at-if2 = c .before .before .before .before .before .before .before .before .before .before .if2 in
-    let at-if3 = c .before .before .before .before .before .before .before .before .before .if3 in
-    let at-if4 = c .before .before .before .before .before .before .before .before .if4 in
-    let at-node-word3 = c .before .before .before .before .before .before .node-word3 in
-    let at-node-word4 = c .before .before .before .before .node-word4 in
-    let at-advance-beside = c .before .before .advance-beside in
-    let is = is-beside nodes i left (at-if1 .left) (λ x. at-if2 .left (at-node-word .ensures ∙ x)) (λ x. at-if3 .left (at-node-word .ensures ∙ x)) (sym (at-node-word .ensures) ∙ at-if4 .taken) in
-    subst (λ (G : Tree). Advanced G hist b env s t run (at-advance-beside .result) (at-advance-beside .last .1 .1 .1 .1 .1 .0)) (sym is)
-    (subst (λ (m : ℕ). Advanced (beside-node (getD nodes (i + 10) 0) (tree-at (left - 1) nodes (i + 12)) (tree-at (left - 1) nodes m)) hist b env s t run (at-advance-beside .result) (at-advance-beside .last .1 .1 .1 .1 .1 .0)) (at-node-word3 .ensures)
-    (subst (λ (n : ℕ). Advanced (beside-node n (tree-at (left - 1) nodes (i + 12)) (tree-at (left - 1) nodes (at-node-word3 .result))) hist b env s t run (at-advance-beside .result) (at-advance-beside .last .1 .1 .1 .1 .1 .0)) (at-node-word4 .ensures) (at-advance-beside .ensures)))
-
-advance-sub-advance-range : (t : ℕ) → advance-lts.Need-sub-advance-range (advance-claims t) (advance-at t) advance.Post
-advance-sub-advance-range t c = search needs
-
-advance-advance-range-requires : (t : ℕ) → advance-lts.Need-advance-range-requires (advance-claims t) (advance-at t) advance.Post
-advance-advance-range-requires measure c κs =
-    let s₀ = c .before .before .before .before .before .before .before .before .before .before in
-    let nodes = s₀ .args .nodes .now in
-    let run = s₀ .args .run .now in
-    let left = s₀ .args .left in
-    let i = s₀ .args .i in
-    let env = env-of (s₀ .args .m) (s₀ .args .pos .now) (s₀ .args .byte .now) in
-    let t = s₀ .args .t in
-    let at-if1 = c .before .before .before .before .before .before .before .if1 in
-    let at-node-word = c .before .before .before .before .before .node-word in
-    let at-if2 = c .before .before .before .before .if2 in
-    let at-if3 = c .before .before .before .if3 in
-    let at-if4 = c .before .before .if4 in
-    let at-if5 = c .before .if5 in
-    let is = is-range nodes i left (at-if1 .left) (λ x. at-if2 .left (at-node-word .ensures ∙ x)) (λ x. at-if3 .left (at-node-word .ensures ∙ x)) (λ x. at-if4 .left (at-node-word .ensures ∙ x)) (sym (at-node-word .ensures) ∙ at-if5 .taken) in
-    let fit = subst (λ (G : Tree). Fit G env t (length run)) is (s₀ .pre .1) in
-    (omega (arith, s₀ .pre .0, (at-if1 .left)), (word-in nodes i 4 (sym (at-node-word .ensures) ∙ at-if5 .taken), fit))
-
-advance-same-length-4 : (t : ℕ) → advance-lts.Need-same-length-4 (advance-claims t) (advance-at t) advance.Post
-advance-same-length-4 t c = search needs
-
-advance-returns-5 : (t : ℕ) → advance-lts.Need-returns-5 (advance-claims t) (advance-at t) advance.Post
-advance-returns-5 measure c =
-    let s₀ = c .before .before .before .before .before .before .before .before .before .before .before .before .before in
-    let nodes = s₀ .args .nodes .now in
-    let run = s₀ .args .run .now in
-    let hist = s₀ .args .history .now in
-    let left = s₀ .args .left in
-    let i = s₀ .args .i in
-    let b = s₀ .args .flag in
-    let env = env-of (s₀ .args .m) (s₀ .args .pos .now) (s₀ .args .byte .now) in
-    let s = s₀ .args .s in
-    let t = s₀ .args .t in
-    let at-if1 = c .before .before .before .before .before .before .before .before .before .before .if1 in
-    let at-node-word = c .before .before .before .before .before .before .before .before .node-word in
-    let at-if2 = c .before .before .before .before .before .before .before .if2 in
-    let at-if3 = c .before .before .before .before .before .before .if3 in
-    let at-if4 = c .before .before .before .before .before .if4 in
-    let at-if5 = c .before .before .before .before .if5 in
-    let at-advance-range = c .before .before .advance-range in
-    let is = is-range nodes i left (at-if1 .left) (λ x. at-if2 .left (at-node-word .ensures ∙ x)) (λ x. at-if3 .left (at-node-word .ensures ∙ x)) (λ x. at-if4 .left (at-node-word .ensures ∙ x)) (sym (at-node-word .ensures) ∙ at-if5 .taken) in
-    subst (λ (G : Tree). Advanced G hist b env s t run (at-advance-range .result) (at-advance-range .last .1 .1 .1 .0)) (sym is)
-    (at-advance-range .ensures)
-
-advance-node-word-requires-5 : (t : ℕ) → advance-lts.Need-node-word-requires-5 (advance-claims t) (advance-at t) advance.Post
-advance-node-word-requires-5 t c κs = search needs
-
-advance-cast-v : (t : ℕ) → advance-lts.Need-cast-v (advance-claims t) (advance-at t) advance.Post
-advance-cast-v t c = search needs
-
-advance-node-word-requires-6 : (t : ℕ) → advance-lts.Need-node-word-requires-6 (advance-claims t) (advance-at t) advance.Post
-advance-node-word-requires-6 t c κs = search needs
-
-advance-flag-at-requires-2 : (t : ℕ) → advance-lts.Need-flag-at-requires-2 (advance-claims t) (advance-at t) advance.Post
-advance-flag-at-requires-2 measure c κs =
-    let s₀ = c .before .before .before .before .before .before .before .before .before .before .before .before .before in
-    let nodes = s₀ .args .nodes .now in
-    let run = s₀ .args .run .now in
-    let left = s₀ .args .left in
-    let i = s₀ .args .i in
-    let env = env-of (s₀ .args .m) (s₀ .args .pos .now) (s₀ .args .byte .now) in
-    let t = s₀ .args .t in
-    let at-if1 = c .before .before .before .before .before .before .before .before .before .before .if1 in
-    let at-node-word = c .before .before .before .before .before .before .before .before .node-word in
-    let at-if2 = c .before .before .before .before .before .before .before .if2 in
-    let at-if3 = c .before .before .before .before .before .before .if3 in
-    let at-if4 = c .before .before .before .before .before .if4 in
-    let at-if5 = c .before .before .before .before .if5 in
-    let at-node-word5 = c .before .before .node-word5 in
-    let is = is-flag nodes i left (at-if1 .left) (λ x. at-if2 .left (at-node-word .ensures ∙ x)) (λ x. at-if3 .left (at-node-word .ensures ∙ x)) (λ x. at-if4 .left (at-node-word .ensures ∙ x)) (λ x. at-if5 .left (at-node-word .ensures ∙ x)) in
-    let fit = subst (λ (G : Tree). Fit G env t (length run)) is (s₀ .pre .1) in
-    omega (arith, fit-flag fit, s₀ .pre .1 .depth, at-node-word5 .ensures)
-
-advance-returns-6 : (t : ℕ) → advance-lts.Need-returns-6 (advance-claims t) (advance-at t) advance.Post
-advance-returns-6 measure c =
     let s₀ = c .before .before .before .before .before .before .before .before .before .before .before .before .before .before in
     let nodes = s₀ .args .nodes .now in
     let run = s₀ .args .run .now in
@@ -485,36 +374,124 @@ advance-returns-6 measure c =
     let env = env-of (s₀ .args .m) (s₀ .args .pos .now) (s₀ .args .byte .now) in
     let s = s₀ .args .s in
     let t = s₀ .args .t in
-    let at-if1 = c .before .before .before .before .before .before .before .before .before .before .before .if1 in
-    let at-node-word = c .before .before .before .before .before .before .before .before .before .node-word in
-    let at-if2 = c .before .before .before .before .before .before .before .before .if2 in
-    let at-if3 = c .before .before .before .before .before .before .before .if3 in
-    let at-if4 = c .before .before .before .before .before .before .if4 in
-    let at-if5 = c .before .before .before .before .before .if5 in
-    let at-node-word5 = c .before .before .before .node-word5 in
-    let at-node-word6 = c .before .node-word6 in
-    let at-flag-at2 = c .flag-at2 in
-    let is = is-flag nodes i left (at-if1 .left) (λ x. at-if2 .left (at-node-word .ensures ∙ x)) (λ x. at-if3 .left (at-node-word .ensures ∙ x)) (λ x. at-if4 .left (at-node-word .ensures ∙ x)) (λ x. at-if5 .left (at-node-word .ensures ∙ x)) in
-    let fit = subst (λ (G : Tree). Fit G env t (length run)) is (s₀ .pre .1) in
-    subst (λ (G : Tree). Advanced G hist b env s t run (at-flag-at2 .result) run) (sym is)
-    (flag-of (getD nodes (i + 1) 0) (getD nodes (i + 2) 0) (at-flag-at2 .result) (fit-flag fit)
-    (at-flag-at2 .ensures ∙ ap (λ (n : ℕ). flagged (s₀ .args .byte .now) n (at-node-word6 .result) s) (at-node-word5 .ensures) ∙ ap (λ (n : ℕ). flagged (s₀ .args .byte .now) (getD nodes (i + 1) 0) n s) (at-node-word6 .ensures)))
+    let at-is-flag = c .before .before .before .before .before .before .before .before .before .before .is-flag in
+    let at-if1 = c .before .before .before .before .before .before .before .before .before .if1 in
+    let at-node-word = c .before .before .before .before .before .before .before .node-word in
+    let at-if2 = c .before .before .before .before .before .before .if2 in
+    let at-if3 = c .before .before .before .before .before .if3 in
+    let at-if4 = c .before .before .before .before .if4 in
+    let at-advance-beside = c .before .before .advance-beside in
+    let parts = at-is-flag .ensures .1 (at-if1 .left) in
+    let is = is-beside nodes i left (parts .0) (λ x. at-if2 .left (at-node-word .ensures ∙ x)) (λ x. at-if3 .left (at-node-word .ensures ∙ x)) (sym (at-node-word .ensures) ∙ at-if4 .taken) in
+    subst (λ (G : Tree). Advanced G hist b env s t run (at-advance-beside .result) (at-advance-beside .last .1 .1 .1 .0)) (sym is) (at-advance-beside .ensures)
+
+advance-sub-advance-range : (t : ℕ) → advance-lts.Need-sub-advance-range (advance-claims t) (advance-at t) advance.Post
+advance-sub-advance-range measure c =
+    let at-is-flag = c .before .before .before .before .before .before .is-flag in
+    let at-if1 = c .before .before .before .before .before .if1 in
+    omega (arith, at-is-flag .ensures .1 (at-if1 .left) .0)
+
+advance-advance-range-requires : (t : ℕ) → advance-lts.Need-advance-range-requires (advance-claims t) (advance-at t) advance.Post
+advance-advance-range-requires measure c κs =
+    let s₀ = c .before .before .before .before .before .before .before .before .before .before .before in
+    let nodes = s₀ .args .nodes .now in
+    let run = s₀ .args .run .now in
+    let left = s₀ .args .left in
+    let i = s₀ .args .i in
+    let env = env-of (s₀ .args .m) (s₀ .args .pos .now) (s₀ .args .byte .now) in
+    let t = s₀ .args .t in
+    let at-is-flag = c .before .before .before .before .before .before .before .is-flag in
+    let at-if1 = c .before .before .before .before .before .before .if1 in
+    let at-node-word-arg = c .before .before .before .before .before .node-word-arg in
+    let at-node-word = c .before .before .before .before .node-word in
+    let at-if2 = c .before .before .before .if2 in
+    let at-if3 = c .before .before .if3 in
+    let at-if4 = c .before .if4 in
+    let parts = at-is-flag .ensures .1 (at-if1 .left) in
+    let five : getD nodes (i + 0) 0 ≡ 5 = omega (arith, parts .1 .0, parts .1 .1, at-node-word .ensures, at-if2 .left, at-if3 .left, at-if4 .left) in
+    let is = is-range nodes i left (parts .0) (λ x. at-if2 .left (at-node-word .ensures ∙ x)) (λ x. at-if3 .left (at-node-word .ensures ∙ x)) (λ x. at-if4 .left (at-node-word .ensures ∙ x)) five in (
+      omega (arith, s₀ .pre .0, parts .0),
+      (omega (arith, word-in nodes i 4 five, at-node-word-arg .given), subst (λ (G : Tree). Fit G env t (length run)) is (s₀ .pre .1)),
+    )
+
+advance-same-length-4 : (t : ℕ) → advance-lts.Need-same-length-4 (advance-claims t) (advance-at t) advance.Post
+advance-same-length-4 t c = search needs
+
+advance-returns-5 : (t : ℕ) → advance-lts.Need-returns-5 (advance-claims t) (advance-at t) advance.Post
+advance-returns-5 measure c =
+    let s₀ = c .before .before .before .before .before .before .before .before .before .before .before .before .before .before in
+    let nodes = s₀ .args .nodes .now in
+    let run = s₀ .args .run .now in
+    let hist = s₀ .args .history .now in
+    let left = s₀ .args .left in
+    let i = s₀ .args .i in
+    let b = s₀ .args .flag in
+    let env = env-of (s₀ .args .m) (s₀ .args .pos .now) (s₀ .args .byte .now) in
+    let s = s₀ .args .s in
+    let t = s₀ .args .t in
+    let at-is-flag = c .before .before .before .before .before .before .before .before .before .before .is-flag in
+    let at-if1 = c .before .before .before .before .before .before .before .before .before .if1 in
+    let at-node-word = c .before .before .before .before .before .before .before .node-word in
+    let at-if2 = c .before .before .before .before .before .before .if2 in
+    let at-if3 = c .before .before .before .before .before .if3 in
+    let at-if4 = c .before .before .before .before .if4 in
+    let at-advance-range = c .before .before .advance-range in
+    let parts = at-is-flag .ensures .1 (at-if1 .left) in
+    let five : getD nodes (i + 0) 0 ≡ 5 = omega (arith, parts .1 .0, parts .1 .1, at-node-word .ensures, at-if2 .left, at-if3 .left, at-if4 .left) in
+    let is = is-range nodes i left (parts .0) (λ x. at-if2 .left (at-node-word .ensures ∙ x)) (λ x. at-if3 .left (at-node-word .ensures ∙ x)) (λ x. at-if4 .left (at-node-word .ensures ∙ x)) five in
+    subst (λ (G : Tree). Advanced G hist b env s t run (at-advance-range .result) (at-advance-range .last .1 .1 .1 .0)) (sym is) (at-advance-range .ensures)
+
+advance-beside-node-word-requires : (t : ℕ) → advance-beside-lts.Need-node-word-requires (advance-beside-claims t) (advance-beside-at t) advance-beside.Post
+advance-beside-node-word-requires t c κs = search needs
+
+advance-beside-cast-mid : (t : ℕ) → advance-beside-lts.Need-cast-mid (advance-beside-claims t) (advance-beside-at t) advance-beside.Post
+advance-beside-cast-mid t c = search needs
 
 advance-beside-add-mid : (t : ℕ) → advance-beside-lts.Need-add-mid (advance-beside-claims t) (advance-beside-at t) advance-beside.Post
 advance-beside-add-mid measure c =
-    let s₀ = c .before .before in
-    omega (arith, fit-left (s₀ .pre .1) .end, s₀ .good .1 .1 .1 .1 .1 .0)
+    let s₀ = c .before .before .before .before in
+    let at-node-word = c .node-word in
+    omega (arith, fit-left (s₀ .pre .1 .1) .end, at-node-word .ensures, s₀ .good .1 .1 .1 .0)
+
+advance-beside-node-word-requires-2 : (t : ℕ) → advance-beside-lts.Need-node-word-requires-2 (advance-beside-claims t) (advance-beside-at t) advance-beside.Post
+advance-beside-node-word-requires-2 t c κs = search needs
+
+advance-beside-cast-g : (t : ℕ) → advance-beside-lts.Need-cast-g (advance-beside-claims t) (advance-beside-at t) advance-beside.Post
+advance-beside-cast-g t c = search needs
+
+advance-beside-add-advance-part : (t : ℕ) → advance-beside-lts.Need-add-advance-part (advance-beside-claims t) (advance-beside-at t) advance-beside.Post
+advance-beside-add-advance-part measure c =
+    let s₀ = c .before .before .before .before .before .before in
+    omega (arith, s₀ .pre .1 .0)
 
 advance-beside-advance-part-requires : (t : ℕ) → advance-beside-lts.Need-advance-part-requires (advance-beside-claims t) (advance-beside-at t) advance-beside.Post
 advance-beside-advance-part-requires measure c κs =
-    let s₀ = c .before .before .before in
-    (omega (arith, s₀ .pre .0), fit-left (s₀ .pre .1))
+    let s₀ = c .before .before .before .before .before .before .before in
+    let nodes = s₀ .args .nodes .now in
+    let run = s₀ .args .run .now in
+    let left = s₀ .args .left in
+    let i = s₀ .args .i in
+    let env = env-of (s₀ .args .m) (s₀ .args .pos .now) (s₀ .args .byte .now) in
+    let t = s₀ .args .t in
+    let at-node-word = c .before .before .before .node-word in
+    let at-node-word2 = c .before .node-word2 in
+    let fit = fit-beside env t (length run) (tree-at left nodes (i + 12)) (tree-at left nodes) (at-node-word .ensures) (at-node-word2 .ensures) (s₀ .pre .1 .1) in
+    (omega (arith, s₀ .pre .0), fit-left fit)
 
 advance-beside-advance-part-requires-2 : (t : ℕ) → advance-beside-lts.Need-advance-part-requires-2 (advance-beside-claims t) (advance-beside-at t) advance-beside.Post
 advance-beside-advance-part-requires-2 measure c κs =
-    let s₀ = c .before .before .before .before .before .before .before in
+    let s₀ = c .before .before .before .before .before .before .before .before .before .before .before in
+    let nodes = s₀ .args .nodes .now in
+    let run = s₀ .args .run .now in
+    let left = s₀ .args .left in
+    let i = s₀ .args .i in
+    let env = env-of (s₀ .args .m) (s₀ .args .pos .now) (s₀ .args .byte .now) in
+    let t = s₀ .args .t in
     let at-advance-part = c .before .before .before .advance-part in
-    (omega (arith, s₀ .pre .0), fit-right (length (at-advance-part .last .1 .1 .1 .0)) (at-advance-part .kept .1 .1 .1 .0) (s₀ .pre .1))
+    let at-node-word = c .before .before .before .before .before .before .before .node-word in
+    let at-node-word2 = c .before .before .before .before .before .node-word2 in
+    let fit = fit-beside env t (length run) (tree-at left nodes (i + 12)) (tree-at left nodes) (at-node-word .ensures) (at-node-word2 .ensures) (s₀ .pre .1 .1) in
+    (omega (arith, s₀ .pre .0), fit-right (length (at-advance-part .last .1 .1 .1 .0)) (at-advance-part .kept .1 .1 .1 .0) fit)
 
 advance-beside-both-requires : (t : ℕ) → advance-beside-lts.Need-both-requires (advance-beside-claims t) (advance-beside-at t) advance-beside.Post
 advance-beside-both-requires t c κs = search needs
@@ -524,11 +501,52 @@ advance-beside-same-length t c = search needs
 
 advance-beside-returns : (t : ℕ) → advance-beside-lts.Need-returns (advance-beside-claims t) (advance-beside-at t) advance-beside.Post
 advance-beside-returns measure c =
-    let s₀ = c .before .before .before .before .before .before .before .before .before .before .before in
+    let s₀ = c .before .before .before .before .before .before .before .before .before .before .before .before .before .before .before in
+    let nodes = s₀ .args .nodes .now in
+    let run = s₀ .args .run .now in
+    let hist = s₀ .args .history .now in
+    let left = s₀ .args .left in
+    let i = s₀ .args .i in
+    let b = s₀ .args .flag in
+    let env = env-of (s₀ .args .m) (s₀ .args .pos .now) (s₀ .args .byte .now) in
+    let s = s₀ .args .s in
+    let t = s₀ .args .t in
     let at-advance-part = c .before .before .before .before .before .before .before .advance-part in
     let at-advance-part2 = c .before .before .before .advance-part2 in
     let at-both = c .both in
-    beside-of (at-advance-part .last .1 .1 .1 .0) (at-advance-part2 .last .1 .1 .1 .0) (at-advance-part .result) (at-advance-part2 .result) (at-both .result) (fit-left (s₀ .pre .1) .end) (at-advance-part .ensures) (at-advance-part2 .ensures) (at-both .ensures)
+    let at-node-word = c .before .before .before .before .before .before .before .before .before .before .before .node-word in
+    let at-node-word2 = c .before .before .before .before .before .before .before .before .before .node-word2 in
+    let fit = fit-beside env t (length run) (tree-at left nodes (i + 12)) (tree-at left nodes) (at-node-word .ensures) (at-node-word2 .ensures) (s₀ .pre .1 .1) in
+    subst (λ (m : ℕ). Advanced (beside-node (getD nodes (i + 10) 0) (tree-at left nodes (i + 12)) (tree-at left nodes m)) hist b env s t run (at-both .result) (at-advance-part2 .last .1 .1 .1 .0)) (at-node-word2 .ensures)
+    (subst (λ (n : ℕ). Advanced (beside-node n (tree-at left nodes (i + 12)) (tree-at left nodes (at-node-word2 .result))) hist b env s t run (at-both .result) (at-advance-part2 .last .1 .1 .1 .0)) (at-node-word .ensures)
+    (beside-of (at-advance-part .last .1 .1 .1 .0) (at-advance-part2 .last .1 .1 .1 .0) (at-advance-part .result) (at-advance-part2 .result) (at-both .result) (fit-left fit .end) (at-advance-part .ensures) (at-advance-part2 .ensures) (at-both .ensures)))
+
+advance-not-skip-nots-requires : (t : ℕ) → advance-not-lts.Need-skip-nots-requires (advance-not-claims t) (advance-not-at t) advance-not.Post
+advance-not-skip-nots-requires t c κs = search needs
+
+advance-not-advance-requires : (t : ℕ) → advance-not-lts.Need-advance-requires (advance-not-claims t) (advance-not-at t) advance-not.Post
+advance-not-advance-requires measure c κs =
+    let s₀ = c .before .before .before .before .before in
+    let nodes = s₀ .args .nodes .now in
+    let left = s₀ .args .left in
+    let i = s₀ .args .i in
+    let at-skip-nots = c .before .skip-nots in
+    let u = at-skip-nots .result in
+    (omega (arith, s₀ .pre .0, nots-less nodes left i false u (at-skip-nots .ensures) (s₀ .pre .1 .0) (s₀ .pre .1 .1 .0)), fit-nots nodes left i u (at-skip-nots .ensures) (s₀ .pre .1 .1 .1))
+
+advance-not-opposite-if-requires : (t : ℕ) → advance-not-lts.Need-opposite-if-requires (advance-not-claims t) (advance-not-at t) advance-not.Post
+advance-not-opposite-if-requires t c κs = search needs
+
+advance-not-same-length : (t : ℕ) → advance-not-lts.Need-same-length (advance-not-claims t) (advance-not-at t) advance-not.Post
+advance-not-same-length t c = search needs
+
+advance-not-returns : (t : ℕ) → advance-not-lts.Need-returns (advance-not-claims t) (advance-not-at t) advance-not.Post
+advance-not-returns measure c =
+    let s₀ = c .before .before .before .before .before .before .before .before .before in
+    let at-skip-nots = c .before .before .before .before .before .skip-nots in
+    let at-advance = c .before .before .before .advance in
+    let at-opposite-if = c .opposite-if in
+    nots-of (s₀ .args .nodes .now) (s₀ .args .left) (s₀ .args .i) (at-skip-nots .result) (at-skip-nots .ensures) (at-advance .result) (at-opposite-if .result) (at-advance .last .1 .1 .1 .0) (at-advance .ensures) (at-opposite-if .ensures)
 
 advance-part-own-tick-requires : (t : ℕ) → advance-part-lts.Need-own-tick-requires (advance-part-claims t) (advance-part-at t) advance-part.Post
 advance-part-own-tick-requires t c κs = search needs
@@ -730,8 +748,7 @@ advance-range-load-head-requires measure c κs =
 advance-range-add-walk-positions : (t : ℕ) → advance-range-lts.Need-add-walk-positions (advance-range-claims t) (advance-range-at t) advance-range.Post
 advance-range-add-walk-positions measure c =
     let s₀ = c .before .before .before .before .before .before .before .before .before .before in
-    let at-slot-words-arg = c .before .before .before .before .before .before .before .slot-words-arg in
-    omega (arith, s₀ .pre .1 .0, at-slot-words-arg .given)
+    omega (arith, s₀ .pre .1 .0)
 
 advance-range-sub-walk-positions : (t : ℕ) → advance-range-lts.Need-sub-walk-positions (advance-range-claims t) (advance-range-at t) advance-range.Post
 advance-range-sub-walk-positions measure c =
@@ -820,10 +837,15 @@ advance-range-returns measure c =
     (omega (arith, fit-few (s₀ .pre .1 .1) s (at-plan-up-to .result .first) (at-plan-up-to .result .n) (at-plan-up-to .result .end) plan, at-slot-words .ensures .1))
     (at-load-head .ensures .0) (at-load-head .ensures .1) (at-walk-positions .ensures) refl (at-store-head .ensures) (at-both .ensures)
 
+advance-then-add-advance-part : (t : ℕ) → advance-then-lts.Need-add-advance-part (advance-then-claims t) (advance-then-at t) advance-then.Post
+advance-then-add-advance-part measure c =
+    let s₀ = c .before .before in
+    omega (arith, s₀ .pre .1 .0)
+
 advance-then-advance-part-requires : (t : ℕ) → advance-then-lts.Need-advance-part-requires (advance-then-claims t) (advance-then-at t) advance-then.Post
 advance-then-advance-part-requires measure c κs =
     let s₀ = c .before .before .before in
-    (omega (arith, s₀ .pre .0), fit-first (s₀ .pre .1))
+    (omega (arith, s₀ .pre .0), fit-first (s₀ .pre .1 .1))
 
 advance-then-enum-told : (t : ℕ) → advance-then-lts.Need-enum-told (advance-then-claims t) (advance-then-at t) advance-then.Post
 advance-then-enum-told t c = search needs
@@ -837,31 +859,42 @@ advance-then-enum-told-2 t c = search needs
 advance-then-enum-told-3 : (t : ℕ) → advance-then-lts.Need-enum-told-3 (advance-then-claims t) (advance-then-at t) advance-then.Post
 advance-then-enum-told-3 t c = search needs
 
+advance-then-node-word-requires : (t : ℕ) → advance-then-lts.Need-node-word-requires (advance-then-claims t) (advance-then-at t) advance-then.Post
+advance-then-node-word-requires t c κs = search needs
+
+advance-then-cast-g : (t : ℕ) → advance-then-lts.Need-cast-g (advance-then-claims t) (advance-then-at t) advance-then.Post
+advance-then-cast-g t c = search needs
+
 advance-then-sub-advance : (t : ℕ) → advance-then-lts.Need-sub-advance (advance-then-claims t) (advance-then-at t) advance-then.Post
 advance-then-sub-advance measure c =
-    let s₀ = c .before .before .before .before .before .before .before .before .before .before .before in
-    let at-advance-part = c .before .before .before .before .before .before .before .advance-part in
-    omega (arith, fit-first (s₀ .pre .1) .start, at-advance-part .kept .1 .1 .1 .0)
+    let s₀ = c .before .before .before .before .before .before .before .before .before .before .before .before .before in
+    let at-advance-part = c .before .before .before .before .before .before .before .before .before .advance-part in
+    omega (arith, fit-first (s₀ .pre .1 .1) .start, at-advance-part .kept .1 .1 .1 .0)
 
 advance-then-part-advance-start : (t : ℕ) → advance-then-lts.Need-part-advance-start (advance-then-claims t) (advance-then-at t) advance-then.Post
 advance-then-part-advance-start measure c =
-    let s₀ = c .before .before .before .before .before .before .before .before .before .before .before in
-    let at-advance-part = c .before .before .before .before .before .before .before .advance-part in
-    omega (arith, fit-first (s₀ .pre .1) .start, at-advance-part .kept .1 .1 .1 .0)
+    let s₀ = c .before .before .before .before .before .before .before .before .before .before .before .before .before in
+    let at-advance-part = c .before .before .before .before .before .before .before .before .before .advance-part in
+    omega (arith, fit-first (s₀ .pre .1 .1) .start, at-advance-part .kept .1 .1 .1 .0)
 
 advance-then-part-advance-end : (t : ℕ) → advance-then-lts.Need-part-advance-end (advance-then-claims t) (advance-then-at t) advance-then.Post
 advance-then-part-advance-end t c = search needs
 
 advance-then-advance-requires : (t : ℕ) → advance-then-lts.Need-advance-requires (advance-then-claims t) (advance-then-at t) advance-then.Post
 advance-then-advance-requires measure c κs =
-    let s₀ = c .before .before .before .before .before .before .before .before .before .before .before .before in
+    let s₀ = c .before .before .before .before .before .before .before .before .before .before .before .before .before .before in
     let nodes = s₀ .args .nodes .now in
     let left = s₀ .args .left in
     let env = env-of (s₀ .args .m) (s₀ .args .pos .now) (s₀ .args .byte .now) in
     let t = s₀ .args .t in
-    let g = s₀ .args .g in
-    let at-advance-part = c .before .before .before .before .before .before .before .before .advance-part in
-    (omega (arith, s₀ .pre .0), subst (Fit (tree-at left nodes g) env t) (sym (tail-length (at-advance-part .last .1 .1 .1 .0) ∙ ap (λ (n : ℕ). n - 4) (at-advance-part .kept .1 .1 .1 .0))) (fit-second (s₀ .pre .1)))
+    let at-advance-part = c .before .before .before .before .before .before .before .before .before .before .advance-part in
+    let at-node-word = c .before .node-word in
+    let mid = at-advance-part .last .1 .1 .1 .0 in
+    let long = tail-length mid ∙ ap (λ (n : ℕ). n - 4) (at-advance-part .kept .1 .1 .1 .0) in (
+      omega (arith, s₀ .pre .0),
+      subst (λ (n : ℕ). Fit (tree-at left nodes n) env t (length (take (length mid - 4) (drop 4 mid)))) (sym (at-node-word .ensures))
+          (subst (Fit (tree-at left nodes (getD nodes (s₀ .args .i + 7) 0)) env t) (sym long) (fit-second (s₀ .pre .1 .1))),
+    )
 
 advance-then-same-length : (t : ℕ) → advance-then-lts.Need-same-length (advance-then-claims t) (advance-then-at t) advance-then.Post
 advance-then-same-length t c = search needs
@@ -877,11 +910,10 @@ advance-then-returns measure c =
     let env = env-of (s₀ .args .m) (s₀ .args .pos .now) (s₀ .args .byte .now) in
     let s = s₀ .args .s in
     let t = s₀ .args .t in
-    let f = s₀ .args .f in
-    let g = s₀ .args .g in
+    let i = s₀ .args .i in
     let at-advance-part = c .before .before .before .before .advance-part in
     let at-enum-told = c .enum-told in
-    then-open (tree-at left nodes f) (tree-at left nodes g) hist b env s t run (at-advance-part .last .1 .1 .1 .0) (at-advance-part .result) (at-advance-part .ensures) (at-enum-told .given .1)
+    then-open (tree-at left nodes (i + 12)) (tree-at left nodes (getD nodes (i + 7) 0)) hist b env s t run (at-advance-part .last .1 .1 .1 .0) (at-advance-part .result) (at-advance-part .ensures) (at-enum-told .given .1)
 
 advance-then-same-length-2 : (t : ℕ) → advance-then-lts.Need-same-length-2 (advance-then-claims t) (advance-then-at t) advance-then.Post
 advance-then-same-length-2 t c = search needs
@@ -897,35 +929,37 @@ advance-then-returns-2 measure c =
     let env = env-of (s₀ .args .m) (s₀ .args .pos .now) (s₀ .args .byte .now) in
     let s = s₀ .args .s in
     let t = s₀ .args .t in
-    let f = s₀ .args .f in
-    let g = s₀ .args .g in
+    let i = s₀ .args .i in
     let at-advance-part = c .before .before .before .before .before .before .before .advance-part in
     let at-o = c .before .before .before .o in
     let at-enum-told2 = c .enum-told2 in
-    then-false (tree-at left nodes f) (tree-at left nodes g) hist b env s t run (at-advance-part .last .1 .1 .1 .0) (at-advance-part .result) _ _ (at-advance-part .ensures) (at-o .given .1) (at-enum-told2 .given .1)
+    then-false (tree-at left nodes (i + 12)) (tree-at left nodes (getD nodes (i + 7) 0)) hist b env s t run (at-advance-part .last .1 .1 .1 .0) (at-advance-part .result) _ _ (at-advance-part .ensures) (at-o .given .1) (at-enum-told2 .given .1)
 
 advance-then-same-length-3 : (t : ℕ) → advance-then-lts.Need-same-length-3 (advance-then-claims t) (advance-then-at t) advance-then.Post
 advance-then-same-length-3 t c = search needs
 
 advance-then-returns-3 : (t : ℕ) → advance-then-lts.Need-returns-3 (advance-then-claims t) (advance-then-at t) advance-then.Post
 advance-then-returns-3 measure c =
-    let s₀ = c .before .before .before .before .before .before .before .before .before .before .before .before .before .before .before in
+    let s₀ = c .before .before .before .before .before .before .before .before .before .before .before .before .before .before .before .before .before in
     let nodes = s₀ .args .nodes .now in
     let run = s₀ .args .run .now in
     let hist = s₀ .args .history .now in
     let left = s₀ .args .left in
+    let i = s₀ .args .i in
     let b = s₀ .args .flag in
     let env = env-of (s₀ .args .m) (s₀ .args .pos .now) (s₀ .args .byte .now) in
     let s = s₀ .args .s in
     let t = s₀ .args .t in
-    let f = s₀ .args .f in
-    let g = s₀ .args .g in
-    let at-advance-part = c .before .before .before .before .before .before .before .before .before .before .before .advance-part in
-    let at-o = c .before .before .before .before .before .before .before .o in
-    let at-enum-told3 = c .before .before .before .before .enum-told3 in
+    let at-advance-part = c .before .before .before .before .before .before .before .before .before .before .before .before .before .advance-part in
+    let at-o = c .before .before .before .before .before .before .before .before .before .o in
+    let at-enum-told3 = c .before .before .before .before .before .before .enum-told3 in
+    let at-node-word = c .before .before .before .before .node-word in
     let at-advance = c .before .before .advance in
-    then-true (tree-at left nodes f) (tree-at left nodes g) hist b env s t run (at-advance-part .last .1 .1 .1 .0) (at-advance-part .result) (at-advance .result) _ _ (at-advance .last .1 .1 .1 .0) (take (length (at-advance-part .last .1 .1 .1 .0) - 4) (drop 4 (at-advance-part .last .1 .1 .1 .0))) _ (at-advance-part .ensures) (at-o .given .1) (at-enum-told3 .given .1)
-    (omega (arith, fit-first (s₀ .pre .1) .start, at-advance-part .kept .1 .1 .1 .0)) (tail-take (at-advance-part .last .1 .1 .1 .0)) (at-advance .ensures) refl
+    let mid = at-advance-part .last .1 .1 .1 .0 in
+    let end = at-advance .last .1 .1 .1 .0 in
+    subst (λ (n : ℕ). Advanced (then-node (tree-at left nodes (i + 12)) (tree-at left nodes n)) hist b env s t run (at-advance .result) (putMid 4 (length mid - 4) mid end)) (at-node-word .ensures)
+    (then-true (tree-at left nodes (i + 12)) (tree-at left nodes (at-node-word .result)) hist b env s t run mid (at-advance-part .result) (at-advance .result) _ _ end (take (length mid - 4) (drop 4 mid)) (putMid 4 (length mid - 4) mid end) (at-advance-part .ensures) (at-o .given .1) (at-enum-told3 .given .1)
+    (omega (arith, fit-first (s₀ .pre .1 .1) .start, at-advance-part .kept .1 .1 .1 .0)) (tail-take mid) (at-advance .ensures) refl)
 
 abbrev walk-positions-Inv-loop : walk-positions-lts.InvT-loop
 walk-positions-Inv-loop nodes left i run₀ hist b m pos byte s t first leading n z acc₀ j₀ run acc j =
@@ -1060,12 +1094,13 @@ walk-positions-returns measure c =
     let at-loop-test = c .loop-test in
     walk-done (at-loop .j) (at-loop .acc) (at-loop .run) (at-loop .inv .1 .0) (λ x. omega (arith, x, at-loop-test .left)) (at-loop .inv .1 .1 .1)
 
-pub +advance+advance-beside+advance-part+advance-position+advance-range+advance-then+walk-positions-spec :
+pub +advance+advance-beside+advance-not+advance-part+advance-position+advance-range+advance-then+walk-positions-spec :
     {M : Type 1} → statement M
-+advance+advance-beside+advance-part+advance-position+advance-range+advance-then+walk-positions-spec =
++advance+advance-beside+advance-not+advance-part+advance-position+advance-range+advance-then+walk-positions-spec =
     close
     μ-advance
     μ-advance-beside
+    μ-advance-not
     μ-advance-part
     μ-advance-position
     μ-advance-range
@@ -1074,48 +1109,47 @@ pub +advance+advance-beside+advance-part+advance-position+advance-range+advance-
     (λ t. advance-lts.spec (advance-claims t)
     (advance-at t)
     advance.Post
-    (advance-flag-at-requires t)
+    (advance-is-flag-requires t)
+    (advance-flag-in-requires t)
     (advance-returns t)
     (advance-node-word-requires t)
-    (advance-skip-nots-requires t)
-    (advance-advance-requires t)
-    (advance-opposite-if-requires t)
+    (advance-advance-not-requires t)
     (advance-same-length t)
     (advance-returns-2 t)
-    (advance-node-word-requires-2 t)
-    (advance-cast-g t)
     (advance-sub-advance-then t)
-    (advance-add-advance-then t)
     (advance-advance-then-requires t)
     (advance-same-length-2 t)
     (advance-returns-3 t)
-    (advance-node-word-requires-3 t)
-    (advance-cast-g-2 t)
-    (advance-node-word-requires-4 t)
-    (advance-cast-w t)
     (advance-sub-advance-beside t)
-    (advance-add-advance-beside t)
     (advance-advance-beside-requires t)
     (advance-same-length-3 t)
     (advance-returns-4 t)
     (advance-sub-advance-range t)
     (advance-advance-range-requires t)
     (advance-same-length-4 t)
-    (advance-returns-5 t)
-    (advance-node-word-requires-5 t)
-    (advance-cast-v t)
-    (advance-node-word-requires-6 t)
-    (advance-flag-at-requires-2 t)
-    (advance-returns-6 t))
+    (advance-returns-5 t))
     (λ t. advance-beside-lts.spec (advance-beside-claims t)
     (advance-beside-at t)
     advance-beside.Post
+    (advance-beside-node-word-requires t)
+    (advance-beside-cast-mid t)
     (advance-beside-add-mid t)
+    (advance-beside-node-word-requires-2 t)
+    (advance-beside-cast-g t)
+    (advance-beside-add-advance-part t)
     (advance-beside-advance-part-requires t)
     (advance-beside-advance-part-requires-2 t)
     (advance-beside-both-requires t)
     (advance-beside-same-length t)
     (advance-beside-returns t))
+    (λ t. advance-not-lts.spec (advance-not-claims t)
+    (advance-not-at t)
+    advance-not.Post
+    (advance-not-skip-nots-requires t)
+    (advance-not-advance-requires t)
+    (advance-not-opposite-if-requires t)
+    (advance-not-same-length t)
+    (advance-not-returns t))
     (λ t. advance-part-lts.spec (advance-part-claims t)
     (advance-part-at t)
     advance-part.Post
@@ -1170,11 +1204,14 @@ pub +advance+advance-beside+advance-part+advance-position+advance-range+advance-
     (λ t. advance-then-lts.spec (advance-then-claims t)
     (advance-then-at t)
     advance-then.Post
+    (advance-then-add-advance-part t)
     (advance-then-advance-part-requires t)
     (advance-then-enum-told t)
     (advance-then-enum-known-o t)
     (advance-then-enum-told-2 t)
     (advance-then-enum-told-3 t)
+    (advance-then-node-word-requires t)
+    (advance-then-cast-g t)
     (advance-then-sub-advance t)
     (advance-then-part-advance-start t)
     (advance-then-part-advance-end t)

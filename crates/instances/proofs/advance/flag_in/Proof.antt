@@ -1,0 +1,33 @@
+-- `advance::flag_in` meets its contract.
+use Prim.Native.Nat.{ℕ, _+_}
+use mathlib.Core.Path.{ap, _∙_}
+use native.Mathlib.Omega.{arith}
+use lib.ListN.{getD}
+use Rattle.instances.specs.Calls.{flagged}
+use borrow.Author.Needs.{needs}
+use Rattle.instances.proofs.advance.flag_in.Statement.{statement}
+use Rattle.instances.proofs.advance.flag_in.Tie as tie
+
+node-word-requires : tie.Need-node-word-requires
+node-word-requires c κs = search needs
+
+cast-v : tie.Need-cast-v
+cast-v c = search needs
+
+node-word-requires-2 : tie.Need-node-word-requires-2
+node-word-requires-2 c κs = search needs
+
+flag-at-requires : tie.Need-flag-at-requires
+flag-at-requires c κs = search needs
+
+returns : tie.Need-returns
+returns c =
+    let s₀ = c .before .before .before .before in
+    let bytes = s₀ .args .byte .now in
+    let v = c .before .before .node-word in
+    let k = c .before .node-word2 in
+    c .flag-at .ensures ∙ ap (λ (n : ℕ). flagged bytes n (k .result) (s₀ .args .s)) (v .ensures) ∙ ap (λ (n : ℕ). flagged bytes (getD (s₀ .args .nodes .now) (s₀ .args .i + 1) 0) n (s₀ .args .s)) (k .ensures)
+
+pub flag-in-spec : {M : Type 1} → statement M
+flag-in-spec =
+    tie.close (tie.spec node-word-requires cast-v node-word-requires-2 flag-at-requires returns)
