@@ -30,8 +30,8 @@ oldest-tick-requires c κs = search needs
 -- src/instances.rt:136:9
 move-ticks-requires : tie.Need-move-ticks-requires
 move-ticks-requires c κs =
-    let s₀ = c .before .before .before .before .before .before .before .before .before .before in
-    (rule-fits (s₀ .args .nodes .now) (s₀ .args .figures) (length (s₀ .args .history .now)) (s₀ .args .t) (length (s₀ .args .cells .now)) (length (s₀ .args .report .now)) (s₀ .pre), c .before .before .before .before .oldest-tick .ensures)
+    let s₀ = c .before .before .before .before .before .before .before .before .before in
+    (rule-fits (s₀ .args .nodes .now) (s₀ .args .figures) (length (s₀ .args .history .now)) (s₀ .args .t) (length (s₀ .args .cells .now)) (length (s₀ .args .report .now)) (s₀ .pre), c .before .before .before .oldest-tick .ensures)
 
 -- src/instances.rt:137:5
 remember-requires : tie.Need-remember-requires
@@ -52,9 +52,9 @@ same-length-3 c = search needs
 -- src/instances.rt:121:1
 returns : tie.Need-returns
 returns c =
-    let s₀ = c .before .before .before .before .before .before .before .before .before .before .before .before .before .before .before .before .before .before .before in
+    let s₀ = c .before .before .before .before .before .before .before .before .before .before .before .before .before .before .before .before .before .before in
     let moved = c .before .before .before .before .before .before .before .before .move-ticks in
-    let oldest = c .before .before .before .before .before .before .before .before .before .before .before .before .before .oldest-tick in
+    let oldest = c .before .before .before .before .before .before .before .before .before .before .before .before .oldest-tick in
     let stored = c .before .before .remember in
     rule-takes (s₀ .args .nodes .now) (s₀ .args .figures) _ (s₀ .args .history .now) (s₀ .args .flag) (s₀ .args .t) (oldest .result) (s₀ .args .cells .now) (s₀ .args .report .now) (moved .result .reported) (moved .result .live)
     (moved .last .1 .1 .0) (moved .last .1 .1 .1 .1 .1 .0) refl (oldest .ensures) (s₀ .pre .cells-fit) (moved .kept .1 .1 .0) (moved .ensures .0)
