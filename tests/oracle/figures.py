@@ -1,14 +1,13 @@
 #!/usr/bin/env python3
 """The figures of bodies, worked out from the papers alone ("Figures" of document 01), for crates/figures_cases.
 
-  python3 tests/oracle/figures.py crates/figures_cases/src/{marked,layout,limits}.rt     what that program must write (its file stdout)
+  python3 tests/oracle/figures.py crates/figures_cases/data/cases.txt     what that program must write (its file stdout)
 
-It takes the names and bodies of the calls `case(b"name", b"body")` out of the program's sources, in order, and writes the line that
-the papers ask for each. Bodies are read by paper.py beside it.
+Cases are read by cases.py and bodies by paper.py beside it.
 """
-import re
 import sys
 
+from cases import bytes_of, cases
 from paper import INF, Refused, read
 
 # ---- "Figures"
@@ -105,25 +104,13 @@ def answer(data):
         return "refused %d" % why.args[0]
 
 
-# ---- the cases of a program
+# ---- the cases of the program
 
 
-def text(literal):
-    return re.sub(rb"\\x([0-9a-f]{2})", lambda m: bytes([int(m.group(1), 16)]), literal)
-
-
-def cases(path):
-    """Name and bytes of each call `case(b"name", b"bytes")` of a program's source."""
-    with open(path, "rb") as source:
-        found = re.findall(rb'case\(\s*b"([^"]*)",\s*b"([^"]*)",?\s*\)', source.read())
-    return [(name.decode(), text(literal)) for name, literal in found]
-
-
-def main():
-    for path in sys.argv[1:]:
-        for name, body in cases(path):
-            print("%s: %s" % (name, answer(body)))
+def main(path):
+    for name, body in cases(path):
+        print("%s: %s" % (name, answer(bytes_of(body))))
 
 
 if __name__ == "__main__":
-    main()
+    main(sys.argv[1])

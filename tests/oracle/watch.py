@@ -2,17 +2,18 @@
 """What the program `watch` prints, worked out a second time from the papers alone ("The sheet", "The program `watch`").
 
   watch.py print SHEET FLAGS      what watch prints for these two files; one that is missing counts as empty
-  watch.py refusals SOURCE        what crates/watch_refusals must print, from the names and sheets in its source
+  watch.py refusals CASES         what crates/watch_refusals must print for the sheets of its file data/cases.txt
   watch.py long FOLDER            makes the sheet and the flags of crates/watch_long in a folder
   watch.py large FOLDER           the same of crates/watch_large_sheet
 
-Bodies are read and evaluated by paper.py, and measured by figures.py, beside it. Tick p is decided by step p + delay, so the outcome over
+Cases are read by cases.py, bodies read and evaluated by paper.py and measured by figures.py, beside it. Tick p is decided by step p + delay, so the outcome over
 the stream up to that step, or up to its end, says which it is.
 """
 import os
 import sys
 
-from figures import cases, figures
+from cases import bytes_of, cases
+from figures import figures
 from paper import OPEN, Refused, outcome, read
 
 # ---- "The sheet"
@@ -119,9 +120,9 @@ def shown(sheet, flags):
     print("\n".join(watch(content(sheet), content(flags))))
 
 
-def refusals(source):
-    for name, sheet in cases(source):
-        print("%s: %s" % (name, "\n".join(watch(sheet, b""))))
+def refusals(path):
+    for name, sheet in cases(path):
+        print("%s: %s" % (name, "\n".join(watch(bytes_of(sheet), b""))))
 
 
 if __name__ == "__main__":

@@ -1,5 +1,11 @@
-// Outcomes over short recordings, at every tick and one after the end, and refused bodies. The file stdout is what
-// tests/oracle/outcomes.py worked out from the papers alone; each body and its flags are written before its outcomes.
+// Outcomes over short recordings, and refused bodies. A case is a line of data/cases.txt, as the crate case_file reads it: a name, a body and flag bytes,
+// of which every tick is shown and the one after the end; or these and a tick, which alone is shown. The file stdout is what tests/oracle/outcomes.py
+// works out from the papers alone, from the same lines (tests/oracle/run runs it).
+use case_file::has_bar;
+use case_file::past_bar;
+use case_file::read_bytes;
+use case_file::say_malformed;
+use case_file::to_bar;
 use outcome_text::bytes;
 use outcome_text::outcome;
 use outcome_text::text;
@@ -17,269 +23,70 @@ fn every_tick(name: &[u8], body: &[u8], flags: &[u8]) {
     outcome(body, flags, flags.len());
 }
 
-// A body that is refused.
-fn refused(name: &[u8], body: &[u8]) {
+// One tick.
+fn one_tick(name: &[u8], body: &[u8], flags: &[u8], tick: usize) {
     text(name);
     bytes(b"\nbody", body);
-    outcome(body, b"\x00\x01\x01\x00\x01\x01\x01\x01\x00\x00", 0);
+    outcome(body, flags, tick);
 }
 
-fn example() {
-    let stream = b"\x00\x01\x01\x00\x01\x01\x01\x01\x00\x00";
-    every_tick(
-        b"the example of document 000",
-        b"\x02\x04\x01\x00\x00\x05\x02\x00\xff\xff\x02\x00\x02\x00\x01\x01\x00",
-        stream,
-    );
+// What is asked of a recording, which begins the rest of its line: every tick, or the one behind the next bar.
+fn ask(line: &[u8], body: &[u8], flags: &[u8], rest: &[u8]) {
+    let name = case_file::name(line);
+    if !has_bar(rest) {
+        every_tick(name, body, flags);
+        return;
+    }
+    let field = past_bar(rest);
+    let tick = case_file::number_at(field, 1);
+    if tick.end < 2 || tick.end != field.len() {
+        say_malformed(line);
+        return;
+    }
+    one_tick(name, body, flags, tick.value);
 }
 
-fn flags_and_not() {
-    let mixed = b"\x07\x06\x85\x01\x03\x07\x81\x05\x07\x00";
-    every_tick(b"flag 0", b"\x01\x00\x00", mixed);
-    every_tick(b"flag 7", b"\x01\x00\x07", mixed);
-    every_tick(b"not", b"\x02\x01\x00\x01", mixed);
+// A case, from the fields after its name.
+fn take_fields(line: &[u8], body_field: &[u8], rest: &[u8]) {
+    let mut body_space = io::buffer();
+    let body = read_bytes(body_field, &mut body_space);
+    let mut flag_space = io::large_buffer();
+    let flags = read_bytes(to_bar(rest), &mut flag_space);
+    if body.malformed || flags.malformed {
+        say_malformed(line);
+        return;
+    }
+    let n = body.count;
+    let m = flags.count;
+    ask(line, &body_space[..n], &flag_space[..m], rest);
 }
 
-fn conjunctions() {
-    let stream = b"\x00\x01\x01\x00\x01\x01\x01\x01\x00\x00";
-    let mixed = b"\x07\x06\x85\x01\x03\x07\x81\x05\x07\x00";
-    every_tick(
-        b"A then B",
-        b"\x03\x05\x02\x00\x00\x00\x02\x00\x02\x00\x01\x01\x00\x05\x02\x00\xff\xff\x02\x00\x00\x00\x01\x01\x00",
-        stream,
-    );
-    every_tick(
-        b"A beside B",
-        b"\x04\x05\x02\x00\x00\x00\x02\x00\x02\x00\x01\x01\x00\x05\x02\x00\xff\xff\x02\x00\x00\x00\x01\x01\x00",
-        stream,
-    );
-    every_tick(
-        b"then: B starts at A's step",
-        b"\x03\x05\x02\x00\x00\x00\x02\x00\x02\x00\x01\x01\x00\x01\x00\x00",
-        mixed,
-    );
+// A line of the file.
+fn take_line(line: &[u8]) {
+    if !case_file::is_case(line) {
+        return;
+    }
+    let fields = past_bar(line);
+    if case_file::name(line).len() == 0 || !has_bar(fields) {
+        say_malformed(line);
+        return;
+    }
+    take_fields(line, to_bar(fields), past_bar(fields));
 }
 
-fn ranges_over_ticks() {
-    let stream = b"\x00\x01\x01\x00\x01\x01\x01\x01\x00\x00";
-    let mixed = b"\x07\x06\x85\x01\x03\x07\x81\x05\x07\x00";
-    every_tick(
-        b"for all from X-3 to X-1",
-        b"\x05\x02\x00\xfd\xff\x02\x00\xff\xff\x01\x01\x00",
-        stream,
-    );
-    every_tick(
-        b"for all from 0 to X",
-        b"\x05\x00\x00\x00\x00\x02\x00\x00\x00\x01\x01\x01",
-        mixed,
-    );
-    every_tick(
-        b"for all from 2 to X-1",
-        b"\x05\x00\x00\x02\x00\x02\x00\xff\xff\x01\x01\x00",
-        stream,
-    );
-    every_tick(
-        b"for all from X to 0",
-        b"\x05\x02\x00\x00\x00\x00\x00\x00\x00\x01\x01\x00",
-        stream,
-    );
-}
-
-fn ranges_to_infinity() {
-    let stream = b"\x00\x01\x01\x00\x01\x01\x01\x01\x00\x00";
-    every_tick(
-        b"for all from X to infinity",
-        b"\x05\x02\x00\x00\x00\x01\x00\x00\x00\x01\x01\x00",
-        stream,
-    );
-    every_tick(
-        b"not for all from X+1 to infinity",
-        b"\x02\x05\x02\x00\x01\x00\x01\x00\x00\x00\x01\x01\x01",
-        stream,
-    );
-    every_tick(
-        b"for all from X to infinity, true so far",
-        b"\x05\x02\x00\x00\x00\x01\x00\x00\x00\x02\x01\x01\x06",
-        stream,
-    );
-    every_tick(
-        b"for all from X-3 to X+2, true so far",
-        b"\x05\x02\x00\xfd\xff\x02\x00\x02\x00\x02\x01\x01\x06",
-        stream,
-    );
-    every_tick(
-        b"for all from infinity to X",
-        b"\x05\x01\x00\x00\x00\x02\x00\x00\x00\x01\x01\x00",
-        stream,
-    );
-}
-
-fn nested() {
-    let stream = b"\x00\x01\x01\x00\x01\x01\x01\x01\x00\x00";
-    let mixed = b"\x07\x06\x85\x01\x03\x07\x81\x05\x07\x00";
-    every_tick(
-        b"some Z from Y to Y+1, for all Y from X to X+2",
-        b"\x05\x02\x00\x00\x00\x02\x00\x02\x00\x02\x05\x02\x01\x00\x00\x02\x01\x01\x00\x02\x01\x02\x00",
-        stream,
-    );
-    every_tick(
-        b"Y from X to X+10, Z from X to X",
-        b"\x05\x02\x00\x00\x00\x02\x00\x0a\x00\x05\x02\x00\x00\x00\x02\x00\x00\x00\x01\x02\x00",
-        stream,
-    );
-    every_tick(
-        b"the smallest false step",
-        b"\x05\x02\x00\x00\x00\x02\x00\x03\x00\x04\x02\x03\x01\x01\x01\x05\x02\x01\x00\x00\x02\x01\x03\x00\x01\x02\x00\x01\x01\x02",
-        mixed,
-    );
-    every_tick(
-        b"four quantifiers",
-        b"\x05\x02\x00\x00\x00\x02\x00\x01\x00\x05\x02\x01\x00\x00\x02\x01\x01\x00\x05\x02\x02\x00\x00\x02\x02\x01\x00\x05\x02\x03\x00\x00\x02\x03\x00\x00\x01\x04\x00",
-        stream,
-    );
-    let mut deep = [2u8; 66];
-    deep[63] = 1;
-    deep[64] = 0;
-    deep[65] = 0;
-    every_tick(b"64 formulas", &deep, mixed);
-    every_tick(
-        b"beside: the second part is false earlier",
-        b"\x04\x05\x02\x00\x00\x00\x02\x00\x02\x00\x01\x01\x00\x01\x00\x01",
-        mixed,
-    );
-}
-
-// A range whose body names only variables outside it: one range, of every kind.
-fn unnamed() {
-    let mixed = b"\x07\x06\x85\x01\x03\x07\x81\x05\x07\x00";
-    every_tick(
-        b"Y from X to X+2, flag 0 at X",
-        b"\x05\x02\x00\x00\x00\x02\x00\x02\x00\x01\x00\x00",
-        mixed,
-    );
-    every_tick(
-        b"Y from X+3 to X+5, flag 0 at X",
-        b"\x05\x02\x00\x03\x00\x02\x00\x05\x00\x01\x00\x00",
-        mixed,
-    );
-    every_tick(
-        b"Y from X-3 to X-1, flag 0 at X",
-        b"\x05\x02\x00\xfd\xff\x02\x00\xff\xff\x01\x00\x00",
-        mixed,
-    );
-    every_tick(
-        b"Y from X to X-1, flag 0 at X",
-        b"\x05\x02\x00\x00\x00\x02\x00\xff\xff\x01\x00\x00",
-        mixed,
-    );
-    every_tick(
-        b"Y from infinity to X, flag 0 at X",
-        b"\x05\x01\x00\x00\x00\x02\x00\x00\x00\x01\x00\x00",
-        mixed,
-    );
-    every_tick(
-        b"Y from X+1 to infinity, flag 0 at X",
-        b"\x05\x02\x00\x01\x00\x01\x00\x00\x00\x01\x00\x00",
-        mixed,
-    );
-}
-
-// The same with ranges inside.
-fn unnamed_nested() {
-    let stream = b"\x00\x01\x01\x00\x01\x01\x01\x01\x00\x00";
-    let mixed = b"\x07\x06\x85\x01\x03\x07\x81\x05\x07\x00";
-    every_tick(
-        b"Y from X-1 to X+3, Z from X to X+1",
-        b"\x05\x02\x00\xff\xff\x02\x00\x03\x00\x05\x02\x00\x00\x00\x02\x00\x01\x00\x01\x02\x00",
-        stream,
-    );
-    every_tick(
-        b"Y and Z from 0 to infinity",
-        b"\x05\x00\x00\x00\x00\x01\x00\x00\x00\x05\x00\x00\x00\x00\x01\x00\x00\x00\x01\x02\x00",
-        mixed,
-    );
-    every_tick(
-        b"four from 0 to infinity, flag 6 down at Z",
-        b"\x05\x00\x00\x00\x00\x01\x00\x00\x00\x05\x00\x00\x00\x00\x01\x00\x00\x00\x05\x00\x00\x00\x00\x01\x00\x00\x00\x05\x00\x00\x00\x00\x01\x00\x00\x00\x02\x01\x02\x06",
-        stream,
-    );
-    every_tick(
-        b"four from X-1 to X+2, flag 0 at X",
-        b"\x05\x02\x00\xff\xff\x02\x00\x02\x00\x05\x02\x00\xff\xff\x02\x00\x02\x00\x05\x02\x00\xff\xff\x02\x00\x02\x00\x05\x02\x00\xff\xff\x02\x00\x02\x00\x01\x00\x00",
-        mixed,
-    );
-    every_tick(
-        b"Y from X-1 to X+4, A then flag 1 at X",
-        b"\x05\x02\x00\xff\xff\x02\x00\x04\x00\x03\x05\x02\x00\x00\x00\x02\x00\x02\x00\x01\x02\x00\x01\x00\x01",
-        mixed,
-    );
-    every_tick(
-        b"not for all Y from X to X+3, Z from 0 to X, flag 7 down at Z",
-        b"\x02\x05\x02\x00\x00\x00\x02\x00\x03\x00\x05\x00\x00\x00\x00\x02\x00\x00\x00\x02\x01\x02\x07",
-        mixed,
-    );
-}
-
-// A range whose variable a bound alone names.
-fn named_in_a_bound() {
-    let stream = b"\x00\x01\x01\x00\x01\x01\x01\x01\x00\x00";
-    every_tick(
-        b"Y from X to X+3, Z from X+2 to Y",
-        b"\x05\x02\x00\x00\x00\x02\x00\x03\x00\x05\x02\x00\x02\x00\x02\x01\x00\x00\x01\x02\x00",
-        stream,
-    );
-    every_tick(
-        b"Y from X to X+3, some Z from Y to X+2, flag 0 at X",
-        b"\x05\x02\x00\x00\x00\x02\x00\x03\x00\x02\x05\x02\x01\x00\x00\x02\x00\x02\x00\x01\x00\x00",
-        stream,
-    );
-}
-
-fn refusals() {
-    refused(b"4: no code", b"");
-    refused(b"4: a bound is cut", b"\x05\x02\x00\x00\x00\x02\x00\x00");
-    refused(b"5: unknown code", b"\x06");
-    refused(
-        b"5: unknown kind",
-        b"\x05\x03\x00\x00\x00\x02\x00\x00\x00\x01\x01\x00",
-    );
-    refused(b"6: variable not bound here", b"\x01\x01\x00");
-    refused(b"7: flag above 7", b"\x01\x00\x08");
-    refused(
-        b"8: offset 4,096",
-        b"\x05\x02\x00\x00\x10\x02\x00\x00\x00\x01\x01\x00",
-    );
-    refused(
-        b"23: position 0 with variable 1",
-        b"\x05\x00\x01\x00\x00\x02\x00\x00\x00\x01\x01\x00",
-    );
-    refused(
-        b"24: infinity with offset 5,000",
-        b"\x05\x01\x00\x88\x13\x02\x00\x00\x00\x01\x01\x00",
-    );
-    let mut deep = [2u8; 67];
-    deep[64] = 1;
-    deep[65] = 0;
-    deep[66] = 0;
-    refused(b"9: a 65th formula", &deep);
-    refused(
-        b"9: a 5th quantifier",
-        b"\x05\x02\x00\x00\x00\x02\x00\x00\x00\x05\x02\x00\x00\x00\x02\x00\x00\x00\x05\x02\x00\x00\x00\x02\x00\x00\x00\x05\x02\x00\x00\x00\x02\x00\x00\x00\x05\x02\x00\x00\x00\x02\x00\x00\x00\x01\x00\x00",
-    );
-    refused(b"10: a byte left over", b"\x01\x00\x00\x00");
-    text(b"no recording\n");
-    outcome(b"\x01\x00\x00", b"", 0);
+fn take_lines(file: &[u8]) {
+    let mut at: usize = 0;
+    while at < file.len() {
+        let line = case_file::line_at(file, at);
+        take_line(line);
+        at += line.len() + 1;
+    }
 }
 
 fn main() {
-    example();
-    flags_and_not();
-    conjunctions();
-    ranges_over_ticks();
-    ranges_to_infinity();
-    nested();
-    unnamed();
-    unnamed_nested();
-    named_in_a_bound();
-    refusals();
+    let mut space = io::large_buffer();
+    let n = case_file::load(&mut space);
+    take_lines(&space[..n]);
+    text(b"no recording\n");
+    outcome(b"\x01\x00\x00", b"", 0);
 }

@@ -1,122 +1,42 @@
-// Sheets, the program `watch` over each of them with no flag byte: each refusal from 1 to 15, 23, 24, and rules just inside the limits. The file stdout is
-// what tests/oracle/watch.py worked out from the papers alone, from the names and sheets below.
+// Sheets, the program `watch` over each of them with no flag byte: each refusal from 1 to 15, 23, 24, and rules just inside the limits. A case is a line of
+// data/cases.txt, a name and a sheet, as the crate case_file reads it. The file stdout is what tests/oracle/watch.py works out from the papers alone, from
+// the same lines (tests/oracle/run runs it).
 use libc::STDOUT_FILENO;
 
 // One line or two: the sheet's name, and what `watch` prints.
-fn case(name: &[u8], sheet: &[u8]) {
+fn show(name: &[u8], sheet: &[u8]) {
     io::write_all(STDOUT_FILENO, name);
     io::write_all(STDOUT_FILENO, b": ");
     watch_run::watch_sheet(sheet);
 }
 
-// Refusals 1 and 2, of the sheet. 3 cannot come: a legal sheet has a rule 0.
-fn of_the_sheet() {
-    case(b"no byte", b"");
-    case(b"no rule", b"\x00");
-    case(b"33 rules", b"\x21");
-    case(b"a table of contents cut short", b"\x01\x05\x00\x03");
-    case(b"a table of contents alone", b"\x01\x05\x00\x03\x00");
-    case(
-        b"a body that begins too late",
-        b"\x01\x06\x00\x03\x00\x01\x00\x00",
-    );
-    case(b"a body of no bytes", b"\x01\x05\x00\x00\x00");
-    case(
-        b"a byte after the last body",
-        b"\x01\x05\x00\x03\x00\x01\x00\x00\x00",
-    );
-    case(
-        b"the second body begins too early",
-        b"\x02\x09\x00\x03\x00\x0b\x00\x03\x00\x01\x00\x00\x01\x00\x00",
-    );
+// A line of the file.
+fn take_line(line: &[u8]) {
+    if !case_file::is_case(line) {
+        return;
+    }
+    let name = case_file::name(line);
+    let mut space = io::large_buffer();
+    let sheet = case_file::read_bytes(case_file::past_bar(line), &mut space);
+    if name.len() == 0 || sheet.malformed {
+        case_file::say_malformed(line);
+        return;
+    }
+    let n = sheet.count;
+    show(name, &space[..n]);
 }
 
-// Refusals 4 to 10, 23 and 24, of the body.
-fn of_the_body() {
-    case(b"4: a flag cut short", b"\x01\x05\x00\x02\x00\x01\x00");
-    case(b"5: code 6", b"\x01\x05\x00\x01\x00\x06");
-    case(
-        b"6: variable 1 outside of a range",
-        b"\x01\x05\x00\x03\x00\x01\x01\x00",
-    );
-    case(b"7: flag 8", b"\x01\x05\x00\x03\x00\x01\x00\x08");
-    case(
-        b"8: offset 4,096",
-        b"\x01\x05\x00\x0c\x00\x05\x02\x00\x00\x10\x02\x00\x00\x10\x01\x01\x00",
-    );
-    case(
-        b"23: position 0 with variable 1",
-        b"\x01\x05\x00\x0c\x00\x05\x00\x01\x00\x00\x02\x00\x00\x00\x01\x01\x00",
-    );
-    case(
-        b"24: infinity plus 5,000",
-        b"\x01\x05\x00\x0c\x00\x05\x01\x00\x88\x13\x02\x00\x00\x00\x01\x01\x00",
-    );
-    case(
-        b"9: a fifth range nested",
-        b"\x01\x05\x00\x30\x00\x05\x02\x00\x00\x00\x02\x00\x00\x00\x05\x02\x00\x00\x00\x02\x00\x00\x00\x05\x02\x00\x00\x00\x02\x00\x00\x00\x05\x02\x00\x00\x00\x02\x00\x00\x00\x05\x02\x00\x00\x00\x02\x00\x00\x00\x01\x01\x00",
-    );
-    case(
-        b"9: a 65th formula",
-        b"\x01\x05\x00\x43\x00\x02\x02\x02\x02\x02\x02\x02\x02\x02\x02\x02\x02\x02\x02\x02\x02\x02\x02\x02\x02\x02\x02\x02\x02\x02\x02\x02\x02\x02\x02\x02\x02\x02\x02\x02\x02\x02\x02\x02\x02\x02\x02\x02\x02\x02\x02\x02\x02\x02\x02\x02\x02\x02\x02\x02\x02\x02\x02\x02\x02\x02\x02\x02\x02\x01\x00\x00",
-    );
-    case(
-        b"10: a byte after the formula",
-        b"\x01\x05\x00\x04\x00\x01\x00\x00\x00",
-    );
-}
-
-// Refusals 11 to 15, of the figures.
-fn of_the_figures() {
-    case(
-        b"11: X..infinity",
-        b"\x01\x05\x00\x0c\x00\x05\x02\x00\x00\x00\x01\x00\x00\x00\x01\x01\x00",
-    );
-    case(
-        b"12: X+256..X+256",
-        b"\x01\x05\x00\x0c\x00\x05\x02\x00\x00\x01\x02\x00\x00\x01\x01\x01\x00",
-    );
-    case(
-        b"13: 0..X",
-        b"\x01\x05\x00\x0c\x00\x05\x00\x00\x00\x00\x02\x00\x00\x00\x01\x01\x00",
-    );
-    case(
-        b"14: X-4,095..X-4,095 over Y-2..Y-2",
-        b"\x01\x05\x00\x15\x00\x05\x02\x00\x01\xf0\x02\x00\x01\xf0\x05\x02\x01\xfe\xff\x02\x01\xfe\xff\x01\x02\x00",
-    );
-    case(
-        b"15: X..X+63",
-        b"\x01\x05\x00\x0c\x00\x05\x02\x00\x00\x00\x02\x00\x3f\x00\x01\x01\x00",
-    );
-}
-
-// Rules at the limits, which are opened.
-fn at_the_limits() {
-    case(
-        b"64 formulas",
-        b"\x01\x05\x00\x42\x00\x02\x02\x02\x02\x02\x02\x02\x02\x02\x02\x02\x02\x02\x02\x02\x02\x02\x02\x02\x02\x02\x02\x02\x02\x02\x02\x02\x02\x02\x02\x02\x02\x02\x02\x02\x02\x02\x02\x02\x02\x02\x02\x02\x02\x02\x02\x02\x02\x02\x02\x02\x02\x02\x02\x02\x02\x02\x02\x02\x02\x02\x02\x02\x01\x00\x00",
-    );
-    case(
-        b"X+255..X+255",
-        b"\x01\x05\x00\x0c\x00\x05\x02\x00\xff\x00\x02\x00\xff\x00\x01\x01\x00",
-    );
-    case(
-        b"X-4,095..X-4,095 over Y-1..Y-1",
-        b"\x01\x05\x00\x15\x00\x05\x02\x00\x01\xf0\x02\x00\x01\xf0\x05\x02\x01\xff\xff\x02\x01\xff\xff\x01\x02\x00",
-    );
-    case(
-        b"X..X+62",
-        b"\x01\x05\x00\x0c\x00\x05\x02\x00\x00\x00\x02\x00\x3e\x00\x01\x01\x00",
-    );
-    case(
-        b"two rules, the second unreadable",
-        b"\x02\x09\x00\x03\x00\x0c\x00\x01\x00\x01\x00\x00\x06",
-    );
+fn take_lines(file: &[u8]) {
+    let mut at: usize = 0;
+    while at < file.len() {
+        let line = case_file::line_at(file, at);
+        take_line(line);
+        at += line.len() + 1;
+    }
 }
 
 fn main() {
-    of_the_sheet();
-    of_the_body();
-    of_the_figures();
-    at_the_limits();
+    let mut space = io::large_buffer();
+    let n = case_file::load(&mut space);
+    take_lines(&space[..n]);
 }

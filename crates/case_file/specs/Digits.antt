@@ -1,0 +1,8 @@
+-- What hexadecimal digits are worth. Assumes nothing.
+use Prim.Native.Nat.{ℕ, _-_}
+use mathlib.Core.Bool.{cond}
+use lib.Dec.{ltb}
+
+-- 0 to 15 for `0` to `9` and `a` to `f`; 16 for every other byte
+unfoldable pub digit-value : ℕ → ℕ
+digit-value c = cond (ltb c 48) 16 (cond (ltb c 58) (c - 48) (cond (ltb c 97) 16 (cond (ltb c 103) (c - 87) 16)))

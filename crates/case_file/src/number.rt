@@ -1,0 +1,49 @@
+// Digits and decimal numbers.
+ghost use mathlib.Core.Path.{_≡_};
+ghost use Prim.Native.Nat.{_≤_};
+ghost use lib.ListN.{length};
+ghost use Rattle.case_file.specs.Digits.{digit-value};
+use words::byte_after;
+
+// A number that was read, and the position after it: the position where it was to begin if there is none.
+pub struct Number {
+    pub value: usize,
+    pub end: usize,
+}
+
+// What a hexadecimal digit is worth; 16 for a byte that is none.
+pub(crate) fn digit(c: usize) -> usize
+    ensures { λ r. ⌜ r ≡ digit-value c ⌝ }
+{
+    if c < 48 {
+        return 16;
+    }
+    if c < 58 {
+        return c - 48;
+    }
+    if c < 97 {
+        return 16;
+    }
+    if c < 103 {
+        return c - 87;
+    }
+    16
+}
+
+// The decimal number at a position. A number above 65,536, one tick more than the longest recording, counts as none.
+pub fn number_at(text: &[u8], at: usize) -> Number {
+    let mut value: usize = 0;
+    let mut end = at;
+    while end < text.len() {
+        let d = digit(byte_after(text, end, 0));
+        if 9 < d {
+            return Number { value, end };
+        }
+        value = 10 * value + d;
+        if 65536 < value {
+            return Number { value: 0, end: at };
+        }
+        end += 1;
+    }
+    Number { value, end }
+}
