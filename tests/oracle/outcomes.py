@@ -45,7 +45,6 @@ def cases(path):
             print(f"flags{spaced(flags)}")
         for t in [int(tick[0])] if tick else range(len(flags) + 1):
             print(f"{t}: {shown(body, flags, t)}")
-    print(f"no recording\n0: {shown(bytes([1, 0, 0]), b'', 0)}")
 
 
 # ---- the longest recording

@@ -87,6 +87,4 @@ fn main() {
     let mut space = io::large_buffer();
     let n = case_file::load(&mut space);
     take_lines(&space[..n]);
-    text(b"no recording\n");
-    outcome(b"\x01\x00\x00", b"", 0);
 }
