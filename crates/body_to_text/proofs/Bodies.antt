@@ -10,7 +10,7 @@ use Rattle.rule.proofs.Written.{Legal}
 use Rattle.rule.proofs.OneBody.{body-accepted}
 use Rattle.nodes.specs.Table.{formula-in}
 use Rattle.reader.specs.declared.Reading.{Reading}
-use Rattle.reader.specs.declared.Reading.the-variants.{Formulas, Refused}
+use Rattle.reader.specs.declared.Reading.the-variants.{Stored, Refused}
 use Rattle.reader.specs.Decoded.{Decoded}
 use Rattle.reader.proofs.Told.{refused-body, read-formula}
 use Rattle.notation.specs.Notation.{text}
@@ -31,12 +31,12 @@ flags-fit m (forall B C F) l = flags-fit (suc m) F (l .3)
 -- ---- after the body is read
 
 module _ (s : List ℕ) {r : Reading} {ns : List ℕ} (d : Decoded s r ns) where
-  pub writable : {n : ℕ} → r ≡ Formulas n → Writable (formula-in 64 ns 0 0)
+  pub writable : r ≡ Stored → Writable (formula-in 64 ns 0 0)
   writable x =
       let f = read-formula d x in
       subst Writable (sym (f .2 .is)) (record { flags = flags-fit 0 (f .0) (body-accepted s (f .0) (f .1) .legal); short = text-short s (f .0) (f .1) })
 
-  pub text-read : {n : ℕ} (room : ℕ) → r ≡ Formulas n → fitted room (rule-text ns) ≡ text-of-body s room
+  pub text-read : (room : ℕ) → r ≡ Stored → fitted room (rule-text ns) ≡ text-of-body s room
   unfolding text-of-body and-then
   text-read room x = let f = read-formula d x in rw (f .1) (ap (λ (G : Formula). fitted room (text (rule-named G))) (f .2 .is))
 

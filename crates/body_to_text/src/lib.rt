@@ -53,7 +53,7 @@ pub fn write_text(body: &[u8], out: &mut [u8]) -> Written
     let mut nodes = [0u32; 768];
     let reading = reader::read_body(body, &mut nodes);
     match reading {
-        Reading::Formulas(_) => write_rule(&nodes, out),
+        Reading::Stored => write_rule(&nodes, out),
         Reading::Refused(x) => Written::Refused(x),
     }
 }

@@ -46,10 +46,10 @@ refused-prepared s ns q x d e =
     record { answer = ap (λ (y : Answer Formula). and-then y figures) b; laid = subst (Laid ns) b tt }
 
 -- the reader read it, and its formula was measured
-pub measured-prepared : (s old new : List ℕ) (q : Reading) (n : ℕ) (r : Figure) (a : FigureAnswer) → Decoded s q old → q ≡ reading.Formulas n → 768 ≤ length old
+pub measured-prepared : (s old new : List ℕ) (q : Reading) (r : Figure) (a : FigureAnswer) → Decoded s q old → q ≡ reading.Stored → 768 ≤ length old
     → Promise 64 0 0 (at-tick ∷ []) (Finite 0) old new r → told a ≡ limit-delay (r .history) (r .delay) (capped-needed (r .delay) (r .cells)) → Prepared s a new
 unfolding body-figures and-then
-measured-prepared s old new q n r a d eq room p ea = go (f .0) (sym (f .1)) (f .2)
+measured-prepared s old new q r a d eq room p ea = go (f .0) (sym (f .1)) (f .2)
   where
     f : (F : Formula) × (body s ≡ accepted F) × Stands F old
     f = read-formula d eq

@@ -20,7 +20,7 @@ pub fn prepare(body: &[u8], nodes: &mut [u32; 768]) -> FigureAnswer
     let reading = reader::read_body(body, nodes);
     match reading {
         Reading::Refused(x) => FigureAnswer::Refused(x),
-        Reading::Formulas(_) => {
+        Reading::Stored => {
             let f = measure_rule(nodes);
             let d = f.delay;
             let h = f.history;

@@ -4,12 +4,13 @@ mod checks;
 mod writer;
 
 ghost use mathlib.Core.Path.{_≡_};
-ghost use Prim.Native.Nat.{_-_, _≤_};
+ghost use Prim.Native.Nat.{_≤_};
 ghost use lib.ListN.{length};
 ghost use Rattle.reader.specs.Filled.{Filled};
 ghost use Rattle.reader.specs.Decoded.{Decoded};
 use checks::Check;
 use checks::head_check;
+use nodes::fill;
 use refusal::Refusal;
 use writer::node_place;
 use writer::write_head;
@@ -21,9 +22,9 @@ enum Part {
     Ended(usize, usize),
 }
 
-// How many formulas a body has, or its refusal.
+// The body's formula stands in the table; or the body's refusal.
 pub enum Reading {
-    Formulas(u64),
+    Stored,
     Refused(Refusal),
 }
 
@@ -58,28 +59,24 @@ fn read_formula(s: &[u8], nodes: &mut [u32], at: usize, m: usize, left: usize) -
     }
 }
 
-// Reads a body into the node table and answers how many formulas it has. The table is memory to work in: a body that is refused leaves its
-// words unspecified, and so are the words after the body's nodes.
+// Reads a body into the node table; a body that is refused leaves it all 0. The table is memory to work in: nothing is said of the words after
+// the body's nodes.
 pub fn read_body(body: &[u8], nodes: &mut [u32; 768]) -> Reading
     ensures { λ r. ⌜ Decoded (now (body .entry)) r (now (nodes .exit)) ⌝ }
 {
     let part = read_formula(body, nodes, 0, 0, 64);
     match part {
-        Part::Refused(x) => Reading::Refused(x),
-        Part::Ended(next, rest) => {
+        Part::Refused(x) => {
+            fill(nodes, 0);
+            Reading::Refused(x)
+        }
+        Part::Ended(next, _) => {
             if next == body.len() {
-                Reading::Formulas(formulas_read(rest))
+                Reading::Stored
             } else {
+                fill(nodes, 0);
                 Reading::Refused(Refusal::BytesLeftOver)
             }
         }
     }
-}
-
-// How many formulas were read where so many of 64 are left.
-fn formulas_read(rest: usize) -> u64
-    requires { ⌜ rest ≤ 64 ⌝ }
-    ensures { λ r. ⌜ r ≡ 64 - rest ⌝ }
-{
-    64 - rest as u64
 }

@@ -16,7 +16,7 @@ use Rattle.rule.specs.Meaning.{outcome, rule}
 use Rattle.rule.specs.Recording.{recorded, over-recording, recording-outcome}
 use Rattle.nodes.specs.Table.{formula-in}
 use Rattle.reader.specs.declared.Reading.{Reading}
-use Rattle.reader.specs.declared.Reading.the-variants.{Formulas, Refused}
+use Rattle.reader.specs.declared.Reading.the-variants.{Stored, Refused}
 use Rattle.reader.specs.Decoded.{Decoded}
 use Rattle.reader.proofs.Told.{refused-body, read-formula}
 use Rattle.recording.specs.declared.env.Env.{Env}
@@ -78,7 +78,7 @@ by-rule ns rec t p e x y = y ∙ ap (λ (w : Env). outcome (formula-in 64 ns (w 
 -- ---- after the body is read
 
 module _ (s rec : List ℕ) (p : ℕ) {r : Reading} {ns : List ℕ} (d : Decoded s r ns) where
-  pub read-well : {n : ℕ} {a : Answer Outcome} → r ≡ Formulas n → a ≡ over-recording (formula-in 64 ns 0 0) rec p → a ≡ recording-outcome s rec p
+  pub read-well : {a : Answer Outcome} → r ≡ Stored → a ≡ over-recording (formula-in 64 ns 0 0) rec p → a ≡ recording-outcome s rec p
   unfolding recording-outcome and-then
   read-well x y = let f = read-formula d x in rw (f .1) (y ∙ ap (λ (G : Formula). over-recording G rec p) (f .2 .is))
 

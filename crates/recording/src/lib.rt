@@ -42,7 +42,7 @@ pub fn outcome_at(body: &[u8], recording: &[u8], tick: usize) -> Evaluated
     let mut nodes = [0u32; 768];
     let reading = reader::read_body(body, &mut nodes);
     match reading {
-        Reading::Formulas(_) => over_recording(&nodes, recording, tick),
+        Reading::Stored => over_recording(&nodes, recording, tick),
         Reading::Refused(why) => Evaluated::Refused(why),
     }
 }

@@ -24,7 +24,7 @@ module _ (b : List ℕ) {r : Reading} {ns : List ℕ} (d : Decoded b r ns) (room
   unfolding checked and-then
   illegal h = rw (refused-body d h) refl
 
-  pub legal : {n : ℕ} → r ≡ readings.Formulas n → and-then (checked b) (fitted room) ≡ fitted room b
+  pub legal : r ≡ readings.Stored → and-then (checked b) (fitted room) ≡ fitted room b
   unfolding checked and-then
   legal h = let f = read-formula d h in rw (f .1) refl
 

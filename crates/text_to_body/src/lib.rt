@@ -26,7 +26,7 @@ fn write_if_legal(body: &[u8], out: &mut [u8]) -> Written
     let reading = read_body(body, &mut nodes);
     match reading {
         Reading::Refused(x) => Written::Refused(x),
-        Reading::Formulas(_) => deliver(body, out),
+        Reading::Stored => deliver(body, out),
     }
 }
 

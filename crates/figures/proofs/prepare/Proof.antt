@@ -31,7 +31,7 @@ returns-2 : tie.Need-returns-2
 returns-2 c =
     let s₀ = c .before .before .before .before .before .before .before .before in
     let h : length (c .before .before .before .before .before .read-body .last .1 .0) ≡ 768 = search needs in
-    measured-prepared (s₀ .args .body .now) (c .before .before .before .before .before .read-body .last .1 .0) (c .before .measure-rule .last .0) (c .before .before .before .before .before .read-body .result) (c .before .before .before .enum-told .given .0 .0) (c .before .measure-rule .result) (c .limit-delay .result)
+    measured-prepared (s₀ .args .body .now) (c .before .before .before .before .before .read-body .last .1 .0) (c .before .measure-rule .last .0) (c .before .before .before .before .before .read-body .result) (c .before .measure-rule .result) (c .limit-delay .result)
     (c .before .before .before .before .before .read-body .ensures) (c .before .before .before .enum-told .given .1) (omega arith) (c .before .measure-rule .ensures) (c .limit-delay .ensures)
 
 pub prepare-spec : {M : Type 1} → statement M

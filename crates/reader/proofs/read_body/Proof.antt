@@ -1,9 +1,6 @@
 -- `reader::read_body` meets its contract.
-use mathlib.Core.Path.{refl, ap}
-use Rattle.refusal.specs.Answer.{accepted}
-use Rattle.refusal.specs.declared.Refusal.the-variants.{BytesLeftOver}
-use Rattle.reader.specs.declared.Reading.the-variants.{Formulas, Refused}
-use Rattle.reader.proofs.Bodies.{body-refused, rest-fits, body-whole, body-longer}
+use Rattle.nodes.proofs.Nodes.{cleared}
+use Rattle.reader.proofs.Bodies.{body-refused, body-whole, body-longer}
 use borrow.Author.Needs.{needs}
 use Rattle.reader.proofs.read_body.Statement.{statement}
 use Rattle.reader.proofs.read_body.Tie as tie
@@ -14,28 +11,30 @@ read-formula-requires c κs = search needs
 enum-known-part : tie.Need-enum-known-part
 enum-known-part c = search needs
 
+fill-requires : tie.Need-fill-requires
+fill-requires c κs = search needs
+
 enum-known-part-2 : tie.Need-enum-known-part-2
 enum-known-part-2 c = search needs
 
-formulas-read-requires : tie.Need-formulas-read-requires
-formulas-read-requires c κs =
-    let s₀ = c .before .before .before .before .before .before .before in
-    rest-fits (s₀ .args .body .now) (s₀ .args .nodes .now) (c .before .before .before .before .read-formula .last .1 .0) (c .before .before .before .before .read-formula .result) (c .before .before .before .before .read-formula .ensures) (c .before .before .part2 .given .0 .0) (c .before .before .part2 .given .0 .1 .0) (c .before .before .part2 .given .1)
+fill-requires-2 : tie.Need-fill-requires-2
+fill-requires-2 c κs = search needs
 
 returns : tie.Need-returns
 returns c =
-    let s₀ = c .before .before .before .before .before .before in
-    body-refused (s₀ .args .body .now) (s₀ .args .nodes .now) (c .before .before .before .read-formula .last .1 .0) (c .before .before .before .read-formula .result) (c .before .before .before .read-formula .ensures) (Refused (c .before .part .given .0 .0)) (c .before .part .given .0 .0) (c .before .part .given .1) refl
+    let p = c .before .before .before .before .before in
+    body-refused _ _ _ _ (p .read-formula .ensures) _ _ (c .before .before .before .part .given .1) (cleared (p .read-formula .last .1 .0) (search needs) (c .fill .ensures))
 
 returns-2 : tie.Need-returns-2
 returns-2 c =
-    let s₀ = c .before .before .before .before .before .before .before .before in
-    body-whole (s₀ .args .body .now) (s₀ .args .nodes .now) (c .before .before .before .before .before .read-formula .last .1 .0) (c .before .before .before .before .before .read-formula .result) (c .before .before .before .before .before .read-formula .ensures) (Formulas (c .formulas-read .result)) (c .before .before .before .part2 .given .0 .0) (c .before .before .before .part2 .given .0 .1 .0) (c .before .before .before .part2 .given .1) (c .before .if1 .taken) (ap accepted (c .formulas-read .ensures))
+    let p = c .before .before .before .before in
+    body-whole _ _ _ _ (p .read-formula .ensures) _ _ (c .before .before .part2 .given .1) (c .if1 .taken)
 
 returns-3 : tie.Need-returns-3
 returns-3 c =
-    let s₀ = c .before .before .before .before .before .before .before in
-    body-longer (s₀ .args .body .now) (s₀ .args .nodes .now) (c .before .before .before .before .read-formula .last .1 .0) (c .before .before .before .before .read-formula .result) (c .before .before .before .before .read-formula .ensures) (Refused BytesLeftOver) (c .before .before .part2 .given .0 .0) (c .before .before .part2 .given .0 .1 .0) (c .before .before .part2 .given .1) (c .if1 .left) refl
+    let p = c .before .before .before .before .before .before in
+    body-longer _ _ _ _ (p .read-formula .ensures) _ _ (c .before .before .before .before .part2 .given .1) _ (c .before .before .if1 .left)
+    (cleared (p .read-formula .last .1 .0) (search needs) (c .fill2 .ensures))
 
 pub read-body-spec : {M : Type 1} → statement M
 read-body-spec =
@@ -43,8 +42,9 @@ read-body-spec =
     (tie.spec
     read-formula-requires
     enum-known-part
+    fill-requires
     enum-known-part-2
-    formulas-read-requires
+    fill-requires-2
     returns
     returns-2
     returns-3)
