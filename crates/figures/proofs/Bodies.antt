@@ -4,24 +4,25 @@ use mathlib.Core.Path.{_≡_, sym, ap, _∙_, subst}
 use mathlib.Core.List.{List, [], _∷_}
 use native.Mathlib.Omega.{arith}
 use lib.ListN.{length}
-use Rattle.refusal.specs.Answer.{Answer, accepted, and-then}
+use Rattle.refusal.specs.Answer.{Answer, refused, accepted, and-then}
 use Rattle.rule.specs.Formula.{Formula, formulas}
 use Rattle.rule.specs.Body.{body}
 use Rattle.rule.specs.Figures.{at-tick, anywhere, delay, history, cells, limit-delay, figures, body-figures}
 use Rattle.rule.specs.declared.Size.the-variants.{Finite}
 use Rattle.rule.specs.declared.Pair.{Pair}
+use Rattle.rule.specs.declared.Figures.{Figures}
 use Rattle.nodes.proofs.Nodes.{tabled}
 use Rattle.reader.specs.declared.Reading.{Reading}
 use Rattle.reader.specs.declared.Reading.the-variants as reading
 use Rattle.refusal.specs.declared.Refusal.{Refusal}
 use Rattle.figures.specs.declared.answer.FigureAnswer.the-variants.{Refused}
 use Rattle.reader.specs.Decoded.{Stands, Decoded}
-use Rattle.reader.proofs.Told.{refused-body, read-formula}
+use Rattle.reader.proofs.Told.{refused-body, refused-table, read-formula}
 use Rattle.figures.specs.declared.measure.Figure.{Figure}
 use Rattle.figures.specs.declared.answer.FigureAnswer.{FigureAnswer}
 use Rattle.figures.specs.Capped.{capped-needed, Within, FigureOf}
 use Rattle.figures.specs.Measured.{Measured, Promise}
-use Rattle.figures.specs.Prepared.{told, Laid, Prepared}
+use Rattle.figures.specs.Prepared.{told, Laid, Leaves, Prepared, Kept}
 use Rattle.figures.proofs.CountedLimits.{capped-limits}
 
 -- at the start, only variable 0 is there, at the tick
@@ -42,22 +43,27 @@ rule-limited F r f =
 pub refused-prepared : (s ns : List ℕ) (q : Reading) (x : Refusal) → Decoded s q ns → q ≡ reading.Refused x → Prepared s (Refused x) ns
 unfolding body-figures and-then
 refused-prepared s ns q x d e =
-    let b = sym (refused-body d e) in
-    record { answer = ap (λ (y : Answer Formula). and-then y figures) b; laid = subst (Laid ns) b tt }
+    record { answer = ap (λ (y : Answer Formula). and-then y figures) (sym (refused-body d e)); leaves = refused-table d e }
 
--- the reader read it, and its formula was measured
-pub measured-prepared : (s old new : List ℕ) (q : Reading) (r : Figure) (a : FigureAnswer) → Decoded s q old → q ≡ reading.Stored → 768 ≤ length old
-    → Promise 64 0 0 (at-tick ∷ []) (Finite 0) old new r → told a ≡ limit-delay (r .history) (r .delay) (capped-needed (r .delay) (r .cells)) → Prepared s a new
+-- what is left is the table before, or zeros
+pub kept-leaves : (s new last : List ℕ) (a : Answer Figures) → Laid new (body s) → Kept a new last → Leaves s last a
+kept-leaves s new last (refused n) l k = k
+kept-leaves s new last (accepted f) l k = subst (λ (ns : List ℕ). Laid ns (body s)) (sym k) l
+
+-- the reader read it, its formula was measured, and a refusal cleared the table
+pub measured-prepared : (s old new last : List ℕ) (q : Reading) (r : Figure) (a : FigureAnswer) → Decoded s q old → q ≡ reading.Stored → 768 ≤ length old
+    → Promise 64 0 0 (at-tick ∷ []) (Finite 0) old new r → told a ≡ limit-delay (r .history) (r .delay) (capped-needed (r .delay) (r .cells)) → Kept (told a) new last → Prepared s a last
 unfolding body-figures and-then
-measured-prepared s old new q r a d eq room p ea = go (f .0) (sym (f .1)) (f .2)
+measured-prepared s old new last q r a d eq room p ea k = go (f .0) (sym (f .1)) (f .2)
   where
     f : (F : Formula) × (body s ≡ accepted F) × Stands F old
     f = read-formula d eq
 
-    go : (F : Formula) → accepted F ≡ body s → Stands F old → Prepared s a new
+    go : (F : Formula) → accepted F ≡ body s → Stands F old → Prepared s a last
     go F b t =
         let x : Measured F (at-tick ∷ []) (Finite 0) 0 0 (12 * formulas F) old new r = p F (12 * formulas F) (t .holds) (omega (arith, t .room)) (omega (arith, t .room)) in
+        let stands : Stands F new = record { holds = x .holds; room = t .room; is = tabled F 64 new 0 0 (12 * formulas F) (omega (arith, t .room)) (x .holds) } in
         record {
           answer = ea ∙ rule-limited F r (x .figure) ∙ ap (λ (y : Answer Formula). and-then y figures) b;
-          laid = subst (Laid new) b (record { holds = x .holds; room = t .room; is = tabled F 64 new 0 0 (12 * formulas F) (omega (arith, t .room)) (x .holds) }, x .sizes);
+          leaves = kept-leaves s new last (told a) (subst (Laid new) b (stands, x .sizes)) k;
         }

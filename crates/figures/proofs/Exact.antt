@@ -1,6 +1,6 @@
 -- Within the limits, the sizes in a table are the definitions' own. For whoever reads what `prepare` leaves: the engine's proofs use SizesAt.
 use Prim.Native.Nat.{ℕ, _+_, _*_, _≤_}
-use mathlib.Core.Path.{_≡_, refl, sym, ap, _∙_}
+use mathlib.Core.Path.{_≡_, refl, sym, ap, _∙_, subst}
 use Rattle.rule.specs.Figures.{plus, times, at-tick, range-pair, width, cells, figures, body-figures}
 use mathlib.Core.List.{List, [], _∷_, _++_}
 use native.Mathlib.Omega.{arith}
@@ -19,7 +19,7 @@ use Rattle.cell_count.specs.Counts.{cap, sum, then-cells, beside-cells, range-c
 use Rattle.cell_count.proofs.Saturation.{cap-plus, cap-then, cap-beside, cap-range, exact-cap}
 use Rattle.figures.specs.declared.answer.FigureAnswer.{FigureAnswer}
 use Rattle.figures.specs.Measured.{SizesAt}
-use Rattle.figures.specs.Prepared.{Laid, Prepared, ExactAt, Sizes}
+use Rattle.figures.specs.Prepared.{Laid, Leaves, Prepared, ExactAt, Sizes}
 
 fourfold : (x : Size) (w : ℕ) → cap x ≤ 4096 → w ≡ 4 * cap x → times (Finite 4) x ≡ Finite w
 unfolding times
@@ -62,7 +62,7 @@ rule-fits F f e = let w = within-limits F f e in rw (w .own-is) (omega (arith, w
 
 pub exact : (s : List ℕ) (r : FigureAnswer) (ns : List ℕ) (f : Figures) → Prepared s r ns → body-figures s ≡ accepted f → Sizes s f ns
 unfolding body-figures and-then
-exact s r ns f p e = go (body s) refl (p .laid) e
+exact s r ns f p e = go (body s) refl (subst (Leaves s ns) (p .answer ∙ e) (p .leaves)) e
   where
     go : (b : Answer Formula) → body s ≡ b → Laid ns b → and-then b figures ≡ accepted f → Sizes s f ns
     go (refused n) q l e = absurd (not-accepted e)

@@ -11,6 +11,7 @@ use Rattle.rule.specs.Figures.{plus, times, range-pair, width, cells, at-tick, 
 use Rattle.rule.specs.declared.Size.the-variants.{Finite}
 use Rattle.rule.specs.declared.Pair.{Pair}
 use Rattle.rule.specs.declared.Figures.{Figures}
+use Rattle.nodes.specs.Table.{Cleared}
 use Rattle.reader.specs.Decoded.{Stands}
 use Rattle.figures.specs.declared.answer.FigureAnswer.{FigureAnswer}
 use Rattle.figures.specs.declared.answer.FigureAnswer.the-variants.{Sized, Refused}
@@ -21,14 +22,24 @@ abbrev pub told : FigureAnswer → Answer Figures
 told (Sized f) = accepted f
 told (Refused x) = refused (number-of x)
 
--- The table holds the body's formula with its sizes. Where the body is refused nothing is said of it.
+-- The body has a formula, and the table holds it with its sizes.
 abbrev pub Laid : List ℕ → Answer Formula → Type 0
-Laid ns (refused n) = Unit {0}
+Laid ns (refused n) = ⊥
 Laid ns (accepted F) = Stands F ns × SizesAt F ns (at-tick ∷ []) 0
+
+-- What an answer leaves in the table: the body's formula, and 0 in all words after a refusal.
+abbrev pub Leaves : List ℕ → List ℕ → Answer Figures → Type 0
+Leaves s ns (refused n) = Cleared ns
+Leaves s ns (accepted f) = Laid ns (body s)
 
 pub record Prepared (s : List ℕ) (r : FigureAnswer) (ns : List ℕ) : Type 0 where
   pub answer : told r ≡ body-figures s
-  pub laid : Laid ns (body s)
+  pub leaves : Leaves s ns (told r)
+
+-- A refusal clears the table, and an accepted answer keeps it.
+abbrev pub Kept : Answer Figures → List ℕ → List ℕ → Type 0
+Kept (refused n) old new = Cleared new
+Kept (accepted f) old new = new ≡ old
 
 -- The sizes with the definitions' own numbers, which is what holds of a rule within the limits: beside, the words of the first part's run;
 -- for all, W and the words of one position's slot. Below a range of no positions nothing is said: nothing runs there.

@@ -5,9 +5,10 @@ ghost use Rattle.rule.specs.Figures.{limit-cells, limit-history, limit-delay};
 ghost use Rattle.rule.specs.declared.Size.the-variants.{Finite};
 ghost use Rattle.cell_count.specs.Counts.{rule-cells};
 ghost use Rattle.figures.specs.Capped.{capped-needed};
-ghost use Rattle.figures.specs.Prepared.{told};
+ghost use Rattle.figures.specs.Prepared.{told, Kept};
 use cell_count::rule_cells;
 use cell_count::within_limit;
+use nodes::fill;
 use refusal::Refusal;
 use rule::Figures;
 use rule::Size;
@@ -16,6 +17,16 @@ use rule::Size;
 pub enum FigureAnswer {
     Sized(Figures),
     Refused(Refusal),
+}
+
+// What an answer leaves of the node table: a refusal makes it all 0.
+pub fn clear_if_refused(a: FigureAnswer, nodes: &mut [u32; 768])
+    ensures { λ _. ⌜ Kept (told a) (now (nodes .entry)) (now (nodes .exit)) ⌝ }
+{
+    match a {
+        FigureAnswer::Refused(_) => fill(nodes, 0),
+        FigureAnswer::Sized(_) => {}
+    }
 }
 
 // The rule needs c cells.

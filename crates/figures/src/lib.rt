@@ -8,12 +8,12 @@ ghost use mathlib.Core.Path.{_≡_};
 ghost use Rattle.rule.specs.Figures.{body-figures};
 ghost use Rattle.figures.specs.Prepared.{told, Prepared};
 pub use answer::FigureAnswer;
+pub use answer::clear_if_refused;
 use answer::limit_delay;
 use measure::measure_rule;
 use reader::Reading;
 
-// Reads a body into the node table, writes the sizes of its nodes (words 8 to 10) and answers its figures. The table is memory to work in:
-// where the body itself is refused (4 to 10, 23, 24) its words are unspecified.
+// Reads a body into the node table, writes the sizes of its nodes (words 8 to 10) and answers its figures. A refusal leaves the table all 0.
 pub fn prepare(body: &[u8], nodes: &mut [u32; 768]) -> FigureAnswer
     ensures { λ r. ⌜ Prepared (now (body .entry)) r (now (nodes .exit)) ⌝ }
 {
@@ -24,7 +24,9 @@ pub fn prepare(body: &[u8], nodes: &mut [u32; 768]) -> FigureAnswer
             let f = measure_rule(nodes);
             let d = f.delay;
             let h = f.history;
-            limit_delay(h, d, f.cells)
+            let a = limit_delay(h, d, f.cells);
+            clear_if_refused(a, nodes);
+            a
         }
     }
 }

@@ -22,6 +22,9 @@ measure-rule-requires c κs = search needs
 limit-delay-requires : tie.Need-limit-delay-requires
 limit-delay-requires c κs = search needs
 
+clear-if-refused-requires : tie.Need-clear-if-refused-requires
+clear-if-refused-requires c κs = search needs
+
 returns : tie.Need-returns
 returns c =
     let s₀ = c .before .before .before .before .before .before in
@@ -29,10 +32,12 @@ returns c =
 
 returns-2 : tie.Need-returns-2
 returns-2 c =
-    let s₀ = c .before .before .before .before .before .before .before .before in
-    let h : length (c .before .before .before .before .before .read-body .last .1 .0) ≡ 768 = search needs in
-    measured-prepared (s₀ .args .body .now) (c .before .before .before .before .before .read-body .last .1 .0) (c .before .measure-rule .last .0) (c .before .before .before .before .before .read-body .result) (c .before .measure-rule .result) (c .limit-delay .result)
-    (c .before .before .before .before .before .read-body .ensures) (c .before .before .before .enum-told .given .1) (omega arith) (c .before .measure-rule .ensures) (c .limit-delay .ensures)
+    let read = c .before .before .before .before .before .before .before in
+    let told = c .before .before .before .before .before in
+    let sized = c .before .before .before in
+    let h : length (read .read-body .last .1 .0) ≡ 768 = search needs in
+    measured-prepared _ (read .read-body .last .1 .0) (sized .measure-rule .last .0) _ _ _ _ (read .read-body .ensures) (told .enum-told .given .1) (omega arith)
+    (sized .measure-rule .ensures) (c .before .before .limit-delay .ensures) (c .clear-if-refused .ensures)
 
 pub prepare-spec : {M : Type 1} → statement M
 prepare-spec =
@@ -43,5 +48,6 @@ prepare-spec =
     enum-told
     measure-rule-requires
     limit-delay-requires
+    clear-if-refused-requires
     returns
     returns-2)
