@@ -1,6 +1,6 @@
 -- What admitting answers, by what the figures and the tests say.
 use Prim.Native.Nat.{ℕ, _≤_, _<_}
-use mathlib.Core.Path.{_≡_, sym, ap, _∙_}
+use mathlib.Core.Path.{_≡_, sym, ap, _∙_, subst}
 use mathlib.Core.Bool.{true}
 use mathlib.Core.List.{List}
 use native.Mathlib.Omega.{arith}
@@ -15,11 +15,13 @@ use Rattle.rule.specs.declared.Figures.{Figures}
 use Rattle.rule.specs.Body.{body}
 use Rattle.rule.specs.Figures.{figures, body-figures}
 use Rattle.rule.proofs.Limits.{within-limits}
+use Rattle.nodes.specs.Table.{Cleared}
 use Rattle.figures.specs.declared.answer.FigureAnswer.{FigureAnswer}
 use Rattle.figures.specs.declared.answer.FigureAnswer.the-variants.{Sized, Refused}
-use Rattle.figures.specs.Prepared.{told, Prepared}
+use Rattle.figures.specs.Prepared.{told, Leaves, Prepared, Kept}
+use Rattle.figures.proofs.Bodies.{kept-leaves}
 use Rattle.demand.specs.Contract.{must, room, as-21, fit-opened, admit-lengths}
-use Rattle.admission.specs.Admitted.{Small, Ready, Admitted}
+use Rattle.admission.specs.Admitted.{Small, Admitted}
 
 -- Accepted figures are within the limits.
 small : (b : List ℕ) (f : Figures) → body-figures b ≡ accepted f → Small f
@@ -42,9 +44,9 @@ module _ (b : List ℕ) (a : FigureAnswer) (told-is : told a ≡ body-figures b)
   opening-fits h c r e i = i ∙ rw (← told-is, e)
 
 module _ (b : List ℕ) (L t h c n : ℕ) (ns : List ℕ) where
-  pub step-above : 4096 < L → Admitted b L t h c n (Refused StateNotOpened) ns
+  pub step-above : 4096 < L → Cleared ns → Admitted b L t h c n (Refused StateNotOpened) ns
   unfolding admit-lengths must
-  step-above i = record { answer = simp (lt-leb L 4096 i); ready = tt }
+  step-above i z = record { answer = simp (lt-leb L 4096 i); leaves = z }
 
   module _ (a : FigureAnswer) (low : L ≤ 4096) (word : t < 4294967296) (p : Prepared b a ns) where
     timely : leb t 4294967295 ≡ true
@@ -52,12 +54,14 @@ module _ (b : List ℕ) (L t h c n : ℕ) (ns : List ℕ) where
 
     pub step-no-rule : {x : Refusal} → a ≡ Refused x → Admitted b L t h c n (Refused StateNotOpened) ns
     unfolding admit-lengths must and-then as-21
-    step-no-rule e = record { answer = simp (le-leb L 4096 low, timely, ← p .answer, e); ready = tt }
+    step-no-rule e =
+        record { answer = simp (le-leb L 4096 low, timely, ← p .answer, e); leaves = subst (Leaves b ns) (ap told e) (p .leaves) }
 
-    ready-as : (r : Answer Figures) → Ready b ns r
-    ready-as (refused m) = tt
-    ready-as (accepted f) = p .laid
-
-    pub step-fits : {f : Figures} (r : FigureAnswer) → a ≡ Sized f → told r ≡ fit-opened f L t h c n → Admitted b L t h c n r ns
+    pub step-fits : {f : Figures} (r : FigureAnswer) (last : List ℕ) → a ≡ Sized f → told r ≡ fit-opened f L t h c n → Kept (told r) ns last
+        → Admitted b L t h c n r last
     unfolding admit-lengths must and-then as-21 fit-opened
-    step-fits r e i = record { answer = i ∙ simp (le-leb L 4096 low, timely, ← p .answer, e); ready = ready-as (told r) }
+    step-fits r last e i k =
+        record {
+          answer = i ∙ simp (le-leb L 4096 low, timely, ← p .answer, e);
+          leaves = kept-leaves b ns last (told r) (subst (Leaves b ns) (ap told e) (p .leaves)) k;
+        }

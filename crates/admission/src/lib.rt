@@ -6,6 +6,8 @@ ghost use Rattle.figures.specs.Prepared.{told};
 ghost use Rattle.demand.specs.Contract.{room, fit-lengths, fit-opened};
 ghost use Rattle.admission.specs.Admitted.{Small, Admitted};
 use figures::FigureAnswer;
+use figures::clear_if_refused;
+use nodes::fill;
 use refusal::Refusal;
 use rule::Figures;
 
@@ -88,8 +90,8 @@ fn fit_state(
     fit_step(f, opened, tick, history, cells, report)
 }
 
-// The figures with which a step goes on, or a refusal: 21, 17 to 20. The body's node table, with its sizes, is left in `nodes`: memory to
-// work in, which holds the rule where the step is not refused.
+// The figures with which a step goes on, or a refusal: 21, 17 to 20. The body's node table, with its sizes, is left in `nodes`; a refusal
+// leaves it all 0.
 pub fn admit_step(
     body: &[u8],
     opened: usize,
@@ -102,11 +104,16 @@ pub fn admit_step(
     ensures { λ r. ⌜ Admitted (now (body .entry)) opened tick history cells report r (now (nodes .exit)) ⌝ }
 {
     if 4096 < opened {
+        fill(nodes, 0);
         return FigureAnswer::Refused(Refusal::StateNotOpened);
     }
     let a = figures::prepare(body, nodes);
     match a {
         FigureAnswer::Refused(_) => FigureAnswer::Refused(Refusal::StateNotOpened),
-        FigureAnswer::Sized(f) => fit_state(f, opened, tick, history, cells, report),
+        FigureAnswer::Sized(f) => {
+            let fit = fit_state(f, opened, tick, history, cells, report);
+            clear_if_refused(fit, nodes);
+            fit
+        }
     }
 }

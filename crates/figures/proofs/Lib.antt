@@ -3,5 +3,5 @@ mod CountedLimits
 mod Distances
 mod Parts
 mod Arms
-mod Bodies
+pub mod Bodies
 pub mod Exact

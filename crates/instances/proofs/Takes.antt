@@ -14,10 +14,10 @@ use Rattle.reader.specs.Decoded as decoded
 use Rattle.figures.specs.declared.answer.FigureAnswer.{FigureAnswer}
 use Rattle.figures.specs.declared.answer.FigureAnswer.the-variants.{Sized, Refused}
 use Rattle.figures.specs.Measured.{SizesAt}
-use Rattle.figures.specs.Prepared.{told, Laid}
+use Rattle.figures.specs.Prepared.{told, Laid, Leaves}
 use Rattle.demand.specs.Contract.{admit-lengths}
 use Rattle.demand.proofs.Admission.{StepAdmitted, step-admitted}
-use Rattle.admission.specs.Admitted.{Ready, Admitted}
+use Rattle.admission.specs.Admitted.{Admitted}
 use Rattle.instances.specs.Answers.{state-at}
 use Rattle.instances.specs.Moves.{TableOf, TickFit}
 use Rattle.instances.specs.Batches.{FlagsFit}
@@ -35,7 +35,7 @@ module _ (b : List ℕ) (L t h c n : ℕ) (a : FigureAnswer) (ns : List ℕ) (ad
 
     pub table-of : (live : ℕ) → TableOf ns f h t (state-at b L t live)
     table-of live =
-        let laid : Laid ns (body b) = subst (Ready b ns) (ap told sized) (admits .ready) in
+        let laid : Laid ns (body b) = subst (Leaves b ns) (ap told sized) (admits .leaves) in
         let l : decoded.Stands (known .formula) ns × SizesAt (known .formula) ns (at-tick ∷ []) 0 = subst (Laid ns) (known .reads) laid in
         let fits = known .history-fits in
         record {
