@@ -19,7 +19,8 @@ use Rattle.nodes.proofs.Nots.{over-nots}
 use Rattle.cell_count.specs.Counts.{cap}
 use Rattle.figures.specs.declared.scope.Scope.{Scope}
 use Rattle.figures.specs.declared.measure.Figure.{Figure}
-use Rattle.figures.specs.Capped.{inside, Near, Modest, flag-figure, then-figure, beside-figure, range-figure, FigureOf}
+use Rattle.figures.specs.Distances.{inside, Near, farthest, Modest}
+use Rattle.figures.specs.Parts.{flag-figure, then-figure, beside-figure, range-figure, FigureOf}
 use Rattle.figures.specs.Measured.{SizesAt, Measured, Promise, Measures}
 use Rattle.figures.proofs.Distances.{modest-larger, modest-delay}
 use Rattle.figures.proofs.Parts.{flag-of, negate-of, then-of, beside-of, forall-of}
@@ -207,7 +208,7 @@ module _ (old : List ℕ) (left m i w : ℕ) (ps : List Pair) (start : Size) (q 
     beside-arm n₃ c p′ len′ en er (forall B C F) e h l n = absurd (omega arith)
 
   -- a quantifier: R its variable's pair
-  module _ (R : Pair) (eR : R ≡ range-pair (bound-at old (i + 1)) (bound-at old (i + 4)) ps) (near : Near 131072 (R .upper)) (c : w ≡ 5) (k : Size) (ek : k ≡ larger start (N (R .upper)))
+  module _ (R : Pair) (eR : R ≡ range-pair (bound-at old (i + 1)) (bound-at old (i + 4)) ps) (c : w ≡ 5) (k : Size) (ek : k ≡ larger start (N (R .upper)))
       (ps′ : List Pair) (ep : ps′ ≡ ps ++ (R ∷ [])) (n₁ n₃ : List ℕ) (f r : Figure) (len : length n₁ ≡ length old)
       (en : n₃ ≡ set (set n₁ (i + 8) (cap (width R))) (i + 9) (4 * (1 + f .cells))) where
     other : (x : ℕ) → (x ≡ i + 8 → ⊥) → (x ≡ i + 9 → ⊥) → getD n₃ x 0 ≡ getD n₁ x 0
@@ -236,8 +237,7 @@ module _ (old : List ℕ) (left m i w : ℕ) (ps : List Pair) (start : Size) (q 
         let fig : FigureOf F (ps ++ (range-pair B C ps ∷ [])) (larger start (N ((range-pair B C ps) .upper))) f =
         subst (λ (y : Size). FigureOf F (ps ++ (range-pair B C ps ∷ [])) y f) eK (subst (λ (y : List Pair). FigureOf F y k f) eP (x .figure)) in
         record {
-          figure = subst (λ (y : Figure). FigureOf (forall B C F) ps start y) (sym (er ∙ ap (λ (y : Pair). range-figure y start f) eQ))
-              (forall-of B C F ps start f (subst (λ (y : Pair). Near 131072 (y .upper)) eQ near) fig);
+          figure = subst (λ (y : Figure). FigureOf (forall B C F) ps start y) (sym (er ∙ ap (λ (y : Pair). range-figure y start f) eQ)) (forall-of B C F ps start f fig);
           holds = (
             same (i + 0) (omega arith) (λ d. omega arith) (λ d. omega arith) x ∙ h .0,
             (
@@ -292,6 +292,6 @@ pub beside-safe : (f g r : Figure) → r ≡ beside-figure f g → Modest (f .de
 unfolding beside-figure
 beside-safe f g r e a b = subst Safe (sym e) (omega arith, modest-larger (f .delay) (g .delay) a b)
 
-pub range-safe : (R : Pair) (k : Size) (f r : Figure) → r ≡ range-figure R k f → Modest (f .delay) → Near 131072 (R .upper) → Safe r
+pub range-safe : (R : Pair) (k : Size) (f r : Figure) → r ≡ range-figure R k f → Modest (f .delay) → Near farthest (R .upper) → Safe r
 unfolding range-figure
 range-safe R k f r e a b = subst Safe (sym e) (omega arith, modest-larger (f .delay) (N (R .upper)) a (modest-delay (R .upper) b))

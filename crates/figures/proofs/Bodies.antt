@@ -20,7 +20,8 @@ use Rattle.reader.specs.Decoded.{Stands, Decoded}
 use Rattle.reader.proofs.Told.{refused-body, refused-table, read-formula}
 use Rattle.figures.specs.declared.measure.Figure.{Figure}
 use Rattle.figures.specs.declared.answer.FigureAnswer.{FigureAnswer}
-use Rattle.figures.specs.Capped.{capped-needed, Within, FigureOf}
+use Rattle.figures.specs.Distances.{Within}
+use Rattle.figures.specs.Parts.{capped-needed, FigureOf}
 use Rattle.figures.specs.Measured.{Measured, Promise}
 use Rattle.figures.specs.Prepared.{told, Laid, Leaves, Prepared, Kept}
 use Rattle.figures.proofs.CountedLimits.{capped-limits}

@@ -19,7 +19,7 @@ use Rattle.rule.specs.declared.Size.the-variants.{Finite, Unbounded}
 use Rattle.rule.specs.declared.Pair.{Pair}
 use Rattle.rule.proofs.Order.{by-order}
 use Rattle.nodes.specs.Table.{bound-of, bound-at}
-use Rattle.figures.specs.Capped.{Near, Within, Modest}
+use Rattle.figures.specs.Distances.{Near, Within, farthest, Modest}
 use Rattle.figures.proofs.Numbers.{abs-sum, abs-parts}
 
 pub signed-abs : (w : ℕ) → natAbs (signed w) ≤ 32768
@@ -90,7 +90,7 @@ modest-larger (Finite a) (Finite b) h k = omega arith
 modest-larger (Finite a) Unbounded h k = tt
 modest-larger Unbounded b h k = tt
 
-pub modest-delay : (u : Limit) → Near 131072 u → Modest (N u)
+pub modest-delay : (u : Limit) → Near farthest u → Modest (N u)
 unfolding N
 modest-delay Lowest h = omega arith
 modest-delay (At z) h = omega (arith, abs-parts z)

@@ -1,5 +1,5 @@
 -- Small signed numbers: what is read back from their bits, sums and differences.
-use Prim.Native.Nat.{ℕ, zero, suc, _+_, _≤_, _<_}
+use Prim.Native.Nat.{ℕ, zero, suc, _+_, _*_, _≤_, _<_}
 use mathlib.Core.Path.{_≡_, refl, sym, ap, _∙_, subst}
 use mathlib.Core.Logic.{_⊎_, inl, inr}
 use mathlib.Core.List.{List, [], _∷_}
@@ -12,6 +12,7 @@ use mir.ValLaws.{toZ-ofZ}
 use Rattle.rule.proofs.Signed.{sum-parts, sub-parts-ℤ, apart}
 use Rattle.rule.specs.Meaning.{raised}
 use Rattle.rule.specs.Positions.{sunk}
+use Rattle.figures.specs.Distances.{farthest}
 
 abbrev pub bits : ℤ → ℤ
 bits z = toZ w64 (ofZ w64 z)
@@ -44,7 +45,7 @@ bits-are z h = toZ-ofZ w64 z (small-fits z h)
 pub bits-abs : (z : ℤ) (b : ℕ) → natAbs z ≤ b → b ≤ 4000000 → natAbs (bits z) ≤ b
 bits-abs z b h k = subst (λ (y : ℤ). natAbs y ≤ b) (sym (bits-are z (omega arith))) h
 
-module _ (a b : ℤ) (h : natAbs a ≤ 1000000) (k : natAbs b ≤ 1000000) where
+module _ (a b : ℤ) (h : natAbs a ≤ 2 * farthest) (k : natAbs b ≤ 2 * farthest) where
   pub sum-fits : SFits w64 (bits a +ℤ bits b)
   sum-fits = rw (bits-are a (omega arith), bits-are b (omega arith)) (small-fits (a +ℤ b) (omega (arith, abs-sum a b)))
 

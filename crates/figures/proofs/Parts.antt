@@ -2,7 +2,6 @@
 use Prim.Native.Nat.{ℕ}
 use mathlib.Core.Path.{refl, ap, _∙_}
 use mathlib.Core.List.{List, [], _∷_, _++_}
-use native.Mathlib.Omega.{arith}
 use Rattle.rule.specs.Formula.{Bound, Formula, flag, negate, then, beside, forall}
 use Rattle.rule.specs.Figures.{larger, range-pair, N, N-back, width, delay, history, cells}
 use Rattle.rule.specs.declared.Size.{Size}
@@ -10,16 +9,15 @@ use Rattle.rule.specs.declared.Pair.{Pair}
 use Rattle.cell_count.specs.Counts.{cap, then-cells, beside-cells, range-cells}
 use Rattle.cell_count.proofs.Saturation.{cap-then, cap-beside, cap-range}
 use Rattle.figures.specs.declared.measure.Figure.{Figure}
-use Rattle.figures.specs.Capped.{Near, flag-figure, then-figure, beside-figure, range-figure, FigureOf}
-use Rattle.figures.proofs.Distances.{modest-larger, modest-delay}
+use Rattle.figures.specs.Parts.{flag-figure, then-figure, beside-figure, range-figure, FigureOf}
 
 pub flag-of : (v k : ℕ) (ps : List Pair) (start : Size) → FigureOf (flag v k) ps start flag-figure
 unfolding flag-figure delay history cells
-flag-of v k ps start = record { delay-is = refl; history-is = refl; cells-is = refl; modest = omega arith }
+flag-of v k ps start = record { delay-is = refl; history-is = refl; cells-is = refl }
 
 pub negate-of : (F : Formula) (ps : List Pair) (start : Size) (r : Figure) → FigureOf F ps start r → FigureOf (negate F) ps start r
 unfolding delay history cells
-negate-of F ps start r f = record { delay-is = f .delay-is; history-is = f .history-is; cells-is = f .cells-is; modest = f .modest }
+negate-of F ps start r f = record { delay-is = f .delay-is; history-is = f .history-is; cells-is = f .cells-is }
 
 module _ (F G : Formula) (ps : List Pair) (start : Size) (f g : Figure) where
   pub then-of : FigureOf F ps start f → FigureOf G ps (larger start (f .delay)) g → FigureOf (then F G) ps start (then-figure f g)
@@ -30,7 +28,6 @@ module _ (F G : Formula) (ps : List Pair) (start : Size) (f g : Figure) where
         history-is = ap (larger (f .history)) (y .history-is) ∙ ap (λ (d : Size). larger d (history G ps (larger start (f .delay)))) (x .history-is)
             ∙ ap (λ (d : Size). larger (history F ps start) (history G ps (larger start d))) (x .delay-is);
         cells-is = ap (λ (n : ℕ). then-cells n (g .cells)) (x .cells-is) ∙ ap (then-cells (cap (cells F ps))) (y .cells-is) ∙ cap-then (cells F ps) (cells G ps);
-        modest = modest-larger (f .delay) (g .delay) (x .modest) (y .modest);
       }
 
   pub beside-of : FigureOf F ps start f → FigureOf G ps start g → FigureOf (beside F G) ps start (beside-figure f g)
@@ -40,17 +37,15 @@ module _ (F G : Formula) (ps : List Pair) (start : Size) (f g : Figure) where
         delay-is = ap (larger (f .delay)) (y .delay-is) ∙ ap (λ (d : Size). larger d (delay G ps)) (x .delay-is);
         history-is = ap (larger (f .history)) (y .history-is) ∙ ap (λ (d : Size). larger d (history G ps start)) (x .history-is);
         cells-is = ap (λ (n : ℕ). beside-cells n (g .cells)) (x .cells-is) ∙ ap (beside-cells (cap (cells F ps))) (y .cells-is) ∙ cap-beside (cells F ps) (cells G ps);
-        modest = modest-larger (f .delay) (g .delay) (x .modest) (y .modest);
       }
 
-pub forall-of : (B C : Bound) (F : Formula) (ps : List Pair) (start : Size) (f : Figure) → Near 131072 ((range-pair B C ps) .upper)
+pub forall-of : (B C : Bound) (F : Formula) (ps : List Pair) (start : Size) (f : Figure)
     → FigureOf F (ps ++ (range-pair B C ps ∷ [])) (larger start (N ((range-pair B C ps) .upper))) f
     → FigureOf (forall B C F) ps start (range-figure (range-pair B C ps) start f)
 unfolding range-figure delay history cells
-forall-of B C F ps start f h x =
+forall-of B C F ps start f x =
     record {
       delay-is = ap (λ (d : Size). larger d (N ((range-pair B C ps) .upper))) (x .delay-is);
       history-is = ap (larger (N-back start ((range-pair B C ps) .lower))) (x .history-is);
       cells-is = ap (range-cells (cap (width (range-pair B C ps)))) (x .cells-is) ∙ cap-range (width (range-pair B C ps)) (cells F (ps ++ (range-pair B C ps ∷ [])));
-      modest = modest-larger (f .delay) (N ((range-pair B C ps) .upper)) (x .modest) (modest-delay ((range-pair B C ps) .upper) h);
     }

@@ -1,3 +1,4 @@
-pub mod Capped
+pub mod Distances
+pub mod Parts
 pub mod Measured
 pub mod Prepared

@@ -12,7 +12,8 @@ use Rattle.nodes.specs.Table.{Holds}
 use Rattle.cell_count.specs.Counts.{cap}
 use Rattle.figures.specs.declared.scope.Scope.{Scope}
 use Rattle.figures.specs.declared.measure.Figure.{Figure}
-use Rattle.figures.specs.Capped.{inside, Modest, FigureOf}
+use Rattle.figures.specs.Distances.{inside, Modest}
+use Rattle.figures.specs.Parts.{FigureOf}
 
 -- Beside: word 10 is the words of the first part's run. For all: word 8 is W, word 9 the words of one position's slot. All are made of
 -- cells that are counted up to 4,097: within the limits these are 01's figures.

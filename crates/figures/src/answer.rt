@@ -4,7 +4,7 @@ ghost use mathlib.Core.Path.{_≡_};
 ghost use Rattle.rule.specs.Figures.{limit-cells, limit-history, limit-delay};
 ghost use Rattle.rule.specs.declared.Size.the-variants.{Finite};
 ghost use Rattle.cell_count.specs.Counts.{rule-cells};
-ghost use Rattle.figures.specs.Capped.{capped-needed};
+ghost use Rattle.figures.specs.Parts.{capped-needed};
 ghost use Rattle.figures.specs.Prepared.{told, Kept};
 use cell_count::rule_cells;
 use cell_count::within_limit;

@@ -1,33 +1,33 @@
 // Numbers with a sign and infinite ones: 01's N(u), N(k - l) and W.
 ghost use mathlib.Core.Path.{_≡_};
-ghost use Prim.Native.Nat.{_≤_, max};
+ghost use Prim.Native.Nat.{_*_, _≤_, max};
 ghost use lib.IntN.{natAbs, pos, _+ℤ_, _-ℤ_};
 ghost use Rattle.rule.specs.Figures.{shift, N, N-back, positions-from, larger};
 ghost use Rattle.cell_count.specs.Counts.{cap};
-ghost use Rattle.figures.specs.Capped.{Near, Modest};
+ghost use Rattle.figures.specs.Distances.{Near, farthest, Modest};
 use cell_count::ABOVE_LIMIT;
 use cell_count::capped;
 use rule::Limit;
 use rule::Size;
 use signed::at_least_zero;
 
-// Both numbers are small: offsets and their sums over 4 quantifiers.
+// Both numbers are small: limits near the tick, offsets, or a range's length.
 fn sum(a: i64, b: i64) -> i64
-    requires { ⌜ (natAbs a ≤ 1000000) × (natAbs b ≤ 1000000) ⌝ }
+    requires { ⌜ (natAbs a ≤ 2 * farthest) × (natAbs b ≤ 2 * farthest) ⌝ }
     ensures { λ r. ⌜ r ≡ a +ℤ b ⌝ }
 {
     a + b
 }
 
 fn difference(a: i64, b: i64) -> i64
-    requires { ⌜ (natAbs a ≤ 1000000) × (natAbs b ≤ 1000000) ⌝ }
+    requires { ⌜ (natAbs a ≤ 2 * farthest) × (natAbs b ≤ 2 * farthest) ⌝ }
     ensures { λ r. ⌜ r ≡ a -ℤ b ⌝ }
 {
     a - b
 }
 
 fn as_signed(k: u64) -> i64
-    requires { ⌜ k ≤ 1000000 ⌝ }
+    requires { ⌜ k ≤ farthest ⌝ }
     ensures { λ r. ⌜ r ≡ pos k ⌝ }
 {
     k as i64
@@ -55,7 +55,7 @@ pub(crate) fn larger_size(a: Size, b: Size) -> Size
 
 // A limit moved by an offset; an infinite one stays.
 pub(crate) fn shifted(l: Limit, n: i64) -> Limit
-    requires { ⌜ Near 1000000 l × (natAbs n ≤ 1000000) ⌝ }
+    requires { ⌜ Near farthest l × (natAbs n ≤ farthest) ⌝ }
     ensures { λ r. ⌜ r ≡ shift n l ⌝ }
 {
     match l {
@@ -78,7 +78,7 @@ pub(crate) fn range_delay(u: Limit) -> Size
 
 // N(k - l), a range's own history.
 pub(crate) fn range_history(k: Size, l: Limit) -> Size
-    requires { ⌜ Modest k × Near 1000000 l ⌝ }
+    requires { ⌜ Modest k × Near farthest l ⌝ }
     ensures { λ r. ⌜ r ≡ N-back k l ⌝ }
 {
     match l {
@@ -93,7 +93,7 @@ pub(crate) fn range_history(k: Size, l: Limit) -> Size
 
 // W, a range's positions, counted up to 4,097.
 pub(crate) fn range_width(l: Limit, u: Limit) -> u16
-    requires { ⌜ Near 400000 l × Near 400000 u ⌝ }
+    requires { ⌜ Near farthest l × Near farthest u ⌝ }
     ensures { λ r. ⌜ r ≡ cap (positions-from l u) ⌝ }
 {
     match l {

@@ -6,7 +6,8 @@ ghost use lib.ListN.{set};
 ghost use Rattle.rule.specs.Figures.{N, larger, width, at-tick};
 ghost use Rattle.rule.specs.declared.Size.the-variants.{Finite};
 ghost use Rattle.cell_count.specs.Counts.{cap};
-ghost use Rattle.figures.specs.Capped.{Near, Modest, flag-figure, then-figure, beside-figure, range-figure, Ready};
+ghost use Rattle.figures.specs.Distances.{Near, farthest, Modest, Ready};
+ghost use Rattle.figures.specs.Parts.{flag-figure, then-figure, beside-figure, range-figure};
 ghost use Rattle.figures.specs.Measured.{Measures, Promise};
 use crate::limits::larger_size;
 use crate::limits::range_delay;
@@ -76,7 +77,7 @@ fn beside_figure(f: Figure, g: Figure) -> Figure
 
 // A range whose variable has the pair r, started at k at the latest, over a body with the figures f.
 fn range_figure(r: Pair, k: Size, f: Figure) -> Figure
-    requires { ⌜ Near 400000 (r .lower) × (Near 400000 (r .upper) × Modest k) ⌝ }
+    requires { ⌜ Near farthest (r .lower) × (Near farthest (r .upper) × Modest k) ⌝ }
     ensures { λ x. ⌜ x ≡ range-figure r k f ⌝ }
 {
     let l = r.lower;
@@ -113,7 +114,7 @@ fn store(nodes: &mut [u32], i: usize, k: usize, v: u16)
 
 // Stores a range's W and the words of one position's slot: a cell and its body's c cells.
 fn store_range(nodes: &mut [u32], i: usize, r: Pair, c: u16)
-    requires { ⌜ Near 400000 (r .lower) × (Near 400000 (r .upper) × (c ≤ 4097)) ⌝ }
+    requires { ⌜ Near farthest (r .lower) × (Near farthest (r .upper) × (c ≤ 4097)) ⌝ }
     ensures { λ _. ⌜ now (nodes .exit) ≡ set (set (now (nodes .entry)) (i + 8) (cap (width r))) (i + 9) (4 * (1 + c)) ⌝ }
 {
     let l = r.lower;

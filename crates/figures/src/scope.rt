@@ -6,7 +6,7 @@ ghost use lib.ListN.{length, getD};
 ghost use lib.IntN.{natAbs};
 ghost use Rattle.rule.specs.Figures.{bound-pair, range-pair, anywhere};
 ghost use Rattle.nodes.specs.Table.{bound-at};
-ghost use Rattle.figures.specs.Capped.{inside, Near, Within, shift-pair};
+ghost use Rattle.figures.specs.Distances.{inside, Near, farthest, Within, shift-pair};
 use crate::limits::shifted;
 use nodes::node_word;
 use rule::Limit;
@@ -19,7 +19,7 @@ pub(crate) struct Scope {
 }
 
 fn shifted_pair(p: Pair, n: i64) -> Pair
-    requires { ⌜ Near 1000000 (p .lower) × (Near 1000000 (p .upper) × (natAbs n ≤ 1000000)) ⌝ }
+    requires { ⌜ Near farthest (p .lower) × (Near farthest (p .upper) × (natAbs n ≤ farthest)) ⌝ }
     ensures { λ r. ⌜ r ≡ shift-pair n p ⌝ }
 {
     let l = p.lower;

@@ -24,9 +24,6 @@ pub formula-back : (F : Named) (r : List ℕ) → Spelt F → formula-at (formul
 unfolding formula-at
 formula-back F r s = formula-over (suc (length (formula-text F r))) F r (omega (arith, formula-long F r)) s
 
-pub one-formula : (F G : Named) (r t : List ℕ) → Spelt F → Spelt G → formula-text F r ≡ formula-text G t → (F ≡ G) × (r ≡ t)
-one-formula F G r t f g e = same-got F G r t (sym (formula-back F r f) ∙ ap formula-at e ∙ formula-back G t g)
-
 -- ---- rules
 
 pub rule-back : (N : Rule) → SpeltRule N → rule-at (text N) ≡ got N []
@@ -114,9 +111,6 @@ parts-same n open-token t h =
     second-same F j v l = ap (λ (y : Got Named). bind y (λ G t. expect (41 ∷ []) t (λ u. got (joined j F G) u))) (any-number n (suc (length v)) v l (omega arith))
 
 -- A formula's text is shorter after its start.
-abbrev Shorter : List ℕ → Token → List ℕ → Type 0
-Shorter s T t = length t < length s
-
 pub head-shorter : (s : List ℕ) (T : Token) (t : List ℕ) → Heads s T t → length t < length s
 head-shorter s (flag-token n k) t h = omega (arith, ap length (h .2), length-append n (46 ∷ k ∷ t))
 head-shorter s negate-token t h = omega (arith, ap length h)

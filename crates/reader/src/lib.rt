@@ -3,7 +3,6 @@ mod bounds;
 mod checks;
 mod writer;
 
-ghost use mathlib.Core.Path.{_≡_};
 ghost use Prim.Native.Nat.{_≤_};
 ghost use lib.ListN.{length};
 ghost use Rattle.reader.specs.Filled.{Filled};

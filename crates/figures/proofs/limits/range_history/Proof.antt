@@ -1,5 +1,5 @@
 -- `figures::limits::range_history` meets its contract.
-use Prim.Native.Nat.{_≤_}
+use Prim.Native.Nat.{_*_, _≤_}
 use mathlib.Core.Path.{_≡_, refl, sym, ap, subst, _∙_}
 use native.Mathlib.Omega.{arith}
 use lib.IntN.{ℤ, natAbs, _-ℤ_}
@@ -9,7 +9,7 @@ use Rattle.rule.specs.Figures.{N-back}
 use Rattle.rule.specs.declared.Size.{Size}
 use Rattle.rule.specs.declared.Size.the-variants.{Finite, Unbounded}
 use Rattle.rule.specs.declared.Limit.the-variants.{Lowest, Highest}
-use Rattle.figures.specs.Capped.{Near, Modest}
+use Rattle.figures.specs.Distances.{Near, farthest, Modest}
 use Rattle.figures.proofs.Numbers.{bits-abs, difference-read}
 use Rattle.figures.proofs.limits.range_history.Statement.{statement}
 use Rattle.figures.proofs.limits.range_history.Tie as tie
@@ -36,15 +36,15 @@ enum-known-k c = search needs
 as-signed-requires : tie.Need-as-signed-requires
 as-signed-requires c κs =
     let s₀ = c .before .before .before .before .before .before in
-    let h : c .before .k .given .0 .0 ≤ 131072 = subst Modest (c .before .k .given .1) (s₀ .pre .0) in
+    let h : c .before .k .given .0 .0 ≤ farthest = subst Modest (c .before .k .given .1) (s₀ .pre .0) in
     omega arith
 
 difference-requires : tie.Need-difference-requires
 difference-requires c κs =
     let s₀ = c .before .before .before .before .before .before .before in
-    let h : c .before .before .k .given .0 .0 ≤ 131072 = subst Modest (c .before .before .k .given .1) (s₀ .pre .0) in
-    let g : natAbs (c .before .before .before .before .before .l .given .0 .0) ≤ 1000000 = subst (Near 1000000) (c .before .before .before .before .before .l .given .1) (s₀ .pre .1) in
-    (bits-abs (c .as-signed .result) 1000000 (subst (λ (z : ℤ). natAbs z ≤ 1000000) (sym (c .as-signed .ensures)) (omega arith)) (omega arith), bits-abs (c .before .before .before .before .before .l .given .0 .0) 1000000 g (omega arith))
+    let h : c .before .before .k .given .0 .0 ≤ farthest = subst Modest (c .before .before .k .given .1) (s₀ .pre .0) in
+    let g : natAbs (c .before .before .before .before .before .l .given .0 .0) ≤ farthest = subst (Near farthest) (c .before .before .before .before .before .l .given .1) (s₀ .pre .1) in
+    (bits-abs (c .as-signed .result) (2 * farthest) (subst (λ (z : ℤ). natAbs z ≤ 2 * farthest) (sym (c .as-signed .ensures)) (omega arith)) (omega arith), bits-abs (c .before .before .before .before .before .l .given .0 .0) (2 * farthest) (omega arith) (omega arith))
 
 at-least-zero-requires : tie.Need-at-least-zero-requires
 at-least-zero-requires c κs = search needs
@@ -64,10 +64,10 @@ returns-2 : tie.Need-returns-2
 unfolding N-back
 returns-2 c =
     let s₀ = c .before .before .before .before .before .before .before .before .before in
-    let h : c .before .before .before .before .k .given .0 .0 ≤ 131072 = subst Modest (c .before .before .before .before .k .given .1) (s₀ .pre .0) in
-    let g : natAbs (c .before .before .before .before .before .before .before .l .given .0 .0) ≤ 1000000 = subst (Near 1000000) (c .before .before .before .before .before .before .before .l .given .1) (s₀ .pre .1) in
+    let h : c .before .before .before .before .k .given .0 .0 ≤ farthest = subst Modest (c .before .before .before .before .k .given .1) (s₀ .pre .0) in
+    let g : natAbs (c .before .before .before .before .before .before .before .l .given .0 .0) ≤ farthest = subst (Near farthest) (c .before .before .before .before .before .before .before .l .given .1) (s₀ .pre .1) in
     rw (c .before .before .before .before .k .given .1, c .before .before .before .before .before .before .before .l .given .1)
-    (ap Finite (c .at-least-zero .ensures ∙ ap raised (difference-read (c .before .before .as-signed .result) (c .before .before .before .before .before .before .before .l .given .0 .0) (subst (λ (z : ℤ). natAbs z ≤ 1000000) (sym (c .before .before .as-signed .ensures)) (omega arith)) g (c .before .difference .ensures)
+    (ap Finite (c .at-least-zero .ensures ∙ ap raised (difference-read (c .before .before .as-signed .result) (c .before .before .before .before .before .before .before .l .given .0 .0) (subst (λ (z : ℤ). natAbs z ≤ 2 * farthest) (sym (c .before .before .as-signed .ensures)) (omega arith)) (omega arith) (c .before .difference .ensures)
     ∙ ap (λ (z : ℤ). z -ℤ c .before .before .before .before .before .before .before .l .given .0 .0) (c .before .before .as-signed .ensures))))
 
 returns-3 : tie.Need-returns-3

@@ -1,25 +1,25 @@
 -- `figures::limits::range_width` meets its contract.
-use Prim.Native.Nat.{ℕ, _≤_, min}
+use Prim.Native.Nat.{ℕ, _*_, _≤_, min}
 use mathlib.Core.Path.{_≡_, sym, ap, subst, _∙_}
 use native.Mathlib.Omega.{arith}
 use lib.IntN.{ℤ, natAbs, pos, _+ℤ_, _-ℤ_}
 use borrow.Author.Needs.{needs}
 use Rattle.rule.specs.Meaning.{raised}
 use Rattle.rule.specs.Figures.{positions-from}
-use Rattle.figures.specs.Capped.{Near}
+use Rattle.figures.specs.Distances.{Near, farthest}
 use Rattle.figures.proofs.Numbers.{bits, bits-abs, bits-are, sum-read, difference-read, abs-difference}
 use Rattle.figures.proofs.limits.range_width.Statement.{statement}
 use Rattle.figures.proofs.limits.range_width.Tie as tie
 
 -- u - l + 1, where d is u - l
-module _ (a b : ℤ) (h : natAbs a ≤ 400000) (g : natAbs b ≤ 400000) (d : ℤ) (e : d ≡ bits b -ℤ bits a) where
+module _ (a b : ℤ) (h : natAbs a ≤ farthest) (g : natAbs b ≤ farthest) (d : ℤ) (e : d ≡ bits b -ℤ bits a) where
   apart : bits d ≡ b -ℤ a
   apart = difference-read b a (omega arith) (omega arith) e
 
-  d-small : natAbs (bits d) ≤ 1000000
-  d-small = subst (λ (z : ℤ). natAbs z ≤ 1000000) (sym apart) (omega (arith, abs-difference b a))
+  d-small : natAbs (bits d) ≤ 2 * farthest
+  d-small = subst (λ (z : ℤ). natAbs z ≤ 2 * farthest) (sym apart) (omega (arith, abs-difference b a))
 
-  d-abs : natAbs d ≤ 1000000
+  d-abs : natAbs d ≤ 2 * farthest
   d-abs =
       let f : d ≡ b -ℤ a = e ∙ ap (λ (z : ℤ). z -ℤ bits a) (bits-are b (omega arith)) ∙ ap (λ (z : ℤ). b -ℤ z) (bits-are a (omega arith)) in
       rw f (omega (arith, abs-difference b a))
@@ -44,15 +44,15 @@ enum-known-u c = search needs
 difference-requires : tie.Need-difference-requires
 difference-requires c κs =
     let s₀ = c .before .before .before .before .before .before in
-    let h : natAbs (c .before .before .before .before .l .given .0 .0) ≤ 400000 = subst (Near 400000) (c .before .before .before .before .l .given .1) (s₀ .pre .0) in
-    let g : natAbs (c .before .u .given .0 .0) ≤ 400000 = subst (Near 400000) (c .before .u .given .1) (s₀ .pre .1) in
-    (bits-abs (c .before .u .given .0 .0) 1000000 (omega arith) (omega arith), bits-abs (c .before .before .before .before .l .given .0 .0) 1000000 (omega arith) (omega arith))
+    let h : natAbs (c .before .before .before .before .l .given .0 .0) ≤ farthest = subst (Near farthest) (c .before .before .before .before .l .given .1) (s₀ .pre .0) in
+    let g : natAbs (c .before .u .given .0 .0) ≤ farthest = subst (Near farthest) (c .before .u .given .1) (s₀ .pre .1) in
+    (bits-abs (c .before .u .given .0 .0) (2 * farthest) (omega arith) (omega arith), bits-abs (c .before .before .before .before .l .given .0 .0) (2 * farthest) (omega arith) (omega arith))
 
 sum-requires : tie.Need-sum-requires
 sum-requires c κs =
     let s₀ = c .before .before .before .before .before .before .before in
-    let h : natAbs (c .before .before .before .before .before .l .given .0 .0) ≤ 400000 = subst (Near 400000) (c .before .before .before .before .before .l .given .1) (s₀ .pre .0) in
-    let g : natAbs (c .before .before .u .given .0 .0) ≤ 400000 = subst (Near 400000) (c .before .before .u .given .1) (s₀ .pre .1) in
+    let h : natAbs (c .before .before .before .before .before .l .given .0 .0) ≤ farthest = subst (Near farthest) (c .before .before .before .before .before .l .given .1) (s₀ .pre .0) in
+    let g : natAbs (c .before .before .u .given .0 .0) ≤ farthest = subst (Near farthest) (c .before .before .u .given .1) (s₀ .pre .1) in
     (d-small (c .before .before .before .before .before .l .given .0 .0) (c .before .before .u .given .0 .0) h g (c .difference .result) (c .difference .ensures), omega arith)
 
 at-least-zero-requires : tie.Need-at-least-zero-requires
@@ -79,8 +79,8 @@ returns-3 : tie.Need-returns-3
 unfolding positions-from
 returns-3 c =
     let s₀ = c .before .before .before .before .before .before .before .before .before .before in
-    let h : natAbs (c .before .before .before .before .before .before .before .before .l .given .0 .0) ≤ 400000 = subst (Near 400000) (c .before .before .before .before .before .before .before .before .l .given .1) (s₀ .pre .0) in
-    let g : natAbs (c .before .before .before .before .before .u .given .0 .0) ≤ 400000 = subst (Near 400000) (c .before .before .before .before .before .u .given .1) (s₀ .pre .1) in
+    let h : natAbs (c .before .before .before .before .before .before .before .before .l .given .0 .0) ≤ farthest = subst (Near farthest) (c .before .before .before .before .before .before .before .before .l .given .1) (s₀ .pre .0) in
+    let g : natAbs (c .before .before .before .before .before .u .given .0 .0) ≤ farthest = subst (Near farthest) (c .before .before .before .before .before .u .given .1) (s₀ .pre .1) in
     rw (c .before .before .before .before .before .before .before .before .l .given .1, c .before .before .before .before .before .u .given .1)
     (counted (c .before .before .before .before .before .before .before .before .l .given .0 .0) (c .before .before .before .before .before .u .given .0 .0) h g (c .before .before .before .difference .result) (c .before .before .before .difference .ensures) (c .before .before .sum .result) (c .before .at-least-zero .result) (c .capped .result)
     (c .before .before .sum .ensures) (c .before .at-least-zero .ensures) (c .capped .ensures))

@@ -1,12 +1,12 @@
 -- `figures::limits::shifted` meets its contract.
-use Prim.Native.Nat.{_≤_}
+use Prim.Native.Nat.{_*_, _≤_}
 use mathlib.Core.Path.{ap, subst}
 use native.Mathlib.Omega.{arith}
 use lib.IntN.{natAbs}
 use borrow.Author.Needs.{needs}
 use Rattle.rule.specs.Figures.{shift}
 use Rattle.rule.specs.declared.Limit.the-variants.{At}
-use Rattle.figures.specs.Capped.{Near}
+use Rattle.figures.specs.Distances.{Near, farthest}
 use Rattle.figures.proofs.Numbers.{bits-abs, sum-read}
 use Rattle.figures.proofs.limits.shifted.Statement.{statement}
 use Rattle.figures.proofs.limits.shifted.Tie as tie
@@ -20,8 +20,8 @@ enum-known-l c = search needs
 sum-requires : tie.Need-sum-requires
 sum-requires c κs =
     let s₀ = c .before .before .before in
-    let h : natAbs (c .before .l .given .0 .0) ≤ 1000000 = subst (Near 1000000) (c .before .l .given .1) (s₀ .pre .0) in
-    (bits-abs (c .before .l .given .0 .0) 1000000 h (omega arith), bits-abs (s₀ .args .n) 1000000 (s₀ .pre .1) (omega arith))
+    let h : natAbs (c .before .l .given .0 .0) ≤ farthest = subst (Near farthest) (c .before .l .given .1) (s₀ .pre .0) in
+    (bits-abs (c .before .l .given .0 .0) (2 * farthest) (omega arith) (omega arith), bits-abs (s₀ .args .n) (2 * farthest) (omega (arith, s₀ .pre .1)) (omega arith))
 
 enum-told-2 : tie.Need-enum-told-2
 enum-told-2 c = search needs
@@ -34,8 +34,8 @@ returns-2 : tie.Need-returns-2
 unfolding shift
 returns-2 c =
     let s₀ = c .before .before .before .before in
-    let h : natAbs (c .before .before .l .given .0 .0) ≤ 1000000 = subst (Near 1000000) (c .before .before .l .given .1) (s₀ .pre .0) in
-    rw (c .before .before .l .given .1) (ap At (sum-read (c .before .before .l .given .0 .0) (s₀ .args .n) h (s₀ .pre .1) (c .sum .ensures)))
+    let h : natAbs (c .before .before .l .given .0 .0) ≤ farthest = subst (Near farthest) (c .before .before .l .given .1) (s₀ .pre .0) in
+    rw (c .before .before .l .given .1) (ap At (sum-read (c .before .before .l .given .0 .0) (s₀ .args .n) (omega arith) (omega (arith, s₀ .pre .1)) (c .sum .ensures)))
 
 returns-3 : tie.Need-returns-3
 unfolding shift

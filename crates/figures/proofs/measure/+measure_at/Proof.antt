@@ -7,7 +7,7 @@ use native.Mathlib.Omega.{arith}
 use borrow.Author.Needs.{needs}
 use Rattle.nodes.proofs.Nodes.{word-in}
 use Rattle.nodes.proofs.Nots.{nots-left, nots-end}
-use Rattle.figures.specs.Capped.{inside, Near}
+use Rattle.figures.specs.Distances.{inside, Near, farthest}
 use Rattle.figures.proofs.Distances.{near-more, lower-near, upper-near, body-begun, body-within, modest-larger}
 use Rattle.figures.proofs.Arms.{none-left, deep-arm, flag-arm, then-arm, beside-arm, forall-arm, above-nots, flag-safe, then-safe, beside-safe, range-safe}
 use borrow.Fn.Kinds.{In}
@@ -52,12 +52,12 @@ module _ (t : ℕ) (n : Ranged t) where
   nested : n .before .before .before .before .before .before .before .before .before .before .before .before .before .args .m < 4
   nested = omega (arith, n .before .before .if5 .left)
 
-  lower-ok : Near 131072 (n .range-pair .result .lower)
+  lower-ok : Near farthest (n .range-pair .result .lower)
   lower-ok =
       let s₀ = n .before .before .before .before .before .before .before .before .before .before .before .before .before in
       near-more (n .range-pair .result .lower) (omega (arith, nested)) (lower-near (s₀ .args .nodes .now) (s₀ .args .m) (n .before .before .before .before .before .before .before .before .before .before .skip-nots .result .i) (inside (s₀ .args .scope) (s₀ .args .m)) nested (s₀ .pre .1 .within) (n .range-pair .result) (n .range-pair .ensures))
 
-  upper-ok : Near 131072 (n .range-pair .result .upper)
+  upper-ok : Near farthest (n .range-pair .result .upper)
   upper-ok =
       let s₀ = n .before .before .before .before .before .before .before .before .before .before .before .before .before in
       near-more (n .range-pair .result .upper) (omega (arith, nested)) (upper-near (s₀ .args .nodes .now) (s₀ .args .m) (n .before .before .before .before .before .before .before .before .before .before .skip-nots .result .i) (inside (s₀ .args .scope) (s₀ .args .m)) nested (s₀ .pre .1 .within) (n .range-pair .result) (n .range-pair .ensures))
@@ -367,13 +367,13 @@ measure-at-store-range-requires : (t : ℕ) → measure-at-lts.Need-store-range-
 measure-at-store-range-requires measure c κs =
     let at-range-pair = c .before .before .before .before .before .before .before .before .before .range-pair in
     let at-measure-at5 = c .before .before .before .measure-at5 in
-    (near-more (at-range-pair .result .lower) (omega arith) (lower-ok measure (c .before .before .before .before .before .before .before .before .before)), (near-more (at-range-pair .result .upper) (omega arith) (upper-ok measure (c .before .before .before .before .before .before .before .before .before)), at-measure-at5 .ensures .small))
+    (lower-ok measure (c .before .before .before .before .before .before .before .before .before), (upper-ok measure (c .before .before .before .before .before .before .before .before .before), at-measure-at5 .ensures .small))
 
 measure-at-range-figure-requires : (t : ℕ) → measure-at-lts.Need-range-figure-requires (measure-at-claims t) (measure-at-at t) measure-at.Post
 measure-at-range-figure-requires measure c κs =
     let s₀ = c .before .before .before .before .before .before .before .before .before .before .before .before .before .before .before .before .before .before .before .before .before .before .before .before .before in
     let at-range-pair = c .before .before .before .before .before .before .before .before .before .before .before .before .range-pair in
-    (near-more (at-range-pair .result .lower) (omega arith) (lower-ok measure (c .before .before .before .before .before .before .before .before .before .before .before .before)), (near-more (at-range-pair .result .upper) (omega arith) (upper-ok measure (c .before .before .before .before .before .before .before .before .before .before .before .before)), s₀ .pre .1 .begun))
+    (lower-ok measure (c .before .before .before .before .before .before .before .before .before .before .before .before), (upper-ok measure (c .before .before .before .before .before .before .before .before .before .before .before .before), s₀ .pre .1 .begun))
 
 measure-at-same-length-5 : (t : ℕ) → measure-at-lts.Need-same-length-5 (measure-at-claims t) (measure-at-at t) measure-at.Post
 measure-at-same-length-5 t c = search needs
@@ -402,7 +402,7 @@ measure-at-returns-5 measure c =
     let w = at-node-word .result in
     let v = range-safe (at-range-pair .result) start (at-measure-at5 .result) (at-range-figure .result) (at-range-figure .ensures) (at-measure-at5 .ensures .modest) (upper-ok measure (c .before .before .before .before .before .before .before .before .before .before .before .before .before)) in
     above-nots old (at-store-range .last .0) left m i sc start (at-range-figure .result) u (at-skip-nots .ensures)
-    (record { small = v .0; modest = v .1; promise = forall-arm old (u .left) m (u .i) w ps start (at-node-word .ensures) (at-if1 .left) (at-range-pair .result) (at-range-pair .ensures) (upper-ok measure (c .before .before .before .before .before .before .before .before .before .before .before .before .before)) (at-if4 .taken) (at-body-start .result) (at-body-start .ensures) (inside (at-with-pair .result) (m + 1)) (at-with-pair .ensures) (at-measure-at5 .last .0) (at-store-range .last .0) (at-measure-at5 .result) (at-range-figure .result) (at-measure-at5 .kept .0) (at-store-range .ensures) (at-range-figure .ensures) (at-measure-at5 .ensures .promise) })
+    (record { small = v .0; modest = v .1; promise = forall-arm old (u .left) m (u .i) w ps start (at-node-word .ensures) (at-if1 .left) (at-range-pair .result) (at-range-pair .ensures) (at-if4 .taken) (at-body-start .result) (at-body-start .ensures) (inside (at-with-pair .result) (m + 1)) (at-with-pair .ensures) (at-measure-at5 .last .0) (at-store-range .last .0) (at-measure-at5 .result) (at-range-figure .result) (at-measure-at5 .kept .0) (at-store-range .ensures) (at-range-figure .ensures) (at-measure-at5 .ensures .promise) })
 
 measure-at-flag-figure-requires-3 : (t : ℕ) → measure-at-lts.Need-flag-figure-requires-3 (measure-at-claims t) (measure-at-at t) measure-at.Post
 measure-at-flag-figure-requires-3 t c κs = tt

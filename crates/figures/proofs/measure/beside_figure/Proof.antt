@@ -1,7 +1,7 @@
 -- `figures::measure::beside_figure` meets its contract.
 use mathlib.Core.Path.{refl}
 use borrow.Author.Needs.{needs}
-use Rattle.figures.specs.Capped.{beside-figure}
+use Rattle.figures.specs.Parts.{beside-figure}
 use Rattle.figures.proofs.measure.beside_figure.Statement.{statement}
 use Rattle.figures.proofs.measure.beside_figure.Tie as tie
 

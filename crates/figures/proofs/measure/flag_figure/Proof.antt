@@ -1,6 +1,6 @@
 -- `figures::measure::flag_figure` meets its contract.
 use mathlib.Core.Path.{refl}
-use Rattle.figures.specs.Capped.{flag-figure}
+use Rattle.figures.specs.Parts.{flag-figure}
 use Rattle.figures.proofs.measure.flag_figure.Statement.{statement}
 use Rattle.figures.proofs.measure.flag_figure.Tie as tie
 

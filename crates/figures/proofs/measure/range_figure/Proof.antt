@@ -3,7 +3,7 @@ use mathlib.Core.Path.{refl}
 use native.Mathlib.Omega.{arith}
 use borrow.Author.Needs.{needs}
 use Rattle.rule.specs.Figures.{width}
-use Rattle.figures.specs.Capped.{range-figure}
+use Rattle.figures.specs.Parts.{range-figure}
 use Rattle.figures.proofs.Distances.{near-more}
 use Rattle.figures.proofs.measure.range_figure.Statement.{statement}
 use Rattle.figures.proofs.measure.range_figure.Tie as tie

@@ -1,7 +1,7 @@
 -- `figures::measure::then_figure` meets its contract.
 use mathlib.Core.Path.{refl}
 use borrow.Author.Needs.{needs}
-use Rattle.figures.specs.Capped.{then-figure}
+use Rattle.figures.specs.Parts.{then-figure}
 use Rattle.figures.proofs.measure.then_figure.Statement.{statement}
 use Rattle.figures.proofs.measure.then_figure.Tie as tie
 

@@ -10,7 +10,7 @@ use Rattle.rule.specs.Body.{signed}
 use Rattle.rule.specs.Figures.{anywhere, bound-pair}
 use Rattle.rule.specs.declared.Pair.{Pair}
 use Rattle.nodes.specs.Table.{bound-at, bound-of}
-use Rattle.figures.specs.Capped.{inside, Near, shift-pair}
+use Rattle.figures.specs.Distances.{inside, Near, farthest, shift-pair}
 use Rattle.figures.proofs.Numbers.{bits, bits-are}
 use Rattle.figures.proofs.Distances.{signed-abs, near-more}
 use Rattle.figures.proofs.scope.pair_at.Statement.{statement}
@@ -52,10 +52,10 @@ shifted-pair-requires : tie.Need-shifted-pair-requires
 shifted-pair-requires c κs =
     let s₀ = c .before .before .before .before .before .before .before .before in
     let w = s₀ .pre .1 (c .before .node-word3 .result) in (
-      subst (λ (p : Pair). Near 1000000 (p .lower)) (sym (c .pair-of .ensures)) (near-more ((getD (inside (s₀ .args .scope) (s₀ .args .m)) (c .before .node-word3 .result) anywhere) .lower) (omega (arith, s₀ .pre .0)) (w .0)),
+      subst (λ (p : Pair). Near farthest (p .lower)) (sym (c .pair-of .ensures)) (near-more ((getD (inside (s₀ .args .scope) (s₀ .args .m)) (c .before .node-word3 .result) anywhere) .lower) (omega (arith, s₀ .pre .0)) (w .0)),
       (
-        subst (λ (p : Pair). Near 1000000 (p .upper)) (sym (c .pair-of .ensures)) (near-more ((getD (inside (s₀ .args .scope) (s₀ .args .m)) (c .before .node-word3 .result) anywhere) .upper) (omega (arith, s₀ .pre .0)) (w .1)),
-        subst (λ (z : ℤ). natAbs z ≤ 1000000) (sym (offset-bits (c .before .before .before .before .offset-of .result) (c .before .before .before .before .before .node-word2 .result) (c .before .before .before .before .before .node-word2 .result) refl (c .before .before .before .before .offset-of .ensures))) (omega (arith, signed-abs (c .before .before .before .before .before .node-word2 .result))),
+        subst (λ (p : Pair). Near farthest (p .upper)) (sym (c .pair-of .ensures)) (near-more ((getD (inside (s₀ .args .scope) (s₀ .args .m)) (c .before .node-word3 .result) anywhere) .upper) (omega (arith, s₀ .pre .0)) (w .1)),
+        subst (λ (z : ℤ). natAbs z ≤ farthest) (sym (offset-bits (c .before .before .before .before .offset-of .result) (c .before .before .before .before .before .node-word2 .result) (c .before .before .before .before .before .node-word2 .result) refl (c .before .before .before .before .offset-of .ensures))) (omega (arith, signed-abs (c .before .before .before .before .before .node-word2 .result))),
       ),
     )
 

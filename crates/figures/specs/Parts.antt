@@ -1,0 +1,49 @@
+-- A formula's figures from its parts', as the code computes them: with cells that are counted up to 4,097.
+use Prim.Native.Nat.{ℕ}
+use mathlib.Core.Path.{_≡_}
+use mathlib.Core.List.{List}
+use Rattle.rule.specs.Formula.{Formula}
+use Rattle.rule.specs.Figures.{larger, N, N-back, width, delay, history, cells}
+use Rattle.rule.specs.declared.Size.{Size}
+use Rattle.rule.specs.declared.Size.the-variants.{Finite, Unbounded}
+use Rattle.rule.specs.declared.Pair.{Pair}
+use Rattle.cell_count.specs.Counts.{cap, then-cells, beside-cells, range-cells, rule-cells}
+use Rattle.figures.specs.declared.measure.Figure.{Figure}
+
+unfoldable pub flag-figure : Figure
+flag-figure = record { delay = Finite 0; history = Finite 0; cells = 0 }
+
+unfoldable pub then-figure : Figure → Figure → Figure
+then-figure f g =
+    record {
+      delay = larger (f .delay) (g .delay);
+      history = larger (f .history) (g .history);
+      cells = then-cells (f .cells) (g .cells);
+    }
+
+unfoldable pub beside-figure : Figure → Figure → Figure
+beside-figure f g =
+    record {
+      delay = larger (f .delay) (g .delay);
+      history = larger (f .history) (g .history);
+      cells = beside-cells (f .cells) (g .cells);
+    }
+
+unfoldable pub range-figure : Pair → Size → Figure → Figure
+range-figure r k f =
+    record {
+      delay = larger (f .delay) (N (r .upper));
+      history = larger (N-back k (r .lower)) (f .history);
+      cells = range-cells (cap (width r)) (f .cells);
+    }
+
+-- The figures of a formula whose variables have the pairs `ps`, started at `start` at the latest.
+pub record FigureOf (F : Formula) (ps : List Pair) (start : Size) (r : Figure) : Type 0 where
+  pub delay-is : r .delay ≡ delay F ps
+  pub history-is : r .history ≡ history F ps start
+  pub cells-is : r .cells ≡ cap (cells F ps)
+
+-- A rule's cells from its delay and its formula's cells.
+abbrev pub capped-needed : Size → ℕ → Size
+capped-needed (Finite d) c = Finite (rule-cells d c)
+capped-needed Unbounded c = Unbounded
