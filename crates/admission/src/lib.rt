@@ -7,6 +7,7 @@ ghost use Rattle.demand.specs.Contract.{room, fit-lengths, fit-opened};
 ghost use Rattle.admission.specs.Admitted.{Small, Admitted};
 use figures::FigureAnswer;
 use figures::clear_if_refused;
+use nodes::TABLE_WORDS;
 use nodes::fill;
 use refusal::Refusal;
 use rule::Figures;
@@ -99,7 +100,7 @@ pub fn admit_step(
     history: usize,
     cells: usize,
     report: usize,
-    nodes: &mut [u32; 768],
+    nodes: &mut [u32; TABLE_WORDS],
 ) -> FigureAnswer
     ensures { λ r. ⌜ Admitted (now (body .entry)) opened tick history cells report r (now (nodes .exit)) ⌝ }
 {

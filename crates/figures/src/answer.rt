@@ -8,6 +8,7 @@ ghost use Rattle.figures.specs.Parts.{capped-needed};
 ghost use Rattle.figures.specs.Prepared.{told, Kept};
 use cell_count::rule_cells;
 use cell_count::within_limit;
+use nodes::TABLE_WORDS;
 use nodes::fill;
 use refusal::Refusal;
 use rule::Figures;
@@ -20,7 +21,7 @@ pub enum FigureAnswer {
 }
 
 // What an answer leaves of the node table: a refusal makes it all 0.
-pub fn clear_if_refused(a: FigureAnswer, nodes: &mut [u32; 768])
+pub fn clear_if_refused(a: FigureAnswer, nodes: &mut [u32; TABLE_WORDS])
     ensures { λ _. ⌜ Kept (told a) (now (nodes .entry)) (now (nodes .exit)) ⌝ }
 {
     match a {

@@ -11,10 +11,11 @@ pub use answer::FigureAnswer;
 pub use answer::clear_if_refused;
 use answer::limit_delay;
 use measure::measure_rule;
+use nodes::TABLE_WORDS;
 use reader::Reading;
 
 // Reads a body into the node table, writes the sizes of its nodes (words 8 to 10) and answers its figures. A refusal leaves the table all 0.
-pub fn prepare(body: &[u8], nodes: &mut [u32; 768]) -> FigureAnswer
+pub fn prepare(body: &[u8], nodes: &mut [u32; TABLE_WORDS]) -> FigureAnswer
     ensures { λ r. ⌜ Prepared (now (body .entry)) r (now (nodes .exit)) ⌝ }
 {
     let reading = reader::read_body(body, nodes);
@@ -35,6 +36,6 @@ pub fn prepare(body: &[u8], nodes: &mut [u32; 768]) -> FigureAnswer
 pub fn figures(body: &[u8]) -> FigureAnswer
     ensures { λ r. ⌜ told r ≡ body-figures (now (body .entry)) ⌝ }
 {
-    let mut nodes = [0u32; 768];
+    let mut nodes = [0u32; TABLE_WORDS];
     prepare(body, &mut nodes)
 }

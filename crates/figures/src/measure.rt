@@ -19,10 +19,16 @@ use crate::scope::with_pair;
 use cell_count::beside_cells;
 use cell_count::range_cells;
 use cell_count::then_cells;
+use nodes::BESIDE_CODE;
 use nodes::CODE;
 use nodes::FIRST_WORDS;
+use nodes::FORALL_CODE;
+use nodes::FORMULAS;
+use nodes::NESTED;
+use nodes::NODE_WORDS;
 use nodes::SECOND_PART;
 use nodes::SLOT_WORDS;
+use nodes::THEN_CODE;
 use nodes::WIDTH;
 use nodes::node_word;
 use nodes::skip_nots;
@@ -141,22 +147,22 @@ fn measure_at(
         return flag_figure();
     }
     let code = node_word(nodes, u.i, CODE);
-    if code == 3 {
+    if code == THEN_CODE {
         let j = node_word(nodes, u.i, SECOND_PART) as usize;
-        let f = measure_at(nodes, u.left - 1, m, u.i + 12, scope, start);
+        let f = measure_at(nodes, u.left - 1, m, u.i + NODE_WORDS, scope, start);
         let d = f.delay;
         let g = measure_at(nodes, u.left - 1, m, j, scope, larger_size(start, d));
         return then_figure(f, g);
     }
-    if code == 4 {
+    if code == BESIDE_CODE {
         let j = node_word(nodes, u.i, SECOND_PART) as usize;
-        let f = measure_at(nodes, u.left - 1, m, u.i + 12, scope, start);
+        let f = measure_at(nodes, u.left - 1, m, u.i + NODE_WORDS, scope, start);
         let g = measure_at(nodes, u.left - 1, m, j, scope, start);
         store(nodes, u.i, FIRST_WORDS, 4 * f.cells);
         return beside_figure(f, g);
     }
-    if code == 5 {
-        if 4 <= m {
+    if code == FORALL_CODE {
+        if NESTED <= m {
             return flag_figure();
         }
         let r = range_pair(nodes, u.i, scope, m);
@@ -165,7 +171,7 @@ fn measure_at(
             nodes,
             u.left - 1,
             m + 1,
-            u.i + 12,
+            u.i + NODE_WORDS,
             with_pair(scope, m, r),
             k,
         );
@@ -184,5 +190,5 @@ pub(crate) fn measure_rule(nodes: &mut [u32]) -> Figure
         upper: Limit::At(0),
     };
     let scope = Scope { pairs: [tick; 5] };
-    measure_at(nodes, 64, 0, 0, scope, Size::Finite(0))
+    measure_at(nodes, FORMULAS, 0, 0, scope, Size::Finite(0))
 }

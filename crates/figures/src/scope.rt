@@ -8,6 +8,8 @@ ghost use Rattle.rule.specs.Figures.{bound-pair, range-pair, anywhere};
 ghost use Rattle.nodes.specs.Table.{bound-at};
 ghost use Rattle.figures.specs.Distances.{inside, Near, farthest, Within, shift-pair};
 use crate::limits::shifted;
+use nodes::INFINITY_KIND;
+use nodes::ORIGIN_KIND;
 use nodes::node_word;
 use rule::Limit;
 use rule::Pair;
@@ -62,13 +64,13 @@ fn pair_at(nodes: &[u32], j: usize, scope: Scope, m: usize) -> Pair
 {
     let kind = node_word(nodes, j, 0);
     let n = offset_of(node_word(nodes, j, 2));
-    if kind == 0 {
+    if kind == ORIGIN_KIND {
         return Pair {
             lower: Limit::Lowest,
             upper: Limit::At(n),
         };
     }
-    if kind == 1 {
+    if kind == INFINITY_KIND {
         return Pair {
             lower: Limit::Highest,
             upper: Limit::Highest,

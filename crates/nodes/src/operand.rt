@@ -3,6 +3,8 @@ ghost use mathlib.Core.Path.{_≡_};
 ghost use mathlib.Core.Bool.{false};
 ghost use Rattle.nodes.specs.Nots.{past-nots};
 use crate::CODE;
+use crate::NODE_WORDS;
+use crate::NOT_CODE;
 use crate::node_word;
 
 // The formula under a run of nots: its word, the formulas left there, and whether the nots are odd in number.
@@ -20,7 +22,7 @@ pub fn skip_nots(nodes: &[u32], left: usize, i: usize) -> Operand
     let mut at = i;
     let mut odd = false;
     while 0 < n {
-        if node_word(nodes, at, CODE) != 2 {
+        if node_word(nodes, at, CODE) != NOT_CODE {
             return Operand {
                 left: n,
                 i: at,
@@ -28,7 +30,7 @@ pub fn skip_nots(nodes: &[u32], left: usize, i: usize) -> Operand
             };
         }
         n -= 1;
-        at += 12;
+        at += NODE_WORDS;
         odd = !odd;
     }
     Operand {

@@ -9,6 +9,8 @@ ghost use lib.IntN.{natAbs};
 ghost use Rattle.rule.specs.Body.{signed, require-bound, negate-head};
 ghost use Rattle.reader.specs.Checks.{check-number, head-number};
 use crate::checks::Check;
+use crate::codes::INFINITY;
+use crate::codes::VARIABLE;
 use refusal::Refusal;
 use words::byte_after;
 use words::word_at;
@@ -17,21 +19,21 @@ use words::word_at;
 fn variable_is_bound(kind: u8, v: usize, m: usize) -> bool
     ensures { λ r. ⌜ r ≡ (not (eqb kind 2) || leb v m) ⌝ }
 {
-    if kind == 2 { v <= m } else { true }
+    if kind == VARIABLE { v <= m } else { true }
 }
 
 // The variable byte of position 0 and infinity is 0.
 fn variable_byte_fits(kind: u8, v: usize) -> bool
     ensures { λ r. ⌜ r ≡ (eqb kind 2 || eqb v 0) ⌝ }
 {
-    if kind == 2 { true } else { v == 0 }
+    if kind == VARIABLE { true } else { v == 0 }
 }
 
 // Infinity has no offset: its 16 bits w are 0.
 fn offset_allowed(kind: u8, w: usize) -> bool
     ensures { λ r. ⌜ r ≡ (not (eqb kind 1) || eqb w 0) ⌝ }
 {
-    if kind == 1 { w == 0 } else { true }
+    if kind == INFINITY { w == 0 } else { true }
 }
 
 // An offset of 16 bits w lies from -4,095 to 4,095.
@@ -56,7 +58,7 @@ pub(crate) fn bound_check(s: &[u8], at: usize, m: usize) -> Check
     let byte_fits = variable_byte_fits(kind, v);
     let allowed = offset_allowed(kind, w);
     let in_range = offset_in_range(w);
-    if 2 < kind {
+    if VARIABLE < kind {
         return Check::Refused(Refusal::UnknownCode);
     }
     if !is_bound {

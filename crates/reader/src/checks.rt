@@ -9,6 +9,9 @@ ghost use Rattle.words.specs.Words.{byte};
 ghost use Rattle.rule.specs.Body.{fixed, contents, head};
 ghost use Rattle.reader.specs.Checks.{check-number, head-number};
 use crate::bounds::bound_check;
+use crate::codes::FLAG;
+use crate::codes::FORALL;
+use nodes::NESTED;
 use refusal::Refusal;
 use words::byte_after;
 
@@ -50,10 +53,10 @@ fn contents_check(s: &[u8], at: usize, m: usize) -> Check
     ensures { λ r. ⌜ check-number r ≡ head-number (contents (now (s .entry)) at m) ⌝ }
 {
     let code = s[at];
-    if code == 1 {
+    if code == FLAG {
         return flag_check(s, at, m);
     }
-    if code == 5 {
+    if code == FORALL {
         return bounds_check(s, at, m);
     }
     Check::Fine
@@ -63,10 +66,10 @@ fn contents_check(s: &[u8], at: usize, m: usize) -> Check
 fn fixed_bytes(code: u8) -> usize
     ensures { λ r. ⌜ r ≡ fixed code ⌝ }
 {
-    if code == 1 {
+    if code == FLAG {
         return 3;
     }
-    if code == 5 {
+    if code == FORALL {
         return 9;
     }
     1
@@ -75,10 +78,10 @@ fn fixed_bytes(code: u8) -> usize
 fn code_known(code: u8) -> bool
     ensures { λ r. ⌜ r ≡ (leb 1 code && leb code 5) ⌝ }
 {
-    if code < 1 {
+    if code < FLAG {
         return false;
     }
-    code <= 5
+    code <= FORALL
 }
 
 // It is no 65th formula and no 5th nested quantifier.
@@ -88,7 +91,7 @@ fn formula_fits(code: u8, m: usize, left: usize) -> bool
     if left < 1 {
         return false;
     }
-    if code == 5 { m < 4 } else { true }
+    if code == FORALL { m < NESTED } else { true }
 }
 
 // The formula's own bytes at a position, inside m quantifiers and with some formulas left.

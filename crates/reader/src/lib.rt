@@ -1,6 +1,7 @@
 // The body reader: a body's formula into the node table, or its refusal: 4 to 10, 23 or 24.
 mod bounds;
 mod checks;
+mod codes;
 mod writer;
 
 ghost use Prim.Native.Nat.{_≤_};
@@ -9,6 +10,11 @@ ghost use Rattle.reader.specs.Filled.{Filled};
 ghost use Rattle.reader.specs.Decoded.{Decoded};
 use checks::Check;
 use checks::head_check;
+use codes::FLAG;
+use codes::FORALL;
+use codes::NOT;
+use nodes::FORMULAS;
+use nodes::TABLE_WORDS;
 use nodes::fill;
 use refusal::Refusal;
 use writer::node_place;
@@ -39,13 +45,13 @@ fn read_formula(s: &[u8], nodes: &mut [u32], at: usize, m: usize, left: usize) -
     let i = node_place(left);
     write_head(s, at, nodes, i);
     let code = s[at];
-    if code == 1 {
+    if code == FLAG {
         return Part::Ended(at + 3, left - 1);
     }
-    if code == 2 {
+    if code == NOT {
         return read_formula(s, nodes, at + 1, m, left - 1);
     }
-    if code == 5 {
+    if code == FORALL {
         return read_formula(s, nodes, at + 9, m + 1, left - 1);
     }
     let first = read_formula(s, nodes, at + 1, m, left - 1);
@@ -60,10 +66,10 @@ fn read_formula(s: &[u8], nodes: &mut [u32], at: usize, m: usize, left: usize) -
 
 // Reads a body into the node table; a body that is refused leaves it all 0. The table is memory to work in: nothing is said of the words after
 // the body's nodes.
-pub fn read_body(body: &[u8], nodes: &mut [u32; 768]) -> Reading
+pub fn read_body(body: &[u8], nodes: &mut [u32; TABLE_WORDS]) -> Reading
     ensures { λ r. ⌜ Decoded (now (body .entry)) r (now (nodes .exit)) ⌝ }
 {
-    let part = read_formula(body, nodes, 0, 0, 64);
+    let part = read_formula(body, nodes, 0, 0, FORMULAS);
     match part {
         Part::Refused(x) => {
             fill(nodes, 0);

@@ -3,6 +3,9 @@ ghost use mathlib.Core.Path.{_≡_};
 ghost use Prim.Native.Nat.{_+_, _≤_, _<_};
 ghost use lib.ListN.{length, set};
 ghost use Rattle.reader.specs.Written.{head-word, Headed, place};
+use nodes::FORMULAS;
+use nodes::NODE_WORDS;
+use nodes::SECOND_PART;
 use words::byte_after;
 use words::word_at;
 
@@ -40,7 +43,7 @@ pub(crate) fn node_place(left: usize) -> usize
     requires { ⌜ left ≤ 64 ⌝ }
     ensures { λ r. ⌜ r ≡ place left ⌝ }
 {
-    12 * (64 - left)
+    NODE_WORDS * (FORMULAS - left)
 }
 
 // Writes where a node's second part starts, whose node is written where so many of 64 are left.
@@ -48,5 +51,5 @@ pub(crate) fn write_second(nodes: &mut [u32], i: usize, rest: usize)
     requires { ⌜ (rest ≤ 64) × (i + 12 ≤ length (now nodes)) ⌝ }
     ensures { λ _. ⌜ now (nodes .exit) ≡ set (now (nodes .entry)) (i + 7) (place rest) ⌝ }
 {
-    nodes[i + nodes::SECOND_PART] = 12 * (64 - rest as u32);
+    nodes[i + SECOND_PART] = node_place(rest) as u32;
 }
