@@ -40,7 +40,7 @@ module _ {f : ℕ} {F G : Tree} {hist : List ℕ} {b : ℕ} {e : Env} {s t : ℕ
         let nf : window 4 (4 + f) run′ ≡ window 4 (4 + f) mid = q .gives .0 .front 4 (4 + f) (omega arith) (omega arith) in
         let nd : window (4 + f) (length run) run′ ≡ drop (4 + f) run′ = rest-take (4 + f) (length run) run′ (sym (q .gives .0 .long ∙ p .gives .0 .long)) in (
           er ∙ ap₂ both (a .0) (c .0),
-          (
+          λ w. (
             (
               a .1 .0 .0 ∙ sym (ap (λ (n : ℕ). held (own-tick (places e)) n (getD run′ 2 0)) n0 ∙ ap (held (own-tick (places e)) (getD mid 0 0)) n2),
               λ o. subst (RunHolds flags t (places e) s F) (sym nf) (a .1 .0 .1 o),

@@ -17,13 +17,13 @@ use Rattle.rule.specs.declared.Verdict.the-variants.{True, False}
 use Rattle.rule.specs.declared.Outcome.{Outcome}
 use Rattle.rule.specs.declared.Outcome.the-variants.{Decided, Open}
 use Rattle.rule.specs.Formula.{Bound}
-use Rattle.rule.specs.Meaning.{both, Range, range, seen, outcome}
+use Rattle.rule.specs.Meaning.{both, Range, range, seen, walk, outcome}
 use Rattle.rule.specs.Positions.{In}
 use Rattle.rule.specs.Started.{Reach}
 use Rattle.rule.proofs.Horizon.{from-less, from-start}
 use Rattle.rule.proofs.Every.{seen-in, seen-out}
 use Rattle.rule.proofs.Window.{walk-same}
-use Rattle.rule.proofs.Progress.{clash, stays, within}
+use Rattle.rule.proofs.Progress.{clash, stays, within, fresh}
 use Rattle.ranges.specs.Spans as spans
 use Rattle.ranges.specs.Plans.{first-of, Plans}
 use Rattle.ranges.proofs.Held.{held-at-same, held-same}
@@ -34,6 +34,7 @@ use Rattle.instances.specs.Leading.{Leading, latest-of, leading-of, Head
 use Rattle.instances.specs.Run.{out, bind, own-tick, RunHolds, SlotHolds, RunReady, SlotReady}
 use Rattle.instances.specs.Calls.{Env, places, Advanced, PositionsWalked}
 use Rattle.instances.proofs.Marks.{tail-drop, tail-take}
+use Rattle.instances.proofs.Walks.{walk-false}
 use Rattle.instances.proofs.Heads.{leading-start, leading-kept, leading-walk, leading-on, leading-at, leading-most, leading-none, latest-back}
 
 bind-tick : (env : List ℕ) (q : ℕ) → 0 < length env → own-tick (bind env q) ≡ own-tick env
@@ -152,6 +153,16 @@ module _ (B₁ B₂ : Bound) (w z : ℕ) (F : Tree) (hist : List ℕ) (b : ℕ) 
         λ j i. (p .inside j (omega arith), omega arith),
       )
 
+  -- the walk stopped at a false position: the range was not decided before, so it is false now
+  stopped : (flags : ℕ → ℕ) → RunReady flags t (places e) s (range-node B₁ B₂ w z F) run → (a d latest : ℕ) (r o : Outcome)
+      → out flags t (places e) s (range-node B₁ B₂ w z F) ≡ Decided False d → d ≤ a → a ≤ t → r ≡ Decided False a → o ≡ both (Decided True latest) r
+      → o ≡ out flags t (places e) s (range-node B₁ B₂ w z F)
+  unfolding RunReady both
+  stopped flags ready a d latest r o ed da at er eo =
+      let now : t ≡ d = fresh (formula-of (range-node B₁ B₂ w z F)) flags (places e) s t d False (⊎-elim (λ y. inl y) (λ y. inr (y .0, y .1, y .2, y .3 .0)) ready) ed in
+      let same : a ≡ d = omega arith in
+      eo ∙ ap (both (Decided True latest)) er ∙ ap (Decided False) same ∙ sym ed
+
   -- the positions of the plan are those of the range up to t
   range-of′ : (first n leading latest own : ℕ) (end r o : Outcome) (rest ys mid run′ : List ℕ) → Plans (range B₁ B₂ (places e)) t s first n end
       → own ≡ own-tick (places e) → 0 < length (places e) → t < own-tick (places e) + 4294967296 → n < 4294967296
@@ -166,7 +177,11 @@ module _ (B₁ B₂ : Bound) (w z : ℕ) (F : Tree) (hist : List ℕ) (b : ℕ) 
         let st : s ≤ t = started-by flags ready in
         let ef : first ≡ first-of (range B₁ B₂ (places e)) = p .starts in
         let op = leading-ready first n leading latest own end p eo el ec flags ready in
-        let x = walked .gives .1 flags H hon (λ j g h. reach (first + j) (p .inside j h)) (λ j g h. subst (λ (l : List ℕ). SlotReady flags t (places e) s F (first + j) (slot z j l)) (sym er) (slots-ready first n end p flags ready j h)) in
+        let whole : walk (λ q. out flags t (bind (places e) q) (max s q) F) n first end ≡ out flags t (places e) s (range-node B₁ B₂ w z F) =
+        walk-same (λ q. out flags t (bind (places e) q) (max s q) F) (λ q. seen t q (out flags t (bind (places e) q) (max s q) F)) n first end (λ i g l. sym (seen-in t i _ (omega arith)))
+        ∙ sym (p .same (λ q. seen t q (out flags t (bind (places e) q) (max s q) F)) (λ q g. seen-out t q _ g)) in
+        ⊎-elim
+        (λ x.
         let slots : (j : ℕ) → j < n → SlotHolds flags t (places e) s F (first + j) (slot z j ys) = λ j h. elim (decLt j leading) [
           | yes i ↦ subst (SlotHolds flags t (places e) s F (first + j)) (sym (walked .gives .0 j i ∙ ap (slot z j) er)) (op .1 j i)
           | no i ↦ x .1 .1 j (omega arith) h
@@ -176,9 +191,8 @@ module _ (B₁ B₂ : Bound) (w z : ℕ) (F : Tree) (hist : List ℕ) (b : ℕ) 
           eout
               ∙ sym (leading-walk first s (λ q. out flags t (bind (places e) q) (max s q) F) (λ q. from-less (out flags t (bind (places e) q) (max s q) F) (omega arith) (from-start (formula-of F) flags t (bind (places e) q) (max s q))) leading latest r (op .0) (x .1 .0 (p .late)))
               ∙ sym (x .0)
-              ∙ walk-same (λ q. out flags t (bind (places e) q) (max s q) F) (λ q. seen t q (out flags t (bind (places e) q) (max s q) F)) n first end (λ i g l. sym (seen-in t i _ (omega arith)))
-              ∙ sym (p .same (λ q. seen t q (out flags t (bind (places e) q) (max s q) F)) (λ q g. seen-out t q _ g)),
-          (
+              ∙ whole,
+          λ y. (
             (λ q h g.
                 let in-plan = p .all q h g in
                 let lo : first ≤ q = in-plan .0 in
@@ -190,7 +204,12 @@ module _ (B₁ B₂ : Bound) (w z : ℕ) (F : Tree) (hist : List ℕ) (b : ℕ) 
                 (RunHolds flags t (bind (places e) i) (max s i) F (drop 4 (slot z (q - first) ys))) (slot z (q - first) ys)) eq (slots (q - first) (omega arith)))),
             rw (← ef) head,
           ),
-        );
+        ))
+        (λ x.
+        let last = walk-false (λ q. out flags t (bind (places e) q) (max s q) F) (x .0) first (x .1) in
+        let ed : out flags t (places e) s (range-node B₁ B₂ w z F) ≡ Decided False (last .0) = sym whole ∙ x .4 ∙ ap (walk (λ q. out flags t (bind (places e) q) (max s q) F) (x .0) first) (x .2) ∙ last .1 in
+        (stopped flags ready (x .1) (last .0) latest r o ed (last .2) (x .3) (x .2) eout, λ y. clash (out flags t (places e) s (range-node B₁ B₂ w z F)) y ed))
+        (walked .gives .1 flags H hon (λ j g h. reach (first + j) (p .inside j h)) (λ j g h. subst (λ (l : List ℕ). SlotReady flags t (places e) s F (first + j) (slot z j l)) (sym er) (slots-ready first n end p flags ready j h)));
   }
 
 module _ {B₁ B₂ : Bound} {w z : ℕ} {F : Tree} {hist : List ℕ} {b : ℕ} {e : Env} {s t : ℕ} {run : List ℕ} where

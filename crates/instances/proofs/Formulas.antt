@@ -28,7 +28,7 @@ module _ {hist : List ℕ} {b : ℕ} {e : Env} {s t : ℕ} {run : List ℕ} wher
   flag-of v k r h er = record {
     gives = λ flags H hon reach ready.
         let g : getD (places e) v 0 ≡ getD (e .pos) v 0 = getD-take (e .n) (e .pos) v 0 h in
-        (er ∙ ap (λ (c : ℕ). Decided (verdict (up k c)) s) (hon .saved v h ∙ ap flags (sym g)), tt);
+        (er ∙ ap (λ (c : ℕ). Decided (verdict (up k c)) s) (hon .saved v h ∙ ap flags (sym g)), λ o. tt);
   }
 
   pub not-of : (F : Tree) (o r : Outcome) (run′ : List ℕ) → Advanced F hist b e s t run o run′ → r ≡ opposite o → Advanced (not-node F) hist b e s t run r run′
@@ -36,7 +36,7 @@ module _ {hist : List ℕ} {b : ℕ} {e : Env} {s t : ℕ} {run : List ℕ} wher
   not-of F o r run′ adv er = record {
     gives = λ flags H hon reach ready.
         let a = adv .gives flags H hon reach (⊎-elim (λ y. inl y) (λ y. inr (y .0, y .1, y .2, (opposite-open _ (y .3 .0), y .3 .1))) ready) in
-        (er ∙ ap opposite (a .0), a .1);
+        (er ∙ ap opposite (a .0), λ o. a .1 (opposite-open _ o));
   }
 
 module _ (ns : List ℕ) (i : ℕ) where

@@ -82,6 +82,6 @@ module _ (F : Tree) (hist : List ℕ) (b : ℕ) (e : Env) (s t k a z : ℕ) (run
               } in
               let kept : r ≡ held (own-tick (places e)) (getD run′ k 0) (getD run′ (k + 2) 0) = rw ep′ (mark-held (own-tick (places e)) k r put (omega arith) small) in
               let tail : window a z run′ ≡ ys = ap (window a z) ep ∙ ap (take (z - a)) (mark-drop p k r put a (omega arith)) ∙ part-window run ys a z start end len in
-              (x .0, ((sym (x .0) ∙ kept, λ q. subst (RunHolds flags t (places e) s F) (sym tail) (x .1)), inl (fresh-now flags (window a z run) r rd (x .0)))),
+              (x .0, ((sym (x .0) ∙ kept, λ q. subst (RunHolds flags t (places e) s F) (sym tail) (x .1 q)), inl (fresh-now flags (window a z run) r rd (x .0)))),
         );
   }

@@ -42,7 +42,7 @@ module _ (F G : Tree) (hist : List ℕ) (b : ℕ) (e : Env) (s t : ℕ) (run : L
         let es : o ≡ Open = eo in
         let ef : out flags t (places e) s F ≡ Open = sym (f .0) ∙ es in (
           es ∙ ap (λ (x : Outcome). after x (λ d. out flags t (places e) d G)) (sym ef),
-          (then-held flags run′ (fst .gives .0 .long) (f .1 .0), λ d q. clash (out flags t (places e) s F) ef q),
+          λ w. (then-held flags run′ (fst .gives .0 .long) (f .1 .0), λ d q. clash (out flags t (places e) s F) ef q),
         );
   }
 
@@ -54,7 +54,7 @@ module _ (F G : Tree) (hist : List ℕ) (b : ℕ) (e : Env) (s t : ℕ) (run : L
         let e′ : o ≡ Decided False d = eo ∙ ap (λ (x : Verdict). Decided x d) ev in
         let ef : out flags t (places e) s F ≡ Decided False d = sym (f .0) ∙ e′ in (
           ap (λ (x : Verdict). Decided x d) ev ∙ ap (λ (x : Outcome). after x (λ d. out flags t (places e) d G)) (sym ef),
-          (then-held flags run′ (fst .gives .0 .long) (f .1 .0), λ d′ q. let y : _≡_ {A = ℕ} 0 1 = cc in absurd (omega arith)),
+          λ w. (then-held flags run′ (fst .gives .0 .long) (f .1 .0), λ d′ q. let y : _≡_ {A = ℕ} 0 1 = cc in absurd (omega arith)),
         );
   }
 
@@ -93,11 +93,12 @@ module _ (F G : Tree) (hist : List ℕ) (b : ℕ) (e : Env) (s t : ℕ) (run : L
         let h0 : getD run′ 0 0 ≡ getD mid 0 0 = ap (λ (l : List ℕ). getD l 0 0) ep ∙ tail-head mid ys room 0 (omega arith) in
         let h2 : getD run′ 2 0 ≡ getD mid 2 0 = ap (λ (l : List ℕ). getD l 2 0) ep ∙ tail-head mid ys room 2 (omega arith) in (
           a .0 ∙ ap (λ (x : Outcome). after x (λ d. out flags t (places e) d G)) (sym ef),
-          (
+          λ w. (
             (rw (h0, h2) (f .1 .0 .0), λ x. clash (out flags t (places e) s F) x ef),
             λ d′ q.
                 let ed : d′ ≡ d = cc in
-                rw (tail, ed) (a .1),
+                let og : out flags t (places e) d G ≡ Open = after-open (out flags t (places e) s F) (λ d. out flags t (places e) d G) d ef w in
+                rw (tail, ed) (a .1 og),
           ),
         );
   }

@@ -1,6 +1,7 @@
 -- The walk over the positions of a range, from the last to the first: one position more.
-use Prim.Native.Nat.{ℕ, suc, _+_, _*_, _-_, _≤_, _<_, max}
+use Prim.Native.Nat.{ℕ, zero, suc, _+_, _*_, _-_, _≤_, _<_, min, max}
 use mathlib.Core.Path.{_≡_, refl, sym, ap, subst, _∙_}
+use mathlib.Core.Logic.{inl, inr, ⊎-elim}
 use mathlib.Core.List.{List}
 use native.Mathlib.Omega.{arith}
 use native.Mathlib.Nat.{add-sub-cancel-left}
@@ -8,16 +9,43 @@ use native.Mathlib.Decide.{decLt}
 use lib.ListN.{length, take, drop, length-drop}
 use lib.Seq.{length-take-le}
 use borrow.Rule.Slice.PartMut.{putMid}
+use Rattle.rule.specs.declared.Verdict.the-variants.{True, False}
 use Rattle.rule.specs.declared.Outcome.{Outcome}
+use Rattle.rule.specs.declared.Outcome.the-variants.{Decided, Open}
 use Rattle.rule.specs.Meaning.{both, walk}
 use Rattle.rule.specs.Started.{From, Reach}
 use Rattle.rule.proofs.Horizon.{from-both, from-less, from-start}
+use Rattle.rule.proofs.Progress.{within}
 use Rattle.instances.specs.Tree.{Tree, formula-of}
 use Rattle.instances.specs.Cells.{slot}
 use Rattle.instances.specs.Run.{out, bind, SlotHolds, SlotReady}
 use Rattle.instances.specs.Calls.{Env, places, AtHand, PositionAdvanced, PositionsWalked}
 use Rattle.instances.proofs.Slots.{slot-same, slot-below, slot-above, slot-before}
 use Rattle.instances.proofs.Heads.{walk-last}
+
+-- ---- false beside anything is false, at the same step or an earlier one
+
+false-first : (a : ℕ) (o : Outcome) → (d : ℕ) × (both (Decided False a) o ≡ Decided False d) × (d ≤ a)
+unfolding both
+false-first a (Decided True b) = (a, refl, omega arith)
+false-first a (Decided False b) = (min a b, refl, omega arith)
+false-first a Open = (a, refl, omega arith)
+
+false-second : (o : Outcome) (b : ℕ) → (d : ℕ) × (both o (Decided False b) ≡ Decided False d) × (d ≤ b)
+unfolding both
+false-second (Decided True a) b = (b, refl, omega arith)
+false-second (Decided False a) b = (min a b, refl, omega arith)
+false-second Open b = (b, refl, omega arith)
+
+pub walk-false : (f : ℕ → Outcome) (j first b : ℕ) → (d : ℕ) × (walk f j first (Decided False b) ≡ Decided False d) × (d ≤ b)
+unfolding walk
+walk-false f zero first b = (b, refl, omega arith)
+walk-false f (suc j) first b =
+    let ih = walk-false f j (suc first) b in
+    let one = false-second (f first) (ih .0) in
+    (one .0, ap (both (f first)) (ih .1) ∙ one .1, omega (arith, one .2, ih .2))
+
+-- ---- the walk
 
 pub record WalkedTo (F : Tree) (hist : List ℕ) (b : ℕ) (e : Env) (s t first leading n : ℕ) (end : Outcome) (z : ℕ) (run₀ : List ℕ) (j : ℕ) (acc : Outcome) (run : List ℕ) : Type 0 where
   pub gives :
@@ -35,11 +63,10 @@ module _ {F : Tree} {hist : List ℕ} {b : ℕ} {e : Env} {s t first leading n :
 
   pub walk-done : (j : ℕ) (acc : Outcome) (run : List ℕ) → leading ≤ j → (leading < j → ⊥) → WalkedTo F hist b e s t first leading n end z run₀ j acc run
       → PositionsWalked F hist b e s t first leading n end z run₀ acc run
-  walk-done j acc run g h p = record {
-    gives =
-        let q : j ≡ leading = omega (arith, h) in
-        rw q at (p .gives);
-  }
+  walk-done j acc run g h p =
+      let q : j ≡ leading = omega (arith, h) in
+      let all : WalkedTo F hist b e s t first leading n end z run₀ leading acc run = subst (λ (i : ℕ). WalkedTo F hist b e s t first leading n end z run₀ i acc run) q p in
+      record { gives = (all .gives .0, λ flags H hon reach ready. inl (all .gives .1 flags H hon reach ready)) }
 
   module _ (acc acc′ : Outcome) (run ys : List ℕ) (o : Outcome) where
     walk-more′ : (j : ℕ) → leading ≤ j → j < n → n * z ≤ length run → length ys ≡ z
@@ -86,3 +113,29 @@ module _ {F : Tree} {hist : List ℕ} {b : ℕ} {e : Env} {s t first leading n :
         let p′ : PositionAdvanced F hist b e s t (first + (j - 1)) (slot z (j - 1) run) o ys = rw c at p in
         let ej : j ≡ suc (j - 1) = omega arith in
         rw c (walk-more′ (j - 1) (omega arith) (omega arith) room len′ p′ ea (subst (λ (i : ℕ). WalkedTo F hist b e s t first leading n end z run₀ i acc run) ej ih))
+
+    -- the position is false: the walk stops
+    pub walk-stopped : (j : ℕ) → leading < j → j ≤ n → n * z ≤ length run → first + (j - 1) ≤ t
+        → length ys ≡ length (take ((j - 1) * z + z - (j - 1) * z) (drop ((j - 1) * z) run))
+        → PositionAdvanced F hist b e s t (first + (j - 1)) (take ((j - 1) * z + z - (j - 1) * z) (drop ((j - 1) * z) run)) o ys
+        → (d : ℕ) → o ≡ Decided False d → acc′ ≡ both o acc
+        → WalkedTo F hist b e s t first leading n end z run₀ j acc run
+        → PositionsWalked F hist b e s t first leading n end z run₀ acc′ (putMid ((j - 1) * z) ((j - 1) * z + z - (j - 1) * z) run ys)
+    unfolding SlotReady
+    walk-stopped j some h room come len p d eo ea ih =
+        let w = walk-more j some h room len p ea ih in
+        let c : (j - 1) * z + z - (j - 1) * z ≡ z = add-sub-cancel-left ((j - 1) * z) z in
+        let p′ : PositionAdvanced F hist b e s t (first + (j - 1)) (slot z (j - 1) run) o ys = rw c at p in
+        let first-false = false-first d acc in
+        let er : acc′ ≡ Decided False (first-false .0) = ea ∙ ap (λ (x : Outcome). both x acc) eo ∙ first-false .1 in
+        record {
+          gives = (
+            (λ k g. w .gives .0 k (omega arith)),
+            λ flags H hon reach ready.
+                let was : SlotReady flags t (places e) s F (first + (j - 1)) (slot z (j - 1) run) = subst (SlotReady flags t (places e) s F (first + (j - 1))) (sym (ih .gives .0 (j - 1) (omega arith))) (ready (j - 1) (omega arith) (omega arith)) in
+                let st : s ≤ t = ⊎-elim (λ y. omega (arith, y)) (λ y. omega (arith, y .1, y .2)) was in
+                let pr = p′ .gives flags H hon (reach (j - 1) (omega arith) (omega arith)) was in
+                let by : d ≤ t = within (formula-of F) flags (bind (places e) (first + (j - 1))) (max s (first + (j - 1))) t d False (omega arith) (sym (pr .0) ∙ eo) in
+                inr (j - 1, first-false .0, er, omega (arith, first-false .2), w .gives .1 flags H hon reach ready .0),
+          );
+        }

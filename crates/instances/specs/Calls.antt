@@ -7,8 +7,9 @@ use mathlib.Core.List.{List}
 use lib.ListN.{getD, take, drop, length, set}
 use lib.Dec.{eqb}
 use Rattle.rule.specs.declared.Verdict.{Verdict}
+use Rattle.rule.specs.declared.Verdict.the-variants.{False}
 use Rattle.rule.specs.declared.Outcome.{Outcome}
-use Rattle.rule.specs.declared.Outcome.the-variants.{Decided}
+use Rattle.rule.specs.declared.Outcome.the-variants.{Decided, Open}
 use Rattle.rule.specs.declared.Pair.{Pair}
 use Rattle.rule.specs.Meaning.{up, verdict, walk}
 use Rattle.rule.specs.Positions.{Fits}
@@ -100,12 +101,13 @@ pub record PartFit (F : Tree) (e : Env) (t k a z : ℕ) (len : ℕ) : Type 0 whe
   pub start : a ≤ z
   pub end : z ≤ len
 
--- ---- what they give: for every stream whose bytes are at hand and whose cells were ready, the meaning's outcome, and cells that hold it
+-- ---- what they give: for every stream whose bytes are at hand and whose cells were ready, the meaning's outcome, and, where that is open, cells that
+-- hold it
 
 pub record Advanced (F : Tree) (hist : List ℕ) (b : ℕ) (e : Env) (s t : ℕ) (run : List ℕ) (r : Outcome) (run′ : List ℕ) : Type 0 where
   pub gives :
       (flags : ℕ → ℕ) (H : ℕ) → AtHand flags H hist b e t → Reach H flags (places e) s (formula-of F) → RunReady flags t (places e) s F run
-      → (r ≡ out flags t (places e) s F) × RunHolds flags t (places e) s F run′
+      → (r ≡ out flags t (places e) s F) × (out flags t (places e) s F ≡ Open → RunHolds flags t (places e) s F run′)
 
 pub record PositionAdvanced (F : Tree) (hist : List ℕ) (b : ℕ) (e : Env) (s t q : ℕ) (cell : List ℕ) (r : Outcome) (cell′ : List ℕ) : Type 0 where
   pub gives :
@@ -113,16 +115,18 @@ pub record PositionAdvanced (F : Tree) (hist : List ℕ) (b : ℕ) (e : Env) (s 
       → SlotReady flags t (places e) s F q cell
       → (r ≡ out flags t (bind (places e) q) (max s q) F) × SlotHolds flags t (places e) s F q cell′
 
--- Of n positions from `first` on, those after the leading ones.
+-- Of n positions from `first` on, those after the leading ones: all of them; or the walk stopped at one that was false, and r is false.
 pub record PositionsWalked (F : Tree) (hist : List ℕ) (b : ℕ) (e : Env) (s t first leading n : ℕ) (end : Outcome) (z : ℕ) (run : List ℕ) (r : Outcome) (run′ : List ℕ) : Type 0 where
   pub gives :
       ((k : ℕ) → k < leading → slot z k run′ ≡ slot z k run)
       × ((flags : ℕ → ℕ) (H : ℕ) → AtHand flags H hist b e t
       → ((j : ℕ) → leading ≤ j → j < n → (max s (first + j) ≤ first + j + H) × Reach H flags (bind (places e) (first + j)) (max s (first + j)) (formula-of F))
       → ((j : ℕ) → leading ≤ j → j < n → SlotReady flags t (places e) s F (first + j) (slot z j run))
-      → (walk (λ q. out flags t (bind (places e) q) (max s q) F) n first end ≡ walk (λ q. out flags t (bind (places e) q) (max s q) F) leading first r)
+      → ((walk (λ q. out flags t (bind (places e) q) (max s q) F) n first end ≡ walk (λ q. out flags t (bind (places e) q) (max s q) F) leading first r)
       × ((From s end → From s r)
       × ((j : ℕ) → leading ≤ j → j < n → SlotHolds flags t (places e) s F (first + j) (slot z j run′))))
+      ⊎ ((j : ℕ) × (d : ℕ) × (r ≡ Decided False d) × (d ≤ t)
+      × (walk (λ q. out flags t (bind (places e) q) (max s q) F) n first end ≡ walk (λ q. out flags t (bind (places e) q) (max s q) F) j first r)))
 
 -- What moving a part leaves as it was.
 pub record Untouched (k a z : ℕ) (run run′ : List ℕ) : Type 0 where

@@ -1,7 +1,7 @@
 // One formula, moved by one tick at a time over its run of cells.
 ghost use mathlib.Core.Path.{_≡_};
 ghost use mathlib.Core.Bool.{true, false};
-ghost use Prim.Native.Nat.{_+_, _<_};
+ghost use Prim.Native.Nat.{ℕ, _+_, _<_};
 ghost use lib.ListN.{length, getD};
 ghost use Rattle.nodes.specs.Table.{bound-at};
 ghost use Rattle.instances.specs.Tree.{flag-node, then-node, beside-node, range-node, tree-at, HasParts};
@@ -154,7 +154,20 @@ pub(crate) fn advance_position(
     )
 }
 
-// Of n positions from `first` on, each in its slot of z words, those after the leading ones, all side by side, and `end` beside them.
+fn is_false(o: Outcome) -> bool
+    ensures { λ r. ⌜ (r ≡ true → (d : ℕ) × (o ≡ Outcome.Decided Verdict.False d)) ⌝ }
+{
+    match o {
+        Outcome::Decided(v, _) => match v {
+            Verdict::True => false,
+            Verdict::False => true,
+        },
+        Outcome::Open => false,
+    }
+}
+
+// Of n positions from `first` on, each in its slot of z words, those after the leading ones, all side by side, and `end` beside them. It goes no
+// further once one is false: the range is then false at this step, and its cells are not looked at again.
 fn walk_positions(
     nodes: &[u32; 768],
     left: usize,
@@ -197,6 +210,9 @@ fn walk_positions(
             first + j,
         );
         acc = outcomes::both(o, acc);
+        if is_false(o) {
+            return acc;
+        }
     }
     acc
 }

@@ -17,7 +17,7 @@ use Rattle.instances.specs.Calls.{env-of, places, Fit, SlotFit, Advanced
 use Rattle.instances.proofs.Slots.{slot-before}
 use Rattle.instances.proofs.Marks.{tail-take}
 use Rattle.instances.proofs.Heads.{leading-least}
-use Rattle.instances.proofs.Walks.{WalkedTo, walk-begun, walk-done, walk-more}
+use Rattle.instances.proofs.Walks.{WalkedTo, walk-begun, walk-done, walk-more, walk-stopped}
 use Rattle.instances.proofs.Parts.{tick-is, part-stays, part-moved}
 use Rattle.instances.proofs.Positions.{position-of}
 use Rattle.instances.proofs.Thens.{then-open, then-false, then-true}
@@ -53,6 +53,7 @@ use Rattle.instances.proofs.advance.walk_positions.Reads as walk-positi
 use Rattle.instances.proofs.advance.walk_positions.Kinds as walk-positions-kinds
 use Rattle.instances.proofs.advance.+advance+advance_beside+advance_not+advance_part+advance_position+advance_range+advance_then+walk_positions.Lts-walk_positions as walk-positions-lts
 use Rattle.instances.proofs.advance.flag_in.Reads as flag-in-reads
+use Rattle.instances.proofs.advance.is_false.Reads as is-false-reads
 use Rattle.instances.proofs.advance.is_flag.Reads as is-flag-reads
 use Rattle.instances.proofs.advance.slot_words.Reads as slot-words-reads
 use Rattle.instances.proofs.advance.wide.Reads as wide-reads
@@ -220,7 +221,7 @@ abbrev advance-then-claims : ℕ → advance-then-lts.Claims
 advance-then-claims t = (advance-part-below t, advance-part.Post, node-word-reads.Asked, node-word-reads.Learnt, advance-below t, advance.Post)
 
 abbrev walk-positions-claims : ℕ → walk-positions-lts.Claims
-walk-positions-claims t = (advance-position-below t, advance-position.Post, both-reads.Asked, both-reads.Learnt)
+walk-positions-claims t = (advance-position-below t, advance-position.Post, both-reads.Asked, both-reads.Learnt, is-false-reads.Asked, is-false-reads.Learnt)
 
 advance-is-flag-requires : (t : ℕ) → advance-lts.Need-is-flag-requires (advance-claims t) (advance-at t) advance.Post
 advance-is-flag-requires t c κs = search needs
@@ -1060,19 +1061,43 @@ walk-positions-advance-position-requires measure c κs =
 walk-positions-both-requires : (t : ℕ) → walk-positions-lts.Need-both-requires (walk-positions-claims t) (walk-positions-at t) walk-positions.Post walk-positions-Inv-loop walk-positions-μ-loop
 walk-positions-both-requires t c κs = search needs
 
+walk-positions-is-false-requires : (t : ℕ) → walk-positions-lts.Need-is-false-requires (walk-positions-claims t) (walk-positions-at t) walk-positions.Post walk-positions-Inv-loop walk-positions-μ-loop
+walk-positions-is-false-requires t c κs = search needs
+
+walk-positions-same-length : (t : ℕ) → walk-positions-lts.Need-same-length (walk-positions-claims t) (walk-positions-at t) walk-positions.Post walk-positions-Inv-loop walk-positions-μ-loop
+walk-positions-same-length measure c =
+    let s₀ = c .before .before .before .before .before .before .before .before .before .before .before in
+    let z = s₀ .args .z in
+    let at-loop = c .before .before .before .before .before .before .before .before .loop in
+    let at-advance-position = c .before .before .before .before .before .advance-position in
+    same-len-mid ((at-loop .j - 1) * z) ((at-loop .j - 1) * z + z - (at-loop .j - 1) * z) (at-loop .run) (at-advance-position .last .1 .1 .1 .0) (at-advance-position .kept .1 .1 .1 .0) ∙ at-loop .inv .1 .1 .0
+
+walk-positions-returns : (t : ℕ) → walk-positions-lts.Need-returns (walk-positions-claims t) (walk-positions-at t) walk-positions.Post walk-positions-Inv-loop walk-positions-μ-loop
+walk-positions-returns measure c =
+    let s₀ = c .before .before .before .before .before .before .before .before .before .before .before in
+    let at-loop = c .before .before .before .before .before .before .before .before .loop in
+    let at-loop-test = c .before .before .before .before .before .before .before .loop-test in
+    let at-advance-position = c .before .before .before .before .before .advance-position in
+    let at-both = c .before .before .both in
+    let at-is-false = c .before .is-false in
+    let at-if1 = c .if1 in
+    let o-false = at-is-false .ensures (at-if1 .taken) in
+    walk-stopped (at-loop .acc) (at-both .result) (at-loop .run) (at-advance-position .last .1 .1 .1 .0) (at-advance-position .result) (at-loop .j) (at-loop-test .taken) (at-loop .inv .0) (omega (arith, at-loop .inv .1 .1 .0, s₀ .pre .1 .room))
+    (s₀ .pre .1 .slots (at-loop .j - 1) (omega (arith, at-loop-test .taken, at-loop .inv .0)) .come) (at-advance-position .kept .1 .1 .1 .0) (at-advance-position .ensures) (o-false .0) (o-false .1) (at-both .ensures) (at-loop .inv .1 .1 .1)
+
 walk-positions-loop-less : (t : ℕ) → walk-positions-lts.Need-loop-less (walk-positions-claims t) (walk-positions-at t) walk-positions.Post walk-positions-Inv-loop walk-positions-μ-loop
 walk-positions-loop-less measure c =
-    let at-loop-test = c .before .before .before .before .before .loop-test in
+    let at-loop-test = c .before .before .before .before .before .before .before .loop-test in
     omega (arith, at-loop-test .taken)
 
 walk-positions-loop-again : (t : ℕ) → walk-positions-lts.Need-loop-again (walk-positions-claims t) (walk-positions-at t) walk-positions.Post walk-positions-Inv-loop walk-positions-μ-loop
 walk-positions-loop-again measure c =
-    let s₀ = c .before .before .before .before .before .before .before .before .before in
+    let s₀ = c .before .before .before .before .before .before .before .before .before .before .before in
     let z = s₀ .args .z in
-    let at-loop = c .before .before .before .before .before .before .loop in
-    let at-loop-test = c .before .before .before .before .before .loop-test in
-    let at-advance-position = c .before .before .before .advance-position in
-    let at-both = c .both in (
+    let at-loop = c .before .before .before .before .before .before .before .before .loop in
+    let at-loop-test = c .before .before .before .before .before .before .before .loop-test in
+    let at-advance-position = c .before .before .before .before .before .advance-position in
+    let at-both = c .before .before .both in (
       omega (arith, at-loop-test .taken, at-loop .inv .0),
       (
         omega (arith, at-loop-test .taken),
@@ -1083,13 +1108,13 @@ walk-positions-loop-again measure c =
       ),
     )
 
-walk-positions-same-length : (t : ℕ) → walk-positions-lts.Need-same-length (walk-positions-claims t) (walk-positions-at t) walk-positions.Post walk-positions-Inv-loop walk-positions-μ-loop
-walk-positions-same-length measure c =
+walk-positions-same-length-2 : (t : ℕ) → walk-positions-lts.Need-same-length-2 (walk-positions-claims t) (walk-positions-at t) walk-positions.Post walk-positions-Inv-loop walk-positions-μ-loop
+walk-positions-same-length-2 measure c =
     let at-loop = c .before .loop in
     at-loop .inv .1 .1 .0
 
-walk-positions-returns : (t : ℕ) → walk-positions-lts.Need-returns (walk-positions-claims t) (walk-positions-at t) walk-positions.Post walk-positions-Inv-loop walk-positions-μ-loop
-walk-positions-returns measure c =
+walk-positions-returns-2 : (t : ℕ) → walk-positions-lts.Need-returns-2 (walk-positions-claims t) (walk-positions-at t) walk-positions.Post walk-positions-Inv-loop walk-positions-μ-loop
+walk-positions-returns-2 measure c =
     let at-loop = c .before .loop in
     let at-loop-test = c .loop-test in
     walk-done (at-loop .j) (at-loop .acc) (at-loop .run) (at-loop .inv .1 .0) (λ x. omega (arith, x, at-loop-test .left)) (at-loop .inv .1 .1 .1)
@@ -1222,8 +1247,7 @@ pub +advance+advance-beside+advance-not+advance-part+advance-position+advance-ra
     (advance-then-returns-2 t)
     (advance-then-same-length-3 t)
     (advance-then-returns-3 t))
-    λ t. walk-positions-lts.spec
-    (advance-position-below t, advance-position.Post, both-reads.Asked, both-reads.Learnt)
+    λ t. walk-positions-lts.spec (walk-positions-claims t)
     (walk-positions-at t)
     walk-positions.Post
     walk-positions-Inv-loop
@@ -1239,7 +1263,10 @@ pub +advance+advance-beside+advance-not+advance-part+advance-position+advance-ra
     (walk-positions-add-advance-position t)
     (walk-positions-advance-position-requires t)
     (walk-positions-both-requires t)
-    (walk-positions-loop-less t)
-    (walk-positions-loop-again t)
+    (walk-positions-is-false-requires t)
     (walk-positions-same-length t)
     (walk-positions-returns t)
+    (walk-positions-loop-less t)
+    (walk-positions-loop-again t)
+    (walk-positions-same-length-2 t)
+    (walk-positions-returns-2 t)
