@@ -7,6 +7,7 @@ ghost use Rattle.instances.specs.Tree.{tree-at};
 ghost use Rattle.instances.specs.Instances.{InstanceMoved, InstanceFit, tick-if-false, open-count, TicksFit, TicksMoved, Spared};
 ghost use Rattle.instances.specs.Moves.{TickFit, TickMoved};
 use crate::advance::advance_position;
+use crate::cells::load_outcome;
 use crate::ring::remember;
 use rule::Figures;
 use rule::Outcome;
@@ -18,7 +19,8 @@ pub(crate) struct Moved {
     pub live: usize,
 }
 
-// The instance of tick p, moved to tick t: a range's position with no variable before it.
+// The instance of tick p, moved to tick t: a range's position with no variable before it. One that was decided before stands in its cell, and nothing is made
+// ready for it.
 fn move_instance(
     nodes: &[u32; 768],
     left: usize,
@@ -31,6 +33,12 @@ fn move_instance(
     requires { ⌜ InstanceFit (tree-at left (now nodes) 0) t p (length (now run)) ⌝ }
     ensures { λ r. ⌜ InstanceMoved (tree-at left (now (nodes .entry)) 0) (now (history .entry)) flag t p (now (run .entry)) r (now (run .exit)) ⌝ }
 {
+    if p != t {
+        let h = load_outcome(run, 0, p);
+        if let Outcome::Decided(_, _) = h {
+            return h;
+        }
+    }
     let pos = [0u64; 5];
     let byte = [0u8; 5];
     advance_position(nodes, left, 0, run, history, flag, 0, &pos, &byte, p, t, p)
