@@ -1,7 +1,7 @@
 //! The 544 bytes of a state, as the header says: 512 for the rule's body, then
 //! four numbers of 64 bits, low byte first. And which number a step or a batch
 //! is due on any such bytes, honest or not: the contract of the library leaves
-//! nothing open there (crates/exports/specs: `admit-bytes`, `BatchPromise`).
+//! nothing open there (crates/demand/specs/Contract.antt: `admit-lengths`, `Batched`).
 
 use crate::library::{State, STATE_BYTES};
 use crate::paper::{self, Lengths, Opened, Refusal, MAX_BODY, MAX_DELAY, MAX_HISTORY, MAX_TICKS};
