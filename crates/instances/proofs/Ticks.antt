@@ -2,11 +2,13 @@
 use Prim.Native.Nat.{ℕ, suc, _+_, _*_, _-_, _%_, _≤_, _<_}
 use mathlib.Core.Path.{_≡_, refl, sym, ap, ap₂, subst, _∙_}
 use mathlib.Core.Logic.{inl, inr, _≢_}
-use mathlib.Core.Bool.{cond}
+use mathlib.Core.Bool.{Bool, cond}
 use mathlib.Core.List.{List, [], _∷_, _++_}
 use native.Mathlib.Omega.{arith}
-use native.Mathlib.Nat.{mod-lt, add-sub-cancel-left}
-use native.Mathlib.Decide.{decLt}
+use native.Mathlib.Nat.{mod-lt, mod-self, mod-eq-of-lt, mod-add-mod, add-sub-cancel-left}
+use native.Mathlib.Decide.{decLt, ℕ-discrete}
+use borrow.Author.Tests.{eq-eqb, ne-eqb}
+use lib.Dec.{eqb}
 use lib.ListN.{length, take, drop, length-append, length-drop}
 use lib.Seq.{length-take-le}
 use borrow.Rule.Slice.PartMut.{putMid, drop-put, same-len-mid}
@@ -184,6 +186,15 @@ slot-inside n c p len some room =
     let jn : p % n < n = mod-lt p some in
     let fits : p % n * c + c ≤ n * c = slot-before c (p % n) n jn in
     (jn, omega arith)
+
+-- the next tick's slot: after the last comes the first
+pub slot-next : (n p : ℕ) → 0 < n → (p + 1) % n ≡ cond (eqb (p % n + 1) n) 0 (p % n + 1)
+slot-next n p some =
+    let inside : p % n < n = mod-lt p some in
+    sym (mod-add-mod p n 1) ∙ elim (ℕ-discrete (p % n + 1) n) [
+      | yes e ↦ ap (λ (x : ℕ). x % n) e ∙ mod-self n ∙ sym (ap (λ (b : Bool). cond b 0 (p % n + 1)) (eq-eqb (p % n + 1) n e))
+      | no e ↦ mod-eq-of-lt (omega arith) ∙ sym (ap (λ (b : Bool). cond b 0 (p % n + 1)) (ne-eqb (p % n + 1) n e))
+    ]
 
 module _ (F : Tree) (n c : ℕ) (hist : List ℕ) (b t low : ℕ) (table₀ report₀ : List ℕ) (oldest : low ≡ t + 1 - n) where
   pub until-none : MovedUntil F n c hist b t low table₀ report₀ low 0 0 table₀ report₀

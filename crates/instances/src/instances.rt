@@ -1,7 +1,9 @@
 // The instances of a rule, moved by one tick: the ticks that turn false, and how many are live.
 ghost use mathlib.Core.Path.{_≡_};
+ghost use mathlib.Core.Bool.{cond};
 ghost use mathlib.Core.List.{_++_};
 ghost use Prim.Native.Nat.{_+_, _*_, _-_, _≤_, _<_};
+ghost use lib.Dec.{eqb};
 ghost use lib.ListN.{length, drop, take};
 ghost use Rattle.instances.specs.Tree.{tree-at};
 ghost use Rattle.instances.specs.Instances.{InstanceMoved, InstanceFit, tick-if-false, open-count, TicksFit, TicksMoved, Spared};
@@ -87,6 +89,14 @@ fn oldest_tick(t: u64, n: u64) -> u64
     t + 1 - n
 }
 
+// The slot after slot j of n: after the last comes the first. It stands for a division, which would be the dearest thing about a tick that is decided.
+fn next_slot(j: u64, n: u64) -> u64
+    requires { ⌜ j < n ⌝ }
+    ensures { λ r. ⌜ r ≡ cond (eqb (j + 1) n) 0 (j + 1) ⌝ }
+{
+    if j + 1 == n { 0 } else { j + 1 }
+}
+
 // Moves the ticks from `low` to t, each in its slot of c words.
 fn move_ticks(
     nodes: &[u32; 768],
@@ -108,14 +118,15 @@ fn move_ticks(
     let mut p = low;
     let mut reported: usize = 0;
     let mut live: usize = 0;
+    let mut j = low % n;
     while p <= t {
-        let j = (p % n) as usize;
-        let at = j * c;
+        let at = (j as usize) * c;
         let end = at + c;
         let o = move_instance(nodes, left, &mut table[at..end], history, flag, p, t);
         reported = report_if_false(report, reported, o, t, p as u32);
         live = live + one_if_open(o);
         p = p + 1;
+        j = next_slot(j, n);
     }
     Moved { reported, live }
 }

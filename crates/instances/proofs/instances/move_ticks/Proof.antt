@@ -1,46 +1,50 @@
 -- `instances::move_ticks` meets its contract: each turn moves one tick more, in its own slot.
-use Prim.Native.Nat.{ℕ, _+_, _-_, _≤_}
-use mathlib.Core.Path.{sym, subst}
+use Prim.Native.Nat.{ℕ, _+_, _*_, _-_, _%_, _≤_}
+use mathlib.Core.Path.{_≡_, refl, sym, ap, subst, _∙_}
+use mathlib.Core.Bool.{cond}
 use native.Mathlib.Omega.{arith}
-use lib.ListN.{length}
+use lib.Dec.{eqb}
+use lib.ListN.{length, take, drop}
+use borrow.Rule.Slice.PartMut.{putMid}
 use Rattle.instances.specs.Tree.{tree-at, words}
-use Rattle.instances.proofs.Ticks.{MovedUntil, slot-inside, slot-length-at, until-none, until-more, until-all}
+use Rattle.instances.specs.Instances.{InstanceMoved}
+use Rattle.instances.proofs.Ticks.{MovedUntil, slot-inside, slot-length-at, slot-next, until-none, until-more, until-all}
 use borrow.Author.Needs.{needs}
 use Rattle.instances.proofs.instances.move_ticks.Statement.{statement}
 use Rattle.instances.proofs.instances.move_ticks.Tie as tie
 
 abbrev Inv-loop : tie.InvT-loop
-Inv-loop nodes left table₀ hist b report₀ t low n c p₀ reported₀ live₀ table report p reported live =
-    MovedUntil (tree-at left nodes 0) n c hist b t low table₀ report₀ p reported live table report
+Inv-loop nodes left table₀ hist b report₀ t low n c p₀ reported₀ live₀ j₀ table report p reported live j =
+    MovedUntil (tree-at left nodes 0) n c hist b t low table₀ report₀ p reported live table report × (j ≡ p % n)
 
 abbrev μ-loop : tie.MeasureT-loop
-μ-loop nodes left table₀ hist b report₀ t low n c p₀ reported₀ live₀ table report p reported live = t + 1 - p
+μ-loop nodes left table₀ hist b report₀ t low n c p₀ reported₀ live₀ j₀ table report p reported live j = t + 1 - p
+
+rem-j : tie.Need-rem-j Inv-loop μ-loop
+rem-j c = search needs
 
 loop-holds : tie.Need-loop-holds Inv-loop μ-loop
 loop-holds c =
     let s₀ = c .before .before .before in
-    until-none (tree-at (s₀ .args .left) (s₀ .args .nodes .now) 0) (s₀ .args .n) (s₀ .args .c) (s₀ .args .history .now) (s₀ .args .flag) (s₀ .args .t) (s₀ .args .low) (s₀ .args .table .now) (s₀ .args .report .now) (s₀ .pre .1)
-
-rem-j : tie.Need-rem-j Inv-loop μ-loop
-rem-j c = search needs
+    (until-none (tree-at (s₀ .args .left) (s₀ .args .nodes .now) 0) (s₀ .args .n) (s₀ .args .c) (s₀ .args .history .now) (s₀ .args .flag) (s₀ .args .t) (s₀ .args .low) (s₀ .args .table .now) (s₀ .args .report .now) (s₀ .pre .1), refl)
 
 mul-at : tie.Need-mul-at Inv-loop μ-loop
 mul-at c =
     let s₀ = c .before .before .before .before .before in
     let inside = slot-inside (s₀ .args .n) (s₀ .args .c) (c .before .loop .p) (length (s₀ .args .table .now)) (s₀ .pre .0 .some) (s₀ .pre .0 .table) in
-    omega (arith, inside .1, s₀ .good .1 .1 .0)
+    omega (arith, inside .1, ap (λ (x : ℕ). x * s₀ .args .c) (c .before .loop .inv .1), s₀ .good .1 .1 .0)
 
 add-end : tie.Need-add-end Inv-loop μ-loop
 add-end c =
     let s₀ = c .before .before .before .before .before in
     let inside = slot-inside (s₀ .args .n) (s₀ .args .c) (c .before .loop .p) (length (s₀ .args .table .now)) (s₀ .pre .0 .some) (s₀ .pre .0 .table) in
-    omega (arith, inside .1, s₀ .good .1 .1 .0)
+    omega (arith, inside .1, ap (λ (x : ℕ). x * s₀ .args .c) (c .before .loop .inv .1), s₀ .good .1 .1 .0)
 
 mul-move-instance : tie.Need-mul-move-instance Inv-loop μ-loop
 mul-move-instance c =
     let s₀ = c .before .before .before .before .before in
     let inside = slot-inside (s₀ .args .n) (s₀ .args .c) (c .before .loop .p) (length (s₀ .args .table .now)) (s₀ .pre .0 .some) (s₀ .pre .0 .table) in
-    omega (arith, inside .1, s₀ .good .1 .1 .0)
+    omega (arith, inside .1, ap (λ (x : ℕ). x * s₀ .args .c) (c .before .loop .inv .1), s₀ .good .1 .1 .0)
 
 sub-move-instance : tie.Need-sub-move-instance Inv-loop μ-loop
 sub-move-instance c = search needs
@@ -52,14 +56,15 @@ part-move-instance-end : tie.Need-part-move-instance-end Inv-loop μ-loop
 part-move-instance-end c =
     let s₀ = c .before .before .before .before .before in
     let inside = slot-inside (s₀ .args .n) (s₀ .args .c) (c .before .loop .p) (length (s₀ .args .table .now)) (s₀ .pre .0 .some) (s₀ .pre .0 .table) in
-    omega (arith, inside .1, c .before .loop .inv .table-length)
+    omega (arith, inside .1, ap (λ (x : ℕ). x * s₀ .args .c) (c .before .loop .inv .1), c .before .loop .inv .0 .table-length)
 
 move-instance-requires : tie.Need-move-instance-requires Inv-loop μ-loop
 move-instance-requires c κs =
     let s₀ = c .before .before .before .before .before .before in
     let now = c .before .before .loop in
     let fits = s₀ .pre .0 in
-    let long = slot-length-at (s₀ .args .n) (s₀ .args .c) (now .p) (now .table) (fits .some) (omega (arith, now .inv .table-length, fits .table)) in
+    let z = s₀ .args .c in
+    let long = subst (λ (x : ℕ). length (take (x * z + z - x * z) (drop (x * z) (now .table))) ≡ z) (sym (now .inv .1)) (slot-length-at (s₀ .args .n) z (now .p) (now .table) (fits .some) (omega (arith, now .inv .0 .table-length, fits .table))) in
     record {
       formed = fits .formed;
       room = subst (λ (k : ℕ). 4 + words (tree-at (s₀ .args .left) (s₀ .args .nodes .now) 0) ≤ k) (sym long) (fits .room);
@@ -76,7 +81,7 @@ report-if-false-requires : tie.Need-report-if-false-requires Inv-loop μ-loop
 report-if-false-requires c κs =
     let s₀ = c .before .before .before .before .before .before .before .before .before .before in
     let now = c .before .before .before .before .before .before .loop in
-    omega (arith, s₀ .pre .0 .report, now .inv .few, now .inv .report-length, c .before .before .before .before .before .loop-test .taken, s₀ .pre .1)
+    omega (arith, s₀ .pre .0 .report, now .inv .0 .few, now .inv .0 .report-length, c .before .before .before .before .before .loop-test .taken, s₀ .pre .1)
 
 one-if-open-requires : tie.Need-one-if-open-requires Inv-loop μ-loop
 one-if-open-requires c κs = search needs
@@ -85,32 +90,53 @@ add-live : tie.Need-add-live Inv-loop μ-loop
 add-live c =
     let s₀ = c .before .before .before .before .before .before .before .before .before .before .before .before .before .before in
     let now = c .before .before .before .before .before .before .before .before .before .before .loop in
-    omega (arith, now .inv .few-live, now .inv .to-now, s₀ .pre .0 .low, c .one-if-open .ensures .1)
+    omega (arith, now .inv .0 .few-live, now .inv .0 .to-now, s₀ .pre .0 .low, c .one-if-open .ensures .1)
 
 add-p : tie.Need-add-p Inv-loop μ-loop
 add-p c =
     let s₀ = c .before .before .before .before .before .before .before .before .before .before .before .before .before .before in
     omega (arith, s₀ .pre .0 .low, c .before .before .before .before .before .before .before .before .before .loop-test .taken)
 
+next-slot-requires : tie.Need-next-slot-requires Inv-loop μ-loop
+next-slot-requires c κs =
+    let s₀ = c .before .before .before .before .before .before .before .before .before .before .before .before .before .before in
+    let now = c .before .before .before .before .before .before .before .before .before .before .loop in
+    omega (arith, now .inv .1, slot-inside (s₀ .args .n) (s₀ .args .c) (now .p) (length (s₀ .args .table .now)) (s₀ .pre .0 .some) (s₀ .pre .0 .table) .0)
+
 loop-less : tie.Need-loop-less Inv-loop μ-loop
-loop-less c = omega (arith, c .before .before .before .before .before .before .before .before .before .loop-test .taken)
+loop-less c = omega (arith, c .before .before .before .before .before .before .before .before .before .before .loop-test .taken)
 
 loop-again : tie.Need-loop-again Inv-loop μ-loop
 loop-again c =
-    let s₀ = c .before .before .before .before .before .before .before .before .before .before .before .before .before .before in
-    let now = c .before .before .before .before .before .before .before .before .before .before .loop in
-    let moved = c .before .before .before .before .before .before .before .move-instance in
-    let wrote = c .before .before .before .report-if-false in
-    until-more (tree-at (s₀ .args .left) (s₀ .args .nodes .now) 0) (s₀ .args .n) (s₀ .args .c) (s₀ .args .history .now) (s₀ .args .flag) (s₀ .args .t) (s₀ .args .low) (s₀ .args .table .now) (s₀ .args .report .now)
-    (s₀ .pre .1) (s₀ .pre .0 .some) (s₀ .pre .0 .table) (s₀ .pre .0 .report)
-    (now .p) (now .reported) (now .live) (now .table) (now .report) (moved .result) (moved .last .1 .1 .0) (wrote .result) (c .one-if-open .result) (wrote .last .0)
-    (c .before .before .before .before .before .before .before .before .before .loop-test .taken) (moved .kept .1 .1 .0) (wrote .kept .0) (moved .ensures) (wrote .ensures .0) (wrote .ensures .1) (c .one-if-open .ensures) (now .inv)
+    let s₀ = c .before .before .before .before .before .before .before .before .before .before .before .before .before .before .before in
+    let F = tree-at (s₀ .args .left) (s₀ .args .nodes .now) 0 in
+    let n = s₀ .args .n in
+    let z = s₀ .args .c in
+    let hist = s₀ .args .history .now in
+    let b = s₀ .args .flag in
+    let t = s₀ .args .t in
+    let low = s₀ .args .low in
+    let table₀ = s₀ .args .table .now in
+    let report₀ = s₀ .args .report .now in
+    let now = c .before .before .before .before .before .before .before .before .before .before .before .loop in
+    let moved = c .before .before .before .before .before .before .before .before .move-instance in
+    let ys = moved .last .1 .1 .0 in
+    let wrote = c .before .before .before .before .report-if-false in
+    let one = c .before .one-if-open in
+    let here = now .inv .1 in (
+      subst (λ (x : ℕ). MovedUntil F n z hist b t low table₀ report₀ (now .p + 1) (wrote .result) (now .live + one .result) (putMid (x * z) (x * z + z - x * z) (now .table) ys) (wrote .last .0)) (sym here)
+          (until-more F n z hist b t low table₀ report₀ (s₀ .pre .1) (s₀ .pre .0 .some) (s₀ .pre .0 .table) (s₀ .pre .0 .report)
+          (now .p) (now .reported) (now .live) (now .table) (now .report) (moved .result) ys (wrote .result) (one .result) (wrote .last .0) (c .before .before .before .before .before .before .before .before .before .before .loop-test .taken)
+          (subst (λ (x : ℕ). length ys ≡ length (take (x * z + z - x * z) (drop (x * z) (now .table)))) here (moved .kept .1 .1 .0)) (wrote .kept .0)
+          (subst (λ (x : ℕ). InstanceMoved F hist b t (now .p) (take (x * z + z - x * z) (drop (x * z) (now .table))) (moved .result) ys) here (moved .ensures)) (wrote .ensures .0) (wrote .ensures .1) (one .ensures) (now .inv .0)),
+      c .next-slot .ensures ∙ ap (λ (x : ℕ). cond (eqb (x + 1) n) 0 (x + 1)) here ∙ sym (slot-next n (now .p) (s₀ .pre .0 .some)),
+    )
 
 same-length : tie.Need-same-length Inv-loop μ-loop
-same-length c = c .before .loop .inv .table-length
+same-length c = c .before .loop .inv .0 .table-length
 
 same-length-2 : tie.Need-same-length-2 Inv-loop μ-loop
-same-length-2 c = c .before .loop .inv .report-length
+same-length-2 c = c .before .loop .inv .0 .report-length
 
 returns : tie.Need-returns Inv-loop μ-loop
 returns c =
@@ -118,7 +144,7 @@ returns c =
     let now = c .before .loop in
     until-all (tree-at (s₀ .args .left) (s₀ .args .nodes .now) 0) (s₀ .args .n) (s₀ .args .c) (s₀ .args .history .now) (s₀ .args .flag) (s₀ .args .t) (s₀ .args .low) (s₀ .args .table .now) (s₀ .args .report .now)
     (s₀ .pre .1) (s₀ .pre .0 .some) (s₀ .pre .0 .table) (s₀ .pre .0 .report)
-    (now .p) (now .reported) (now .live) (now .table) (now .report) (omega (arith, c .loop-test .left)) (now .inv)
+    (now .p) (now .reported) (now .live) (now .table) (now .report) (omega (arith, c .loop-test .left)) (now .inv .0)
 
 pub move-ticks-spec : {M : Type 1} → statement M
 move-ticks-spec =
@@ -126,8 +152,8 @@ move-ticks-spec =
     (tie.spec
     Inv-loop
     μ-loop
-    loop-holds
     rem-j
+    loop-holds
     mul-at
     add-end
     mul-move-instance
@@ -140,6 +166,7 @@ move-ticks-spec =
     one-if-open-requires
     add-live
     add-p
+    next-slot-requires
     loop-less
     loop-again
     same-length
