@@ -1,15 +1,17 @@
 -- Opening keeps its promise, by what its parts answered.
-use Prim.Native.Nat.{ℕ, _≤_}
+use Prim.Native.Nat.{ℕ, _+_, _-_, _≤_}
 use mathlib.Core.Path.{_≡_, refl, sym, ap, subst, _∙_}
 use mathlib.Core.List.{List}
 use native.Mathlib.Omega.{arith}
-use lib.ListN.{length}
+use native.Mathlib.Nat.{add-sub-cancel-left}
+use lib.ListN.{length, take, drop}
 use Rattle.refusal.specs.declared.Refusal.{Refusal}
 use Rattle.refusal.specs.Answer.{refused, accepted, and-then}
 use Rattle.refusal.specs.Numbers.{number-of}
 use Rattle.sheet.specs.Sheet.{rule-place, rule-body, body-part, found}
 use Rattle.sheet.specs.declared.reader.Found.{Found}
 use Rattle.sheet.specs.declared.reader.Found.the-variants as place
+use Rattle.sheet.proofs.Entries.{place-inside, body-at}
 use Rattle.sheet.proofs.Bodies.{body-size}
 use Rattle.rule.specs.declared.Figures.{Figures}
 use Rattle.rule.specs.Figures.{body-figures}
@@ -54,6 +56,14 @@ module _ (sheet : List ℕ) (number : ℕ) (place-of : Found) (found-is : found 
   part-is part e i =
       let h = sheet-found e in
       h .1 ∙ ap accepted (sym (i ∙ ap body-part (h .1)))
+
+  -- the part at the place that was found lies in the sheet, and is the body
+  pub part-inside : {start size : ℕ} → place-of ≡ place.At start size → start + size ≤ length sheet
+  part-inside {start} {size} e = place-inside sheet number start size (sym found-is ∙ ap found e)
+
+  pub part-there : {start size : ℕ} → place-of ≡ place.At start size → take (start + size - start) (drop start sheet) ≡ body-part (rule-body sheet number)
+  part-there {start} {size} e =
+      rw add-sub-cancel-left (sym (ap body-part (body-at sheet number (record { start = start; size = size }) (sym found-is ∙ ap found e))))
 
   pub part-size : {start size : ℕ} (part : List ℕ) → place-of ≡ place.At start size → part ≡ body-part (rule-body sheet number) → length part ≤ 512
   part-size part e i = body-size sheet number part (part-is part e i) .1

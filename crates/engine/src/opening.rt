@@ -71,8 +71,6 @@ pub fn open(sheet: &[u8], rule: usize, history: &mut [u8], cells: &[u32]) -> Ope
     let place = sheet::find_rule(sheet, rule);
     match place {
         Found::Refused(x) => refused(x),
-        Found::At { start: _, size: _ } => {
-            open_body(sheet::rule_body(sheet, rule), history, cells)
-        }
+        Found::At { start, size } => open_body(&sheet[start..start + size], history, cells),
     }
 }

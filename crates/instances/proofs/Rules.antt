@@ -24,7 +24,7 @@ use Rattle.demand.specs.Contract.{State, next-state, Kept}
 use Rattle.instances.specs.Tree.{Tree, formula-of, tree-at, words}
 use Rattle.instances.specs.Cells.{slot}
 use Rattle.instances.specs.Sized.{sized}
-use Rattle.instances.specs.Instances.{InstanceHolds, Stand, TicksFit, TicksMoved, Spared}
+use Rattle.instances.specs.Instances.{InstanceHolds, InstancesHold, TicksFit, TicksMoved, Spared}
 use Rattle.instances.specs.Moves.{Stands, Prepares, TableOf, TickFit, TickMoved}
 use Rattle.instances.proofs.Slots.{slot-before, slot-front}
 use Rattle.rule.proofs.Limits.{WithinLimits, within-limits}
@@ -32,7 +32,7 @@ use Rattle.instances.proofs.Sizes.{formula-sized, tree-sized, words-siz
 
 -- Before tick 0 the cells stand for every stream.
 pub stands-at-start : (s : State) (flags : ℕ → ℕ) (cells : List ℕ) → s .next ≡ 0 → Stands s cells flags
-unfolding Stands Stand
+unfolding Stands InstancesHold
 stands-at-start s flags cells z F f r w k p e h g = absurd (omega arith)
 
 -- ---- the slots of a table, or of the part that is needed
@@ -41,12 +41,12 @@ module _ (T : Tree) (n c : ℕ) (flags : ℕ → ℕ) (t : ℕ) (table : List �
   same-slot : (p : ℕ) → slot c (p % n) (take (n * c) table) ≡ slot c (p % n) table
   same-slot p = slot-front c table (n * c) (p % n) room (slot-before c (p % n) n (mod-lt p some))
 
-  stand-whole : Stand T n c flags t (take (n * c) table) → Stand T n c flags t table
-  unfolding Stand
+  stand-whole : InstancesHold T n c flags t (take (n * c) table) → InstancesHold T n c flags t table
+  unfolding InstancesHold
   stand-whole s k p e h g = subst (InstanceHolds flags T k p) (same-slot p) (s k p e h g)
 
-  stand-needed : Stand T n c flags t table → Stand T n c flags t (take (n * c) table)
-  unfolding Stand
+  stand-needed : InstancesHold T n c flags t table → InstancesHold T n c flags t (take (n * c) table)
+  unfolding InstancesHold
   stand-needed s k p e h g = subst (InstanceHolds flags T k p) (sym (same-slot p)) (s k p e h g)
 
 -- ---- a rule within the limits
@@ -111,13 +111,13 @@ module _ (ns : List ℕ) (f : Figures) (L t : ℕ) (s : State) (at : TableOf ns 
 
   -- the cells of a state whose figures are known
   stands-as : (cells : List ℕ) (flags : ℕ → ℕ) (F : Formula) (r : body (s .body-bytes) ≡ accepted F) → Stands s cells flags
-      → Stand (sized F (at-tick ∷ [])) (f .delay + 1) (4 + words (sized F (at-tick ∷ []))) flags t cells
+      → InstancesHold (sized F (at-tick ∷ [])) (f .delay + 1) (4 + words (sized F (at-tick ∷ []))) flags t cells
   unfolding Stands
   stands-as cells flags F r h =
-      subst (λ (u : ℕ). Stand (sized F (at-tick ∷ [])) (f .delay + 1) (4 + words (sized F (at-tick ∷ []))) flags u cells) (at .next) (h F f r (prepared F r .within))
+      subst (λ (u : ℕ). InstancesHold (sized F (at-tick ∷ [])) (f .delay + 1) (4 + words (sized F (at-tick ∷ []))) flags u cells) (at .next) (h F f r (prepared F r .within))
 
   stands-next : (live : ℕ) (cells : List ℕ) (flags : ℕ → ℕ) (F : Formula) (r : body (s .body-bytes) ≡ accepted F)
-      → Stand (sized F (at-tick ∷ [])) (f .delay + 1) (4 + words (sized F (at-tick ∷ []))) flags (suc t) cells → Stands (next-state s live) cells flags
+      → InstancesHold (sized F (at-tick ∷ [])) (f .delay + 1) (4 + words (sized F (at-tick ∷ []))) flags (suc t) cells → Stands (next-state s live) cells flags
   unfolding Stands
   stands-next live cells flags F r h G g i w =
       let same : F ≡ G = cc in
@@ -128,9 +128,9 @@ module _ (ns : List ℕ) (f : Figures) (c : ℕ) (hist : List ℕ) (b t low : �
     (ec : c ≡ f .cells / (f .delay + 1) * 4) (el : low ≡ t + 1 - (f .delay + 1)) (room : 4 * f .cells ≤ length table) (long : length table′ ≡ length table)
     (moved : TicksMoved (tree-at 64 ns 0) (f .delay + 1) c hist b t low table report₀ reported live-count table′ report′) where
   rule-means : (F : Formula) → Prepares F f ns → (flags : ℕ → ℕ) → flags t ≡ b → Kept flags (length hist) (f .history) t hist
-      → Stand (sized F (at-tick ∷ [])) (f .delay + 1) (4 + words (sized F (at-tick ∷ []))) flags t (take (4 * f .cells) table)
+      → InstancesHold (sized F (at-tick ∷ [])) (f .delay + 1) (4 + words (sized F (at-tick ∷ []))) flags t (take (4 * f .cells) table)
       → (take reported report′ ≡ report F flags t) × (reported ≡ length (report F flags t)) × (live-count ≡ length (live F flags t))
-      × Stand (sized F (at-tick ∷ [])) (f .delay + 1) (4 + words (sized F (at-tick ∷ []))) flags (suc t) (take (4 * f .cells) table′)
+      × InstancesHold (sized F (at-tick ∷ [])) (f .delay + 1) (4 + words (sized F (at-tick ∷ []))) flags (suc t) (take (4 * f .cells) table′)
   rule-means F p flags eb kept stand =
       let T : Tree = sized F (at-tick ∷ []) in
       let w : ℕ = 4 + words (sized F (at-tick ∷ [])) in
@@ -139,11 +139,11 @@ module _ (ns : List ℕ) (f : Figures) (c : ℕ) (hist : List ℕ) (b t low : �
       let moved′ : TicksMoved T n w hist b t low table report₀ reported live-count table′ report′ =
       subst (λ (x : ℕ). TicksMoved T n x hist b t low table report₀ reported live-count table′ report′) (ec ∙ slot-words F f ns p)
       (subst (λ (x : Tree). TicksMoved x n c hist b t low table report₀ reported live-count table′ report′) (tree-is F f ns p) moved) in
-      let stand′ : Stand T n w flags t (take (n * w) table) = rw whole stand in
+      let stand′ : InstancesHold T n w flags t (take (n * w) table) = rw whole stand in
       let x = moved′ .gives flags (f .history) (record { history = kept; current = sym eb }) (rule-reaches F f ns p flags) (stand-whole T n w flags t table (omega arith) (omega arith) stand′) in
       let er : passing (false-at t) (rule (formula-of T) flags t) (t + 1 - low) low ≡ report F flags t = report-is F f ns p flags t low el in
       let count : reported ≡ length (report F flags t) = x .0 ∙ ap length er in
-      let next : Stand T n w flags (t + 1) (take (n * w) table′) = stand-needed T n w flags (t + 1) table′ (omega arith) (omega arith) (x .1 .1 .1) in (
+      let next : InstancesHold T n w flags (t + 1) (take (n * w) table′) = stand-needed T n w flags (t + 1) table′ (omega arith) (omega arith) (x .1 .1 .1) in (
         ap (take reported) (x .1 .0 ∙ ap (λ (l : List ℕ). l ++ drop reported report₀) er) ∙ take-at (report F flags t) (drop reported report₀) reported (sym count),
         count,
         x .1 .1 .0 ∙ ap length (live-is F f ns p flags t low el),

@@ -20,7 +20,7 @@ use Rattle.rule.proofs.Passing.{passing-last}
 use Rattle.demand.proofs.Ring.{slots-differ}
 use Rattle.instances.specs.Tree.{Tree, formula-of, words}
 use Rattle.instances.specs.Cells.{slot}
-use Rattle.instances.specs.Instances.{InstanceHolds, FlagsAtHand, InstanceMoved, tick-if-false, open-count, Stand, TicksMoved, Spared}
+use Rattle.instances.specs.Instances.{InstanceHolds, FlagsAtHand, InstanceMoved, tick-if-false, open-count, InstancesHold, TicksMoved, Spared}
 use Rattle.instances.proofs.Slots.{slot-same, slot-below, slot-above, slot-before, drop-far}
 use Rattle.instances.proofs.Reports.{count-one, report-more, keeps-more}
 
@@ -37,7 +37,7 @@ opens F flags t m low = passing is-open (rule (formula-of F) flags t) m low
 -- m ticks from `low` on were moved: their slots hold, and the slots of those to come are as they were
 pub record MovedTo (F : Tree) (n c : ℕ) (hist : List ℕ) (b t low : ℕ) (table₀ report₀ : List ℕ) (m reported live : ℕ) (table report : List ℕ) : Type 0 where
   pub gives :
-      (flags : ℕ → ℕ) (H : ℕ) → FlagsAtHand flags H hist b t → ((p : ℕ) → Reach H flags (p ∷ []) p (formula-of F)) → Stand F n c flags t table₀
+      (flags : ℕ → ℕ) (H : ℕ) → FlagsAtHand flags H hist b t → ((p : ℕ) → Reach H flags (p ∷ []) p (formula-of F)) → InstancesHold F n c flags t table₀
       → (reported ≡ length (falses F flags t m low))
       × ((report ≡ falses F flags t m low ++ drop reported report₀)
       × ((live ≡ length (opens F flags t m low))
@@ -51,7 +51,7 @@ module _ (F : Tree) (n c : ℕ) (hist : List ℕ) (b t low : ℕ) (table₀ repo
 
   pub moved-all : (m reported live : ℕ) (table report : List ℕ) → m ≡ t + 1 - low → low ≡ t + 1 - n → MovedTo F n c hist b t low table₀ report₀ m reported live table report
       → TicksMoved F n c hist b t low table₀ report₀ reported live table report
-  unfolding Stand
+  unfolding InstancesHold
   moved-all m reported live table report em el w = record {
     gives = λ flags H same reach found.
         let x : _ = rw em at (w .gives flags H same reach found) in (
@@ -70,9 +70,9 @@ module _ (F : Tree) (n c : ℕ) (hist : List ℕ) (b t low : ℕ) (table₀ repo
   }
 
   module _ (m reported live : ℕ) (table report : List ℕ) (o : Outcome) (ys : List ℕ) where
-    found-before : (flags : ℕ → ℕ) → low + m ≤ t → t < low + n → Stand F n c flags t table₀ → slot c ((low + m) % n) table ≡ slot c ((low + m) % n) table₀
+    found-before : (flags : ℕ → ℕ) → low + m ≤ t → t < low + n → InstancesHold F n c flags t table₀ → slot c ((low + m) % n) table ≡ slot c ((low + m) % n) table₀
         → Before (low + m) t (λ k. InstanceHolds flags F k (low + m) (slot c ((low + m) % n) table))
-    unfolding Stand
+    unfolding InstancesHold
     found-before flags h g found es = elim (decLt (low + m) t) [
       | no l ↦ inl (omega arith)
       | yes l ↦

@@ -47,8 +47,8 @@ unfoldable pub open-count : Outcome → ℕ
 open-count o = cond (is-open o) 1 0
 
 -- The cells are what the ticks before tick t leave. Before tick 0 that is anything.
-unfoldable pub Stand : Tree → ℕ → ℕ → (ℕ → ℕ) → ℕ → List ℕ → Type 0
-Stand F n c flags t cells = (k p : ℕ) → t ≡ k + 1 → p ≤ k → k < p + n → InstanceHolds flags F k p (slot c (p % n) cells)
+unfoldable pub InstancesHold : Tree → ℕ → ℕ → (ℕ → ℕ) → ℕ → List ℕ → Type 0
+InstancesHold F n c flags t cells = (k p : ℕ) → t ≡ k + 1 → p ≤ k → k < p + n → InstanceHolds flags F k p (slot c (p % n) cells)
 
 -- What is required: nothing of what the cells hold.
 pub record TicksFit (F : Tree) (t n c len words′ : ℕ) : Type 0 where
@@ -69,8 +69,8 @@ pub record Spared (n k : ℕ) (table report₀ : List ℕ) (reported live : ℕ)
 -- The ticks from `low` to t were moved: for every stream whose flags are at hand and for which the cells stand.
 pub record TicksMoved (F : Tree) (n c : ℕ) (hist : List ℕ) (b t low : ℕ) (table report₀ : List ℕ) (reported live : ℕ) (table′ report′ : List ℕ) : Type 0 where
   pub gives :
-      (flags : ℕ → ℕ) (H : ℕ) → FlagsAtHand flags H hist b t → ((p : ℕ) → Reach H flags (p ∷ []) p (formula-of F)) → Stand F n c flags t table
+      (flags : ℕ → ℕ) (H : ℕ) → FlagsAtHand flags H hist b t → ((p : ℕ) → Reach H flags (p ∷ []) p (formula-of F)) → InstancesHold F n c flags t table
       → (reported ≡ length (passing (false-at t) (rule (formula-of F) flags t) (t + 1 - low) low))
       × ((report′ ≡ passing (false-at t) (rule (formula-of F) flags t) (t + 1 - low) low ++ drop reported report₀)
       × ((live ≡ length (passing is-open (rule (formula-of F) flags t) (t + 1 - low) low))
-      × Stand F n c flags (t + 1) table′))
+      × InstancesHold F n c flags (t + 1) table′))

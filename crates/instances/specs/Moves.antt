@@ -13,7 +13,7 @@ use Rattle.figures.specs.Measured.{SizesAt}
 use Rattle.demand.specs.Contract.{State, step-of, Invariant, Takes, Stepped}
 use Rattle.instances.specs.Tree.{words}
 use Rattle.instances.specs.Sized.{sized}
-use Rattle.instances.specs.Instances.{Stand}
+use Rattle.instances.specs.Instances.{InstancesHold}
 use Rattle.instances.specs.declared.stepping.StepAnswer.{StepAnswer}
 use Rattle.instances.specs.Answers.{state-at, taken-from, step-answer}
 
@@ -22,7 +22,7 @@ use Rattle.instances.specs.Answers.{state-at, taken-from, step-answer}
 unfoldable pub Stands : Invariant
 Stands s cells flags =
     (F : Formula) (f : Figures) → body (s .body-bytes) ≡ accepted F → figures F ≡ accepted f
-    → Stand (sized F (at-tick ∷ [])) (f .delay + 1) (4 + words (sized F (at-tick ∷ []))) flags (s .next) cells
+    → InstancesHold (sized F (at-tick ∷ [])) (f .delay + 1) (4 + words (sized F (at-tick ∷ []))) flags (s .next) cells
 
 -- The node table holds the rule's formula with its sizes, and the rule is within the limits.
 pub record Prepares (F : Formula) (f : Figures) (ns : List ℕ) : Type 0 where

@@ -13,11 +13,15 @@ use crate::env::own_tick;
 use crate::head::load_head;
 use crate::head::store_head;
 use crate::ring::byte_of;
+use nodes::BESIDE_CODE;
 use nodes::CODE;
 use nodes::FIRST_WORDS;
 use nodes::FLAG;
+use nodes::FORALL_CODE;
+use nodes::NOT_CODE;
 use nodes::SECOND_PART;
 use nodes::SLOT_WORDS;
+use nodes::THEN_CODE;
 use nodes::VARIABLE;
 use nodes::node_word;
 use nodes::skip_nots;
@@ -45,10 +49,10 @@ fn is_flag(nodes: &[u32], left: usize, i: usize) -> bool
         return true;
     }
     let code = node_word(nodes, i, CODE);
-    if code < 2 {
+    if code < NOT_CODE {
         return true;
     }
-    if 5 < code {
+    if FORALL_CODE < code {
         return true;
     }
     false
@@ -420,13 +424,13 @@ fn advance(
         return flag_in(nodes, i, byte, s);
     }
     let code = node_word(nodes, i, CODE);
-    if code == 2 {
+    if code == NOT_CODE {
         return advance_not(nodes, left, i, run, history, flag, m, pos, byte, s, t);
     }
-    if code == 3 {
+    if code == THEN_CODE {
         return advance_then(nodes, left - 1, i, run, history, flag, m, pos, byte, s, t);
     }
-    if code == 4 {
+    if code == BESIDE_CODE {
         return advance_beside(nodes, left - 1, i, run, history, flag, m, pos, byte, s, t);
     }
     advance_range(nodes, left - 1, i, run, history, flag, m, pos, byte, s, t)

@@ -11,6 +11,7 @@ ghost use Rattle.instances.specs.Moves.{TickFit, TickMoved};
 use crate::advance::advance_position;
 use crate::cells::load_outcome;
 use crate::ring::remember;
+use nodes::FORMULAS;
 use rule::Figures;
 use rule::Outcome;
 use rule::Verdict;
@@ -148,7 +149,7 @@ pub(crate) fn move_tick(
     let n = figures.delay + 1;
     let c = (figures.cells / n * 4) as usize;
     let low = oldest_tick(t, n);
-    let moved = move_ticks(nodes, 64, cells, history, flag, report, t, low, n, c);
+    let moved = move_ticks(nodes, FORMULAS, cells, history, flag, report, t, low, n, c);
     remember(history, t, flag);
     moved
 }

@@ -1,6 +1,8 @@
--- `engine::open` meets its contract.
--- Assumes nothing.
-use Rattle.engine.proofs.Opens.{part-size, open-refused, open-body-keeps}
+-- `engine::opening::open` meets its contract. Assumes nothing.
+use Prim.Native.Nat.{_+_, _-_}
+use native.Mathlib.Omega.{arith}
+use lib.ListN.{take, drop}
+use Rattle.engine.proofs.Opens.{part-inside, part-there, part-size, open-refused, open-body-keeps}
 use borrow.Author.Needs.{needs}
 use Rattle.engine.proofs.opening.open.Statement.{statement}
 use Rattle.engine.proofs.opening.open.Tie as tie
@@ -14,31 +16,57 @@ enum-known-place c = search needs
 refused-requires : tie.Need-refused-requires
 refused-requires c κs = search needs
 
-enum-told : tie.Need-enum-told
-enum-told c = search needs
+enum-known-place-2 : tie.Need-enum-known-place-2
+enum-known-place-2 c = search needs
 
-rule-body-requires : tie.Need-rule-body-requires
-rule-body-requires c κs = search needs
+add-open-body : tie.Need-add-open-body
+add-open-body c =
+    let s₀ = c .before .before .before .before .before .before .before in
+    let f = c .before .before .before .find-rule in
+    let g = c .before .place2 .given .1 in
+    let h = part-inside (s₀ .args .sheet .now) (s₀ .args .rule) (f .result) (f .ensures) g in
+    omega arith
+
+sub-open-body : tie.Need-sub-open-body
+sub-open-body c = search needs
+
+part-open-body-start : tie.Need-part-open-body-start
+part-open-body-start c = search needs
+
+part-open-body-end : tie.Need-part-open-body-end
+part-open-body-end c =
+    let s₀ = c .before .before .before .before .before .before .before in
+    let f = c .before .before .before .find-rule in
+    let g = c .before .place2 .given .1 in
+    part-inside (s₀ .args .sheet .now) (s₀ .args .rule) (f .result) (f .ensures) g
 
 open-body-requires : tie.Need-open-body-requires
 open-body-requires c κs =
-    let s₀ = c .before .before .before .before .before .before .before .before in
-    part-size (s₀ .args .sheet .now) (s₀ .args .rule) (c .before .before .before .before .find-rule .result) (c .before .before .before .before .find-rule .ensures) (c .before .rule-body .result .now) (c .before .before .enum-told .given .1) (c .before .rule-body .ensures)
+    let s₀ = c .before .before .before .before .before .before .before .before .before in
+    let f = c .before .before .before .before .before .find-rule in
+    let g = c .before .before .before .place2 .given .1 in
+    let start = c .before .before .before .place2 .given .0 .0 in
+    let size = c .before .before .before .place2 .given .0 .1 .0 in
+    part-size (s₀ .args .sheet .now) (s₀ .args .rule) (f .result) (f .ensures) (take (start + size - start) (drop start (s₀ .args .sheet .now))) g (part-there (s₀ .args .sheet .now) (s₀ .args .rule) (f .result) (f .ensures) g)
 
 returns : tie.Need-returns
 returns c =
     let s₀ = c .before .before .before .before .before .before .before .before in
-    open-refused (s₀ .args .sheet .now) (s₀ .args .rule) (c .before .before .before .before .find-rule .result) (c .before .before .before .before .find-rule .ensures) (s₀ .args .history .now) (s₀ .args .cells .now)
-    (c .refused .result) (c .before .before .place .given .1) (c .refused .ensures)
+    let f = c .before .before .before .before .find-rule in
+    let g = c .before .before .place .given .1 in
+    open-refused (s₀ .args .sheet .now) (s₀ .args .rule) (f .result) (f .ensures) (s₀ .args .history .now) (s₀ .args .cells .now) (c .refused .result) g (c .refused .ensures)
 
 same-length : tie.Need-same-length
 same-length c = search needs
 
 returns-2 : tie.Need-returns-2
 returns-2 c =
-    let s₀ = c .before .before .before .before .before .before .before .before .before .before .before in
-    open-body-keeps (s₀ .args .sheet .now) (s₀ .args .rule) (c .before .before .before .before .before .before .before .find-rule .result) (c .before .before .before .before .before .before .before .find-rule .ensures) (s₀ .args .history .now) (s₀ .args .cells .now)
-    (c .before .before .before .before .rule-body .result .now) (c .before .before .open-body .result) (c .before .before .open-body .last .1 .0) (c .before .before .before .before .before .enum-told .given .1) (c .before .before .before .before .rule-body .ensures) (c .before .before .open-body .ensures)
+    let s₀ = c .before .before .before .before .before .before .before .before .before .before .before .before in
+    let f = c .before .before .before .before .before .before .before .before .find-rule in
+    let g = c .before .before .before .before .before .before .place2 .given .1 in
+    let start = c .before .before .before .before .before .before .place2 .given .0 .0 in
+    let size = c .before .before .before .before .before .before .place2 .given .0 .1 .0 in
+    open-body-keeps (s₀ .args .sheet .now) (s₀ .args .rule) (f .result) (f .ensures) (s₀ .args .history .now) (s₀ .args .cells .now) (take (start + size - start) (drop start (s₀ .args .sheet .now))) (c .before .before .open-body .result) (c .before .before .open-body .last .1 .0) g (part-there (s₀ .args .sheet .now) (s₀ .args .rule) (f .result) (f .ensures) g) (c .before .before .open-body .ensures)
 
 pub open-spec : {M : Type 1} → statement M
 open-spec =
@@ -47,8 +75,11 @@ open-spec =
     find-rule-requires
     enum-known-place
     refused-requires
-    enum-told
-    rule-body-requires
+    enum-known-place-2
+    add-open-body
+    sub-open-body
+    part-open-body-start
+    part-open-body-end
     open-body-requires
     returns
     same-length

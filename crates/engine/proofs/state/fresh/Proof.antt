@@ -1,17 +1,15 @@
+-- `engine::state::fresh` meets its contract. Assumes nothing.
 use Rattle.engine.proofs.States.{copied-is}
 use borrow.Author.Needs.{needs}
 use Rattle.engine.proofs.state.fresh.Statement.{statement}
 use Rattle.engine.proofs.state.fresh.Tie as tie
 
--- src/state.rt:22:23
 slice-aggregate-copy : tie.Need-slice-aggregate-copy
 slice-aggregate-copy c = search needs
 
--- src/state.rt:22:5
 copy-requires : tie.Need-copy-requires
 copy-requires c κs = search needs
 
--- src/state.rt:17:1
 returns : tie.Need-returns
 returns c =
     let a = c .before .before .before .before .args in

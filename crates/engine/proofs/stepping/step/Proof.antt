@@ -1,3 +1,4 @@
+-- `engine::stepping::step` meets its contract. Assumes nothing.
 use mathlib.Core.Path.{_≡_, sym}
 use native.Mathlib.Omega.{arith}
 use lib.ListN.{length}
@@ -7,39 +8,32 @@ use borrow.Author.Needs.{needs}
 use Rattle.engine.proofs.stepping.step.Statement.{statement}
 use Rattle.engine.proofs.stepping.step.Tie as tie
 
--- src/stepping.rt:37:9
 returns : tie.Need-returns
 returns c =
     let s₀ = c .before .before .before .before in
     step-too-long (s₀ .args .state) (s₀ .args .flag) (s₀ .args .history .now) (s₀ .args .cells .now) (s₀ .args .report .now) (c .if1 .taken)
 
--- src/stepping.rt:45:39
 array-share-prefix-body : tie.Need-array-share-prefix-body
 array-share-prefix-body c =
     let s₀ = c .before .before .before .before .before in
     let h : length (s₀ .args .state .body) ≡ 512 = search needs in
     omega arith
 
--- src/stepping.rt:45:39
 slice-aggregate-take-step : tie.Need-slice-aggregate-take-step
 slice-aggregate-take-step c =
     let s₀ = c .before .before .before .before .before .before in
     let h : length (s₀ .args .state .body) ≡ 512 = search needs in
     sym (length-take-le (s₀ .args .state .size) (s₀ .args .state .body) (omega arith))
 
--- src/stepping.rt:45:9
 take-step-requires : tie.Need-take-step-requires
 take-step-requires c κs = search needs
 
--- src/stepping.rt:47:29
 enum-known-answer : tie.Need-enum-known-answer
 enum-known-answer c = search needs
 
--- src/stepping.rt:51:27
 enum-known-answer-2 : tie.Need-enum-known-answer-2
 enum-known-answer-2 c = search needs
 
--- src/stepping.rt:53:33
 add-moved : tie.Need-add-moved
 add-moved c =
     let s₀ = c .before .before .before .before .before .before .before .before .before .before .before .before .before .before .before .before .before .before .before in
@@ -47,42 +41,33 @@ add-moved c =
     let low = tick-left (s₀ .args .state) (s₀ .args .flag) (s₀ .args .history .now) (s₀ .args .cells .now) (s₀ .args .report .now) (c .before .before .before .before .before .before .before .before .before .before .before .before .before .before .before .if1 .left) (r .result) (r .last .1 .1 .1 .0) (r .last .1 .1 .1 .1 .1 .0) (r .last .1 .1 .1 .1 .1 .1 .0) (r .ensures) (c .before .answer2 .given .1) in
     omega arith
 
--- src/stepping.rt:53:20
 moved-requires : tie.Need-moved-requires
 moved-requires c κs = search needs
 
--- src/stepping.rt:26:1
 same-length : tie.Need-same-length
 same-length c = search needs
 
--- src/stepping.rt:26:1
 same-length-2 : tie.Need-same-length-2
 same-length-2 c = search needs
 
--- src/stepping.rt:26:1
 same-length-3 : tie.Need-same-length-3
 same-length-3 c = search needs
 
--- src/stepping.rt:26:1
 returns-2 : tie.Need-returns-2
 returns-2 c =
     let s₀ = c .before .before .before .before .before .before .before .before .before .before .before .before .before .before .before .before .before .before .before in
     let r = c .before .before .before .before .before .before .before .before .before .take-step in
     step-refused (s₀ .args .state) (s₀ .args .flag) (s₀ .args .history .now) (s₀ .args .cells .now) (s₀ .args .report .now) (c .before .before .before .before .before .before .before .before .before .before .before .before .before .before .before .if1 .left) (r .result) (r .last .1 .1 .1 .0) (r .last .1 .1 .1 .1 .1 .0) (r .last .1 .1 .1 .1 .1 .1 .0) (r .ensures) (c .before .answer .given .1)
 
--- src/stepping.rt:26:1
 same-length-4 : tie.Need-same-length-4
 same-length-4 c = search needs
 
--- src/stepping.rt:26:1
 same-length-5 : tie.Need-same-length-5
 same-length-5 c = search needs
 
--- src/stepping.rt:26:1
 same-length-6 : tie.Need-same-length-6
 same-length-6 c = search needs
 
--- src/stepping.rt:26:1
 returns-3 : tie.Need-returns-3
 returns-3 c =
     let s₀ = c .before .before .before .before .before .before .before .before .before .before .before .before .before .before .before .before .before .before .before .before in

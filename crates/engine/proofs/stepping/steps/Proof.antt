@@ -1,3 +1,4 @@
+-- `engine::stepping::steps` meets its contract. Assumes nothing.
 use mathlib.Core.Path.{_≡_, sym}
 use native.Mathlib.Omega.{arith}
 use lib.ListN.{length}
@@ -7,39 +8,32 @@ use borrow.Author.Needs.{needs}
 use Rattle.engine.proofs.stepping.steps.Statement.{statement}
 use Rattle.engine.proofs.stepping.steps.Tie as tie
 
--- src/stepping.rt:71:9
 returns : tie.Need-returns
 returns c =
     let s₀ = c .before .before .before .before .before in
     batch-too-long (s₀ .args .state) (s₀ .args .flags .now) (s₀ .args .history .now) (s₀ .args .cells .now) (s₀ .args .report .now) (c .if1 .taken)
 
--- src/stepping.rt:81:9
 array-share-prefix-body : tie.Need-array-share-prefix-body
 array-share-prefix-body c =
     let s₀ = c .before .before .before .before .before .before in
     let h : length (s₀ .args .state .body) ≡ 512 = search needs in
     omega arith
 
--- src/stepping.rt:81:9
 slice-aggregate-take-batch : tie.Need-slice-aggregate-take-batch
 slice-aggregate-take-batch c =
     let s₀ = c .before .before .before .before .before .before .before in
     let h : length (s₀ .args .state .body) ≡ 512 = search needs in
     sym (length-take-le (s₀ .args .state .size) (s₀ .args .state .body) (omega arith))
 
--- src/stepping.rt:80:9
 take-batch-requires : tie.Need-take-batch-requires
 take-batch-requires c κs = search needs
 
--- src/stepping.rt:91:30
 enum-known-answer : tie.Need-enum-known-answer
 enum-known-answer c = search needs
 
--- src/stepping.rt:95:28
 enum-known-answer-2 : tie.Need-enum-known-answer-2
 enum-known-answer-2 c = search needs
 
--- src/stepping.rt:97:40
 cast-moved : tie.Need-cast-moved
 cast-moved c =
     let s₀ = c .before .before .before .before .before .before .before .before .before .before .before .before .before .before .before .before .before .before .before .before in
@@ -47,7 +41,6 @@ cast-moved c =
     let low = ticks-left (s₀ .args .state) (s₀ .args .flags .now) (s₀ .args .history .now) (s₀ .args .cells .now) (s₀ .args .report .now) (c .before .before .before .before .before .before .before .before .before .before .before .before .before .before .before .if1 .left) (r .result) (r .last .1 .1 .1 .1 .1 .0) (r .last .1 .1 .1 .1 .1 .1 .0) (r .last .1 .1 .1 .1 .1 .1 .1 .0) (r .ensures) (c .before .answer2 .given .1) (search needs) in
     omega arith
 
--- src/stepping.rt:97:33
 add-moved : tie.Need-add-moved
 add-moved c =
     let s₀ = c .before .before .before .before .before .before .before .before .before .before .before .before .before .before .before .before .before .before .before .before in
@@ -55,42 +48,33 @@ add-moved c =
     let low = ticks-left (s₀ .args .state) (s₀ .args .flags .now) (s₀ .args .history .now) (s₀ .args .cells .now) (s₀ .args .report .now) (c .before .before .before .before .before .before .before .before .before .before .before .before .before .before .before .if1 .left) (r .result) (r .last .1 .1 .1 .1 .1 .0) (r .last .1 .1 .1 .1 .1 .1 .0) (r .last .1 .1 .1 .1 .1 .1 .1 .0) (r .ensures) (c .before .answer2 .given .1) (search needs) in
     omega arith
 
--- src/stepping.rt:97:20
 moved-requires : tie.Need-moved-requires
 moved-requires c κs = search needs
 
--- src/stepping.rt:60:1
 same-length : tie.Need-same-length
 same-length c = search needs
 
--- src/stepping.rt:60:1
 same-length-2 : tie.Need-same-length-2
 same-length-2 c = search needs
 
--- src/stepping.rt:60:1
 same-length-3 : tie.Need-same-length-3
 same-length-3 c = search needs
 
--- src/stepping.rt:60:1
 returns-2 : tie.Need-returns-2
 returns-2 c =
     let s₀ = c .before .before .before .before .before .before .before .before .before .before .before .before .before .before .before .before .before .before .before .before in
     let r = c .before .before .before .before .before .before .before .before .before .take-batch in
     batch-refused (s₀ .args .state) (s₀ .args .flags .now) (s₀ .args .history .now) (s₀ .args .cells .now) (s₀ .args .report .now) (c .before .before .before .before .before .before .before .before .before .before .before .before .before .before .before .if1 .left) (r .result) (r .last .1 .1 .1 .1 .1 .0) (r .last .1 .1 .1 .1 .1 .1 .0) (r .last .1 .1 .1 .1 .1 .1 .1 .0) (r .ensures) (c .before .answer .given .1)
 
--- src/stepping.rt:60:1
 same-length-4 : tie.Need-same-length-4
 same-length-4 c = search needs
 
--- src/stepping.rt:60:1
 same-length-5 : tie.Need-same-length-5
 same-length-5 c = search needs
 
--- src/stepping.rt:60:1
 same-length-6 : tie.Need-same-length-6
 same-length-6 c = search needs
 
--- src/stepping.rt:60:1
 returns-3 : tie.Need-returns-3
 returns-3 c =
     let s₀ = c .before .before .before .before .before .before .before .before .before .before .before .before .before .before .before .before .before .before .before .before .before in

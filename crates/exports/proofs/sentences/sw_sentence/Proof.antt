@@ -1,3 +1,4 @@
+-- `exports::sentences::sw_sentence` meets its contract. Assumes nothing.
 use Prim.Native.Nat.{ℕ, _+_, _<_, _≤_}
 use mathlib.Core.Path.{sym, ap, _∙_}
 use native.Mathlib.Omega.{arith}
@@ -12,15 +13,12 @@ use borrow.Author.Needs.{needs}
 use Rattle.exports.proofs.sentences.sw_sentence.Statement.{statement}
 use Rattle.exports.proofs.sentences.sw_sentence.Tie as tie
 
--- src/sentences.rt:16:9
 sentence-requires : tie.Need-sentence-requires
 sentence-requires c κs = search needs
 
--- src/sentences.rt:18:9
 number-requires : tie.Need-number-requires
 number-requires c κs = search needs
 
--- src/sentences.rt:18:9
 returns : tie.Need-returns
 returns c =
     let a = c .before .before .before .before .before .args in
@@ -29,11 +27,9 @@ returns c =
     let none = no-room (a .refused) (now (a .out)) short in
     (c .number .ensures ∙ sym (ap number (none .0)), (sym (none .1), sym (ap (λ (w : Answer ℕ). or-kept (λ n. n) w (now (a .written))) (none .0))))
 
--- src/sentences.rt:20:25
 add-text : tie.Need-add-text
 add-text c = search needs
 
--- src/sentences.rt:20:17
 array-share-prefix-text : tie.Need-array-share-prefix-text
 array-share-prefix-text c =
     let a = c .before .before .before .before .args in
@@ -41,7 +37,6 @@ array-share-prefix-text c =
     let long = text-length (a .refused) (s .result) (s .last .1 .0) (s .ensures .0) (s .ensures .1 .1 .0) (s .ensures .1 .1 .1) in
     omega (arith, long, s .ensures .0)
 
--- src/sentences.rt:20:17
 slice-aggregate-copy : tie.Need-slice-aggregate-copy
 slice-aggregate-copy c =
     let a = c .before .before .before .before .before .args in
@@ -49,7 +44,6 @@ slice-aggregate-copy c =
     let long = text-length (a .refused) (s .result) (s .last .1 .0) (s .ensures .0) (s .ensures .1 .1 .0) (s .ensures .1 .1 .1) in
     sym (length-take-le (s .result + 1) (s .last .1 .0) (omega (arith, long, s .ensures .0)))
 
--- src/sentences.rt:20:5
 copy-requires : tie.Need-copy-requires
 copy-requires c κs =
     let a = c .before .before .before .before .before .before .args in
@@ -58,11 +52,9 @@ copy-requires c κs =
     let e = length-take-le (s .result + 1) (s .last .1 .0) (omega (arith, long, s .ensures .0)) in
     omega (arith, e, c .before .before .if1 .left)
 
--- src/sentences.rt:9:1
 same-length : tie.Need-same-length
 same-length c = search needs
 
--- src/sentences.rt:9:1
 returns-2 : tie.Need-returns-2
 returns-2 c =
     let a = c .before .before .before .before .before .before .before .before .before .args in

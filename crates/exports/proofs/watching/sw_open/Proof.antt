@@ -1,45 +1,37 @@
+-- `exports::watching::sw_open` meets its contract. Assumes nothing.
 use denote.Ref.{now}
 use Rattle.exports.proofs.Kept.{open-refused, open-accepted}
 use borrow.Author.Needs.{needs}
 use Rattle.exports.proofs.watching.sw_open.Statement.{statement}
 use Rattle.exports.proofs.watching.sw_open.Tie as tie
 
--- src/watching.rt:31:9
 open-requires : tie.Need-open-requires
 open-requires c κs = search needs
 
--- src/watching.rt:34:29
 enum-known-answer : tie.Need-enum-known-answer
 enum-known-answer c = search needs
 
--- src/watching.rt:34:35
 number-requires : tie.Need-number-requires
 number-requires c κs = search needs
 
--- src/watching.rt:36:19
 enum-told : tie.Need-enum-told
 enum-told c = search needs
 
--- src/watching.rt:36:13
 store-requires : tie.Need-store-requires
 store-requires c κs = search needs
 
--- src/watching.rt:21:1
 same-length : tie.Need-same-length
 same-length c = search needs
 
--- src/watching.rt:21:1
 returns : tie.Need-returns
 returns c =
     let a = c .before .before .before .before .before .before .before .before .before .before .before .args in
     let o = c .before .before .before .before .before .before .«open» in
     open-refused (now (a .sheet)) (a .rule) (now (a .history)) (now (a .cells)) (now (a .state)) (o .result .answer) (o .result .state) (o .last .1 .1 .0) (o .ensures) (c .number .result) (c .before .before .answer .given .1) (c .number .ensures)
 
--- src/watching.rt:21:1
 same-length-2 : tie.Need-same-length-2
 same-length-2 c = search needs
 
--- src/watching.rt:21:1
 returns-2 : tie.Need-returns-2
 returns-2 c =
     let a = c .before .before .before .before .before .before .before .before .before .before .before .args in

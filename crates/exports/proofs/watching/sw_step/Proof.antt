@@ -1,3 +1,4 @@
+-- `exports::watching::sw_step` meets its contract. Assumes nothing.
 use mathlib.Core.Path.{_≡_}
 use native.Mathlib.Omega.{arith}
 use denote.Ref.{now}
@@ -8,66 +9,51 @@ use borrow.Author.Needs.{needs}
 use Rattle.exports.proofs.watching.sw_step.Statement.{statement}
 use Rattle.exports.proofs.watching.sw_step.Tie as tie
 
--- src/watching.rt:57:9
 next-tick-requires : tie.Need-next-tick-requires
 next-tick-requires c κs = search needs
 
--- src/watching.rt:59:9
 number-requires : tie.Need-number-requires
 number-requires c κs = search needs
 
--- src/watching.rt:59:9
 returns : tie.Need-returns
 returns c =
     let a = c .before .before .before .before .before .before .before .args in
     let t = c .before .before .next-tick in
     (step-late (now (a .state)) (a .flag) (now (a .history)) (now (a .cells)) (now (a .report)) (c .number .result) (now (a .reported)) (now (a .live)) (c .number .ensures) (omega (arith, t .ensures .0, c .before .if1 .taken)), (kept-if-refused StateNotOpened (c .number .result) (now (a .reported)) (c .number .ensures), kept-if-refused StateNotOpened (c .number .result) (now (a .live)) (c .number .ensures)))
 
--- src/watching.rt:61:44
 cast-load : tie.Need-cast-load
 cast-load c = search needs
 
--- src/watching.rt:61:32
 load-requires : tie.Need-load-requires
 load-requires c κs = search needs
 
--- src/watching.rt:61:9
 step-requires : tie.Need-step-requires
 step-requires c κs = search needs
 
--- src/watching.rt:64:29
 enum-known-answer : tie.Need-enum-known-answer
 enum-known-answer c = search needs
 
--- src/watching.rt:64:35
 number-requires-2 : tie.Need-number-requires-2
 number-requires-2 c κs = search needs
 
--- src/watching.rt:65:27
 enum-known-answer-2 : tie.Need-enum-known-answer-2
 enum-known-answer-2 c = search needs
 
--- src/watching.rt:66:35
 add-store-progress : tie.Need-add-store-progress
 add-store-progress c = search needs
 
--- src/watching.rt:66:13
 store-progress-requires : tie.Need-store-progress-requires
 store-progress-requires c κs = search needs
 
--- src/watching.rt:43:1
 same-length : tie.Need-same-length
 same-length c = search needs
 
--- src/watching.rt:43:1
 same-length-2 : tie.Need-same-length-2
 same-length-2 c = search needs
 
--- src/watching.rt:43:1
 same-length-3 : tie.Need-same-length-3
 same-length-3 c = search needs
 
--- src/watching.rt:43:1
 returns-2 : tie.Need-returns-2
 returns-2 c =
     let a = c .before .before .before .before .before .before .before .before .before .before .before .before .before .before .before .before .before .before .before .before .before .before .args in
@@ -77,19 +63,15 @@ returns-2 c =
     let x = c .before .before .answer .given .0 .0 in
     (step-refused (now (a .state)) (a .flag) (now (a .history)) (now (a .cells)) (now (a .report)) (l .result) (held (now (a .state)) (l .result) (t .result) (l .ensures) (t .ensures .0)) (s .result .answer) (s .result .state) (s .last .1 .1 .0) (s .last .1 .1 .1 .0) (s .last .1 .1 .1 .1 .0) (s .ensures) (c .number2 .result) (now (a .reported)) (now (a .live)) (c .before .before .answer .given .1) (c .number2 .ensures), (kept-if-refused x (c .number2 .result) (now (a .reported)) (c .number2 .ensures), kept-if-refused x (c .number2 .result) (now (a .live)) (c .number2 .ensures)))
 
--- src/watching.rt:43:1
 same-length-4 : tie.Need-same-length-4
 same-length-4 c = search needs
 
--- src/watching.rt:43:1
 same-length-5 : tie.Need-same-length-5
 same-length-5 c = search needs
 
--- src/watching.rt:43:1
 same-length-6 : tie.Need-same-length-6
 same-length-6 c = search needs
 
--- src/watching.rt:43:1
 returns-3 : tie.Need-returns-3
 returns-3 c =
     let a = c .before .before .before .before .before .before .before .before .before .before .before .before .before .before .before .before .before .before .before .before .before .before .before .args in

@@ -1,3 +1,4 @@
+-- `exports::watching::sw_steps` meets its contract. Assumes nothing.
 use mathlib.Core.Path.{_≡_}
 use native.Mathlib.Omega.{arith}
 use denote.Ref.{now}
@@ -8,46 +9,36 @@ use borrow.Author.Needs.{needs}
 use Rattle.exports.proofs.watching.sw_steps.Statement.{statement}
 use Rattle.exports.proofs.watching.sw_steps.Tie as tie
 
--- src/watching.rt:92:9
 next-tick-requires : tie.Need-next-tick-requires
 next-tick-requires c κs = search needs
 
--- src/watching.rt:94:9
 number-requires : tie.Need-number-requires
 number-requires c κs = search needs
 
--- src/watching.rt:94:9
 returns : tie.Need-returns
 returns c =
     let a = c .before .before .before .before .before .before .before .before .args in
     let t = c .before .before .next-tick in
     (batch-late (now (a .state)) (now (a .flags)) (now (a .history)) (now (a .cells)) (now (a .report)) (c .number .result) (now (a .taken)) (now (a .pairs)) (now (a .live)) (c .number .ensures) (omega (arith, t .ensures .0, c .before .if1 .taken)), (kept-if-refused StateNotOpened (c .number .result) (now (a .taken)) (c .number .ensures), (kept-if-refused StateNotOpened (c .number .result) (now (a .pairs)) (c .number .ensures), kept-if-refused StateNotOpened (c .number .result) (now (a .live)) (c .number .ensures))))
 
--- src/watching.rt:96:45
 cast-load : tie.Need-cast-load
 cast-load c = search needs
 
--- src/watching.rt:96:33
 load-requires : tie.Need-load-requires
 load-requires c κs = search needs
 
--- src/watching.rt:96:9
 steps-requires : tie.Need-steps-requires
 steps-requires c κs = search needs
 
--- src/watching.rt:99:30
 enum-known-answer : tie.Need-enum-known-answer
 enum-known-answer c = search needs
 
--- src/watching.rt:99:36
 number-requires-2 : tie.Need-number-requires-2
 number-requires-2 c κs = search needs
 
--- src/watching.rt:100:28
 enum-known-answer-2 : tie.Need-enum-known-answer-2
 enum-known-answer-2 c = search needs
 
--- src/watching.rt:101:35
 add-store-progress : tie.Need-add-store-progress
 add-store-progress c =
     let a = c .before .before .before .before .before .before .before .before .before .before .before .before .before .before .before .before .before .before .before .before .before .before .before .args in
@@ -57,23 +48,18 @@ add-store-progress c =
     let low = batch-low (now (a .state)) (now (a .flags)) (now (a .history)) (now (a .cells)) (now (a .report)) (l .result) (held (now (a .state)) (l .result) (t .result) (l .ensures) (t .ensures .0)) (s .result .answer) (s .result .state) (s .last .1 .1 .0) (s .last .1 .1 .1 .0) (s .last .1 .1 .1 .1 .0) (s .ensures) (c .before .before .answer2 .given .1) (omega (arith, t .ensures .0, c .before .before .before .before .before .before .before .before .before .before .before .before .before .before .before .before .if1 .left)) in
     omega (arith, low, t .ensures .0)
 
--- src/watching.rt:101:13
 store-progress-requires : tie.Need-store-progress-requires
 store-progress-requires c κs = search needs
 
--- src/watching.rt:76:1
 same-length : tie.Need-same-length
 same-length c = search needs
 
--- src/watching.rt:76:1
 same-length-2 : tie.Need-same-length-2
 same-length-2 c = search needs
 
--- src/watching.rt:76:1
 same-length-3 : tie.Need-same-length-3
 same-length-3 c = search needs
 
--- src/watching.rt:76:1
 returns-2 : tie.Need-returns-2
 returns-2 c =
     let a = c .before .before .before .before .before .before .before .before .before .before .before .before .before .before .before .before .before .before .before .before .before .before .before .args in
@@ -83,19 +69,15 @@ returns-2 c =
     let x = c .before .before .answer .given .0 .0 in
     (batch-refused (now (a .state)) (now (a .flags)) (now (a .history)) (now (a .cells)) (now (a .report)) (l .result) (held (now (a .state)) (l .result) (t .result) (l .ensures) (t .ensures .0)) (s .result .answer) (s .result .state) (s .last .1 .1 .0) (s .last .1 .1 .1 .0) (s .last .1 .1 .1 .1 .0) (s .ensures) (c .number2 .result) (now (a .taken)) (now (a .pairs)) (now (a .live)) (c .before .before .answer .given .1) (c .number2 .ensures), (kept-if-refused x (c .number2 .result) (now (a .taken)) (c .number2 .ensures), (kept-if-refused x (c .number2 .result) (now (a .pairs)) (c .number2 .ensures), kept-if-refused x (c .number2 .result) (now (a .live)) (c .number2 .ensures))))
 
--- src/watching.rt:76:1
 same-length-4 : tie.Need-same-length-4
 same-length-4 c = search needs
 
--- src/watching.rt:76:1
 same-length-5 : tie.Need-same-length-5
 same-length-5 c = search needs
 
--- src/watching.rt:76:1
 same-length-6 : tie.Need-same-length-6
 same-length-6 c = search needs
 
--- src/watching.rt:76:1
 returns-3 : tie.Need-returns-3
 returns-3 c =
     let a = c .before .before .before .before .before .before .before .before .before .before .before .before .before .before .before .before .before .before .before .before .before .before .before .before .args in

@@ -1,3 +1,4 @@
+-- `instances::batch::move_pairs` meets its contract. Assumes nothing.
 use mathlib.Core.Path.{sym}
 use native.Mathlib.Omega.{arith}
 use lib.ListN.{length}
@@ -7,18 +8,15 @@ use borrow.Author.Needs.{needs}
 use Rattle.instances.proofs.batch.move_pairs.Statement.{statement}
 use Rattle.instances.proofs.batch.move_pairs.Tie as tie
 
--- src/batch.rt:65:68
 slice-relend-prefix-move-tick : tie.Need-slice-relend-prefix-move-tick
 slice-relend-prefix-move-tick c = search needs
 
--- src/batch.rt:65:68
 slice-aggregate-move-tick : tie.Need-slice-aggregate-move-tick
 slice-aggregate-move-tick c =
     let s₀ = c .before .before .before .before .before .before in
     let w = s₀ .pre .twice in
     sym (length-take-le (s₀ .args .half) (s₀ .args .report .now) (omega arith))
 
--- src/batch.rt:65:9
 move-tick-requires : tie.Need-move-tick-requires
 move-tick-requires c κs =
     let s₀ = c .before .before .before .before .before .before in
@@ -26,11 +24,9 @@ move-tick-requires c κs =
     let e = length-take-le (s₀ .args .half) (s₀ .args .report .now) (omega arith) in
     rw e (s₀ .pre .fit)
 
--- src/batch.rt:66:36
 cast-spread : tie.Need-cast-spread
 cast-spread c = search needs
 
--- src/batch.rt:66:5
 spread-requires : tie.Need-spread-requires
 spread-requires c κs =
     let s₀ = c .before .before .before .before .before .before .before .before .before .before .before .before .before .before in
@@ -38,19 +34,15 @@ spread-requires c κs =
     spread-room (s₀ .args .nodes .now) (s₀ .args .figures) (s₀ .args .t) (s₀ .args .history .now) (s₀ .args .flag) (s₀ .args .cells .now) (s₀ .args .report .now) (s₀ .args .half) (s₀ .pre)
     (m .result .reported) (m .result .live) (m .last .1 .1 .1 .0) (m .last .1 .1 .1 .1 .1 .0) (m .last .1 .1 .1 .1 .1 .1 .0) (m .ensures)
 
--- src/batch.rt:52:1
 same-length : tie.Need-same-length
 same-length c = search needs
 
--- src/batch.rt:52:1
 same-length-2 : tie.Need-same-length-2
 same-length-2 c = search needs
 
--- src/batch.rt:52:1
 same-length-3 : tie.Need-same-length-3
 same-length-3 c = search needs
 
--- src/batch.rt:52:1
 returns : tie.Need-returns
 returns c =
     let s₀ = c .before .before .before .before .before .before .before .before .before .before .before .before .before .before .before .before .before in

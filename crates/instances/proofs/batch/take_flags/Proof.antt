@@ -1,3 +1,4 @@
+-- `instances::batch::take_flags` meets its contract. Assumes nothing.
 use Prim.Native.Nat.{ℕ, _+_, _*_, _-_}
 use mathlib.Core.Path.{refl}
 use mathlib.Core.Logic.{inl, inr}
@@ -16,24 +17,20 @@ Inv-loop nodes figures tick live flags history₀ cells₀ report₀ half n i₀
 abbrev μ-loop : tie.MeasureT-loop
 μ-loop nodes figures tick live flags history₀ cells₀ report₀ half n i₀ pairs₀ still-open₀ history cells report i pairs still-open = n - i
 
--- src/batch.rt:84:16
 add-half : tie.Need-add-half Inv-loop μ-loop
 add-half c =
     let s₀ = c .before .before .before .before in
     let short = table-short (s₀ .args .nodes .now) (s₀ .args .figures) (length (s₀ .args .history .now)) (s₀ .args .tick) (s₀ .pre .state) (s₀ .pre .table-of) .0 in
     omega arith
 
--- src/batch.rt:85:9
 flags-left-requires : tie.Need-flags-left-requires Inv-loop μ-loop
 flags-left-requires c κs = search needs
 
--- src/batch.rt:89:5
 loop-holds : tie.Need-loop-holds Inv-loop μ-loop
 loop-holds c =
     let s₀ = c .before .before .before .before .before in
     under-start (s₀ .args .nodes .now) (s₀ .args .figures) (s₀ .args .tick) (s₀ .args .live) (s₀ .args .flags .now) (s₀ .args .history .now) (s₀ .args .cells .now) (s₀ .args .report .now) (search needs)
 
--- src/batch.rt:90:18
 mul-at : tie.Need-mul-at Inv-loop μ-loop
 mul-at c =
     let s₀ = c .before .before .before .before .before .before .before in
@@ -41,7 +38,6 @@ mul-at c =
     let count = c .before .before .flags-left .ensures in
     omega (arith, l .inv .inside, l .inv .report-length)
 
--- src/batch.rt:91:12
 sub-if1 : tie.Need-sub-if1 Inv-loop μ-loop
 sub-if1 c =
     let s₀ = c .before .before .before .before .before .before .before in
@@ -49,7 +45,6 @@ sub-if1 c =
     let count = c .before .before .flags-left .ensures in
     omega (arith, l .inv .inside, l .inv .report-length)
 
--- src/batch.rt:91:32
 mul-if1 : tie.Need-mul-if1 Inv-loop μ-loop
 mul-if1 c =
     let s₀ = c .before .before .before .before .before .before .before in
@@ -58,19 +53,15 @@ mul-if1 c =
     let short = table-short (s₀ .args .nodes .now) (s₀ .args .figures) (length (s₀ .args .history .now)) (s₀ .args .tick) (s₀ .pre .state) (s₀ .pre .table-of) .0 in
     omega arith
 
--- src/batch.rt:92:13
 same-length : tie.Need-same-length Inv-loop μ-loop
 same-length c = c .before .before .loop .inv .history-length
 
--- src/batch.rt:92:13
 same-length-2 : tie.Need-same-length-2 Inv-loop μ-loop
 same-length-2 c = c .before .before .loop .inv .cells-length
 
--- src/batch.rt:92:13
 same-length-3 : tie.Need-same-length-3 Inv-loop μ-loop
 same-length-3 c = c .before .before .loop .inv .report-length
 
--- src/batch.rt:92:13
 returns : tie.Need-returns Inv-loop μ-loop
 returns c =
     let s₀ = c .before .before .before .before .before .before .before .before in
@@ -78,7 +69,6 @@ returns c =
     let count = c .before .before .before .flags-left .ensures in
     under-ends (s₀ .args .nodes .now) (s₀ .args .figures) (s₀ .args .tick) (s₀ .args .live) (s₀ .args .flags .now) (s₀ .args .history .now) (s₀ .args .cells .now) (s₀ .args .report .now) (l .history) (l .cells) (l .report) (l .i) (l .pairs) (l .still-open) (l .inv) (inr (inl (omega (arith, c .if1 .taken, l .inv .report-length, l .inv .inside))))
 
--- src/batch.rt:98:17
 add-t : tie.Need-add-t Inv-loop μ-loop
 add-t c =
     let s₀ = c .before .before .before .before .before .before .before .before in
@@ -86,7 +76,6 @@ add-t c =
     let count = c .before .before .before .flags-left .ensures in
     omega (arith, l .inv .early)
 
--- src/batch.rt:104:13
 shared-slice-read-move-pairs : tie.Need-shared-slice-read-move-pairs Inv-loop μ-loop
 shared-slice-read-move-pairs c =
     let s₀ = c .before .before .before .before .before .before .before .before .before .before in
@@ -94,7 +83,6 @@ shared-slice-read-move-pairs c =
     let count = c .before .before .before .before .before .flags-left .ensures in
     omega (arith, count, c .before .before .before .loop-test .taken)
 
--- src/batch.rt:106:13
 mul-move-pairs : tie.Need-mul-move-pairs Inv-loop μ-loop
 mul-move-pairs c =
     let s₀ = c .before .before .before .before .before .before .before .before .before .before .before in
@@ -102,7 +90,6 @@ mul-move-pairs c =
     let count = c .before .before .before .before .before .before .flags-left .ensures in
     omega (arith, l .inv .inside, l .inv .report-length)
 
--- src/batch.rt:106:13
 sub-move-pairs : tie.Need-sub-move-pairs Inv-loop μ-loop
 sub-move-pairs c =
     let s₀ = c .before .before .before .before .before .before .before .before .before .before .before in
@@ -110,7 +97,6 @@ sub-move-pairs c =
     let count = c .before .before .before .before .before .before .flags-left .ensures in
     omega (arith, l .inv .inside, l .inv .report-length)
 
--- src/batch.rt:106:13
 part-move-pairs-start : tie.Need-part-move-pairs-start Inv-loop μ-loop
 part-move-pairs-start c =
     let s₀ = c .before .before .before .before .before .before .before .before .before .before .before in
@@ -118,7 +104,6 @@ part-move-pairs-start c =
     let count = c .before .before .before .before .before .before .flags-left .ensures in
     omega (arith, l .inv .inside, l .inv .report-length)
 
--- src/batch.rt:106:13
 part-move-pairs-end : tie.Need-part-move-pairs-end Inv-loop μ-loop
 part-move-pairs-end c =
     let s₀ = c .before .before .before .before .before .before .before .before .before .before .before in
@@ -126,7 +111,6 @@ part-move-pairs-end c =
     let count = c .before .before .before .before .before .before .flags-left .ensures in
     omega (arith, l .inv .inside, l .inv .report-length)
 
--- src/batch.rt:99:13
 move-pairs-requires : tie.Need-move-pairs-requires Inv-loop μ-loop
 move-pairs-requires c κs =
     let s₀ = c .before .before .before .before .before .before .before .before .before .before .before .before in
@@ -136,7 +120,6 @@ move-pairs-requires c κs =
     (omega (arith, c .before .before .before .before .if1 .left, l .inv .report-length, l .inv .inside)) (omega (arith, count, c .before .before .before .before .before .loop-test .taken)) (omega (arith, count, c .before .before .before .before .before .loop-test .taken))
     (take (length (l .report) - 2 * l .pairs) (drop (2 * l .pairs) (l .report))) refl (s₀ .pre)
 
--- src/batch.rt:109:9
 add-pairs : tie.Need-add-pairs Inv-loop μ-loop
 add-pairs c =
     let s₀ = c .before .before .before .before .before .before .before .before .before .before .before .before .before .before .before .before .before .before .before .before in
@@ -149,7 +132,6 @@ add-pairs c =
     (take (length (l .report) - 2 * l .pairs) (drop (2 * l .pairs) (l .report))) refl (s₀ .pre) (m .result .reported) (m .result .live) (m .last .1 .1 .1 .0) (m .last .1 .1 .1 .1 .1 .0) (m .last .1 .1 .1 .1 .1 .1 .0) (m .ensures) in
     omega (arith, l .inv .inside, l .inv .report-length)
 
--- src/batch.rt:111:9
 add-i : tie.Need-add-i Inv-loop μ-loop
 add-i c =
     let s₀ = c .before .before .before .before .before .before .before .before .before .before .before .before .before .before .before .before .before .before .before .before in
@@ -157,7 +139,6 @@ add-i c =
     let count = c .before .before .before .before .before .before .before .before .before .before .before .before .before .before .before .flags-left .ensures in
     omega arith
 
--- src/batch.rt:89:5
 loop-less : tie.Need-loop-less Inv-loop μ-loop
 loop-less c =
     let s₀ = c .before .before .before .before .before .before .before .before .before .before .before .before .before .before .before .before .before .before .before .before in
@@ -165,7 +146,6 @@ loop-less c =
     let count = c .before .before .before .before .before .before .before .before .before .before .before .before .before .before .before .flags-left .ensures in
     omega (arith, c .before .before .before .before .before .before .before .before .before .before .before .before .before .loop-test .taken)
 
--- src/batch.rt:89:5
 loop-again : tie.Need-loop-again Inv-loop μ-loop
 loop-again c =
     let s₀ = c .before .before .before .before .before .before .before .before .before .before .before .before .before .before .before .before .before .before .before .before in
@@ -176,19 +156,15 @@ loop-again c =
     (omega (arith, c .before .before .before .before .before .before .before .before .before .before .before .before .if1 .left, l .inv .report-length, l .inv .inside)) (omega (arith, count, c .before .before .before .before .before .before .before .before .before .before .before .before .before .loop-test .taken)) (omega (arith, count, c .before .before .before .before .before .before .before .before .before .before .before .before .before .loop-test .taken))
     (take (length (l .report) - 2 * l .pairs) (drop (2 * l .pairs) (l .report))) refl (s₀ .pre) (m .result .reported) (m .result .live) (m .last .1 .1 .1 .0) (m .last .1 .1 .1 .1 .1 .0) (m .last .1 .1 .1 .1 .1 .1 .0) (m .ensures) (m .kept .1 .1 .1 .0) (m .kept .1 .1 .1 .1 .1 .0)
 
--- src/batch.rt:71:1
 same-length-4 : tie.Need-same-length-4 Inv-loop μ-loop
 same-length-4 c = c .before .loop .inv .history-length
 
--- src/batch.rt:71:1
 same-length-5 : tie.Need-same-length-5 Inv-loop μ-loop
 same-length-5 c = c .before .loop .inv .cells-length
 
--- src/batch.rt:71:1
 same-length-6 : tie.Need-same-length-6 Inv-loop μ-loop
 same-length-6 c = c .before .loop .inv .report-length
 
--- src/batch.rt:71:1
 returns-2 : tie.Need-returns-2 Inv-loop μ-loop
 returns-2 c =
     let s₀ = c .before .before .before .before .before .before .before in

@@ -1,3 +1,4 @@
+-- `instances::instances::move_tick` meets its contract. Assumes nothing.
 use Prim.Native.Nat.{_+_}
 use mathlib.Core.Path.{refl}
 use native.Mathlib.Omega.{arith}
@@ -8,48 +9,38 @@ use borrow.Author.Needs.{needs}
 use Rattle.instances.proofs.instances.move_tick.Statement.{statement}
 use Rattle.instances.proofs.instances.move_tick.Tie as tie
 
--- src/instances.rt:133:13
 add-n : tie.Need-add-n
 add-n c = search needs
 
--- src/instances.rt:134:14
 div-c : tie.Need-div-c
 div-c c = search needs
 
--- src/instances.rt:134:14
 mul-c : tie.Need-mul-c
 mul-c c =
     let s₀ = c .before .before .before .before .before in
     let f = s₀ .args .figures in
     omega (arith, div-le-self (f .cells) (f .delay + 1), table-short (s₀ .args .nodes .now) f (length (s₀ .args .history .now)) (s₀ .args .t) (s₀ .pre .state) (s₀ .pre .table-of) .1)
 
--- src/instances.rt:135:9
 oldest-tick-requires : tie.Need-oldest-tick-requires
 oldest-tick-requires c κs = search needs
 
--- src/instances.rt:136:9
 move-ticks-requires : tie.Need-move-ticks-requires
 move-ticks-requires c κs =
     let s₀ = c .before .before .before .before .before .before .before .before .before in
     (rule-fits (s₀ .args .nodes .now) (s₀ .args .figures) (length (s₀ .args .history .now)) (s₀ .args .t) (length (s₀ .args .cells .now)) (length (s₀ .args .report .now)) (s₀ .pre), c .before .before .before .oldest-tick .ensures)
 
--- src/instances.rt:137:5
 remember-requires : tie.Need-remember-requires
 remember-requires c κs = search needs
 
--- src/instances.rt:121:1
 same-length : tie.Need-same-length
 same-length c = search needs
 
--- src/instances.rt:121:1
 same-length-2 : tie.Need-same-length-2
 same-length-2 c = search needs
 
--- src/instances.rt:121:1
 same-length-3 : tie.Need-same-length-3
 same-length-3 c = search needs
 
--- src/instances.rt:121:1
 returns : tie.Need-returns
 returns c =
     let s₀ = c .before .before .before .before .before .before .before .before .before .before .before .before .before .before .before .before .before .before in

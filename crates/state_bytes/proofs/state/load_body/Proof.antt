@@ -1,3 +1,4 @@
+-- `state_bytes::state::load_body` meets its contract. Assumes nothing.
 use mathlib.Core.Path.{sym}
 use native.Mathlib.Omega.{arith}
 use lib.ListN.{length}
@@ -7,14 +8,12 @@ use borrow.Author.Needs.{needs}
 use Rattle.state_bytes.proofs.state.load_body.Statement.{statement}
 use Rattle.state_bytes.proofs.state.load_body.Tie as tie
 
--- src/state.rt:34:17
 slice-aggregate-copy : tie.Need-slice-aggregate-copy
 slice-aggregate-copy c =
     let s₀ = c .before .before .before in
     let p = s₀ .pre in
     sym (length-take-le (length (s₀ .args .body .now)) (s₀ .args .state .now) (omega arith))
 
--- src/state.rt:34:5
 copy-requires : tie.Need-copy-requires
 copy-requires c κs =
     let s₀ = c .before .before .before .before in
@@ -22,11 +21,9 @@ copy-requires c κs =
     let e = length-take-le (length (s₀ .args .body .now)) (s₀ .args .state .now) (omega arith) in
     omega arith
 
--- src/state.rt:29:1
 same-length : tie.Need-same-length
 same-length c = search needs
 
--- src/state.rt:29:1
 returns : tie.Need-returns
 returns c =
     let s₀ = c .before .before .before .before .before .before .before in

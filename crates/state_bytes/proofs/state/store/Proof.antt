@@ -1,3 +1,4 @@
+-- `state_bytes::state::store` meets its contract. Assumes nothing.
 use mathlib.Core.Path.{_≡_}
 use native.Mathlib.Omega.{arith}
 use denote.Ref.{now}
@@ -7,11 +8,9 @@ use borrow.Author.Needs.{needs}
 use Rattle.state_bytes.proofs.state.store.Statement.{statement}
 use Rattle.state_bytes.proofs.state.store.Tie as tie
 
--- src/state.rt:46:17
 slice-aggregate-copy : tie.Need-slice-aggregate-copy
 slice-aggregate-copy c = search needs
 
--- src/state.rt:46:5
 copy-requires : tie.Need-copy-requires
 copy-requires c κs =
     let s₀ = c .before .before .before in
@@ -19,27 +18,21 @@ copy-requires c κs =
     let n : length (now (s₀ .args .state)) ≡ 544 = search needs in
     omega arith
 
--- src/state.rt:47:5
 put-number-requires : tie.Need-put-number-requires
 put-number-requires c κs = search needs
 
--- src/state.rt:48:5
 put-number-requires-2 : tie.Need-put-number-requires-2
 put-number-requires-2 c κs = search needs
 
--- src/state.rt:49:32
 cast-put-number : tie.Need-cast-put-number
 cast-put-number c = search needs
 
--- src/state.rt:49:5
 put-number-requires-3 : tie.Need-put-number-requires-3
 put-number-requires-3 c κs = search needs
 
--- src/state.rt:50:5
 put-number-requires-4 : tie.Need-put-number-requires-4
 put-number-requires-4 c κs = search needs
 
--- src/state.rt:42:1
 returns : tie.Need-returns
 returns c =
     let s₀ = c .before .before .before .before .before .before .before .before .before .before .before .before .before in

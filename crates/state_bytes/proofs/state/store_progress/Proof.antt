@@ -1,3 +1,4 @@
+-- `state_bytes::state::store_progress` meets its contract. Assumes nothing.
 use mathlib.Core.Path.{_≡_}
 use denote.Ref.{now}
 use lib.ListN.{length}
@@ -6,15 +7,12 @@ use borrow.Author.Needs.{needs}
 use Rattle.state_bytes.proofs.state.store_progress.Statement.{statement}
 use Rattle.state_bytes.proofs.state.store_progress.Tie as tie
 
--- src/state.rt:57:5
 put-number-requires : tie.Need-put-number-requires
 put-number-requires c κs = search needs
 
--- src/state.rt:58:5
 put-number-requires-2 : tie.Need-put-number-requires-2
 put-number-requires-2 c κs = search needs
 
--- src/state.rt:54:1
 returns : tie.Need-returns
 returns c =
     let s₀ = c .before .before .before .before in
