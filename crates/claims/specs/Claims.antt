@@ -1,6 +1,6 @@
--- What is proved of the library as a whole: one proposition, from the calls down to the definitions that it rests on. What each call does is its contract;
+-- The main claims that are proved of the library as a whole: one proposition, from the calls down to the definitions that it rests on. What each call does is its contract;
 -- this says what follows for whoever uses them. docs/DEMAND-3.md reads the first part slowly.
-use Prim.Native.Nat.{ℕ, _≤_, _<_, max}
+use Prim.Native.Nat.{ℕ, _≤_, max}
 use mathlib.Core.Path.{_≡_}
 use mathlib.Core.List.{List, [], _∷_, _++_}
 use lib.ListN.{length}

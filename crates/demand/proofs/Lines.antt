@@ -11,7 +11,7 @@ use lib.Seq.{take-at, drop-at, take-all, length-take-le}
 use borrow.Author.Tests.{leb-true, leb-false}
 use Rattle.refusal.specs.Answer.{Answer, refused, accepted}
 use Rattle.demand.proofs.Admission.{step-admitted}
-use Rattle.demand.specs.Contract.{State, Taken, Step, Counts, Batch, state-after, state-after-batch, Invariant, Stepped, Chain, none, more, Batched, Carrier}
+use Rattle.demand.specs.Contract.{State, Step, Counts, Batch, state-after, state-after-batch, Invariant, Stepped, Chain, none, more, Batched, Carrier}
 use Rattle.demand.specs.Demand.{Call, step, refused-batch, write, Refused, ticks-after, ticks-after-batch, with-steps, with-batch, Run, done, stepped, strayed, batched, batch-strayed, wrote}
 
 pub data Line (Stands : Invariant) (h L : ℕ) : State → List ℕ → List ℕ → ℕ → List Call → Type 0 where

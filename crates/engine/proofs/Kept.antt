@@ -1,6 +1,6 @@
 -- A step and a batch keep their promises, by what their parts answered.
 use Prim.Native.Nat.{ℕ, suc, _+_, _≤_, _<_}
-use mathlib.Core.Path.{_≡_, refl, sym, ap, subst, _∙_}
+use mathlib.Core.Path.{_≡_, refl, ap, subst, _∙_}
 use mathlib.Core.Bool.{Bool, true, false}
 use mathlib.Core.List.{List, []}
 use native.Mathlib.Omega.{arith}
@@ -10,11 +10,11 @@ use lib.ListN.{length, take}
 use borrow.Author.Tests.{le-leb, lt-leb}
 use Rattle.refusal.specs.declared.Refusal.{Refusal}
 use Rattle.refusal.specs.declared.Refusal.the-variants.{StateNotOpened}
-use Rattle.refusal.specs.Answer.{refused, accepted, and-then}
+use Rattle.refusal.specs.Answer.{refused, and-then}
 use Rattle.rule.specs.declared.Figures.{Figures}
 use Rattle.rule.specs.Body.{require, head, parts, formula, formula-at, whole, body}
 use Rattle.rule.specs.Figures.{body-figures}
-use Rattle.demand.specs.Contract.{State, step-of, batch-of, must, as-21, admit-lengths, Batched, StepPromise, BatchPromise}
+use Rattle.demand.specs.Contract.{State, step-of, batch-of, must, as-21, admit-lengths, StepPromise, BatchPromise}
 use Rattle.demand.proofs.Admission.{step-admitted}
 use Rattle.demand.proofs.Lines.{chain-low}
 use Rattle.instances.specs.declared.stepping.StepAnswer.{StepAnswer}
@@ -22,7 +22,7 @@ use Rattle.instances.specs.declared.stepping.StepAnswer.the-variants as steps
 use Rattle.instances.specs.declared.batch.BatchAnswer.{BatchAnswer}
 use Rattle.instances.specs.declared.batch.BatchAnswer.the-variants as batches
 use Rattle.instances.specs.Answers.{state-at, step-answer, batch-answer}
-use Rattle.instances.specs.Moves.{Stands, StepOf}
+use Rattle.instances.specs.Moves.{Stands, StepOf, BatchOf}
 use Rattle.engine.specs.declared.state.State as code
 use Rattle.engine.specs.States.{state-of, moved-code, by-value}
 
@@ -97,9 +97,7 @@ module _ (s : code.State) (flags history cells report : List ℕ) where
 
   module _ (short : s .size ≤ 512) (a : BatchAnswer) (history′ cells′ report′ : List ℕ) where
     abbrev TookBatch : List ℕ → BatchAnswer → Type 0
-    TookBatch b a =
-        Batched Stands (state-at b (s .opened) (s .next) (s .live)) (batch-of (batch-answer (state-at b (s .opened) (s .next) (s .live)) a) flags history cells report history′ cells′ report′)
-        (batch-answer (state-at b (s .opened) (s .next) (s .live)) a)
+    TookBatch b a = BatchOf b (s .opened) (s .next) (s .live) flags history cells report a history′ cells′ report′
 
     module _ (p : TookBatch (take (s .size) (s .body)) a) where
       batch-owned : (a′ : BatchAnswer) → a ≡ a′ → TookBatch ((state-of s) .body-bytes) a′

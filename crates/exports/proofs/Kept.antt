@@ -23,12 +23,12 @@ use Rattle.instances.specs.declared.stepping.StepAnswer.{StepAnswer}
 use Rattle.instances.specs.declared.stepping.StepAnswer.the-variants as steps
 use Rattle.instances.specs.declared.batch.BatchAnswer.{BatchAnswer}
 use Rattle.instances.specs.declared.batch.BatchAnswer.the-variants as batches
-use Rattle.instances.specs.Answers.{state-at, taken-from, counts-from, step-answer, batch-answer}
+use Rattle.instances.specs.Answers.{taken-from, counts-from, step-answer, batch-answer}
 use Rattle.instances.specs.Moves.{Stands}
 use Rattle.engine.specs.declared.opening.OpenAnswer.{OpenAnswer}
 use Rattle.engine.specs.declared.opening.OpenAnswer.the-variants as opens
 use Rattle.engine.specs.declared.state.State as code
-use Rattle.engine.specs.States.{state-of, padded, fresh-code, blank-code, moved-code, by-value}
+use Rattle.engine.specs.States.{state-of, fresh-code, blank-code, moved-code, by-value}
 use Rattle.engine.specs.Promises.{open-answer}
 use Rattle.engine.proofs.States.{length-padded}
 use Rattle.state_bytes.specs.Numbers.{number-at}

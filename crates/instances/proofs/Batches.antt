@@ -12,11 +12,11 @@ use lib.Seq.{take-all, take-take, take-at, drop-at, drop-drop, drop-cons, drop-a
 use borrow.Rule.Slice.PartMut.{putMid}
 use Rattle.refusal.specs.Answer.{accepted}
 use Rattle.rule.specs.declared.Figures.{Figures}
-use Rattle.demand.specs.Contract.{State, Step, step-of, batch-of, paired, Takes, Stepped, Chain, none, more, Steps}
+use Rattle.demand.specs.Contract.{State, Step, step-of, paired, Takes, Stepped, Chain, none, more}
 use Rattle.demand.proofs.Admission.{step-admits}
 use Rattle.rule.proofs.Order.{by-order}
-use Rattle.instances.specs.Answers.{state-at, taken-from, counts-from}
-use Rattle.instances.specs.Moves.{Stands, TableOf, TickFit, TickMoved}
+use Rattle.instances.specs.Answers.{state-at, taken-from}
+use Rattle.instances.specs.Moves.{Stands, TableOf, TickMoved}
 use Rattle.instances.specs.Batches.{PairsFit, PairsMoved, FlagsFit, FlagsTaken}
 
 -- ---- ticks become pairs

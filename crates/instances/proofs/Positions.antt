@@ -15,7 +15,8 @@ use Rattle.rule.specs.Started.{Before, Reach}
 use Rattle.instances.specs.Tree.{Tree, formula-of}
 use Rattle.instances.specs.Cells.{CellHolds, window}
 use Rattle.instances.specs.Run.{out, bind, own-tick, RunHolds, SlotHolds, SlotReady}
-use Rattle.instances.specs.Calls.{Env, places, entered, byte-of, AtHand, PositionAdvanced, PartAdvanced}
+use Rattle.ring.specs.Ring.{byte-of}
+use Rattle.instances.specs.Calls.{Env, places, entered, AtHand, PositionAdvanced, PartAdvanced}
 use Rattle.instances.proofs.Marks.{tail-take, rest-take}
 
 module _ (e : Env) (q b : ℕ) (deep : e .n < 5) (five : length (e .pos) ≡ 5) (five₂ : length (e .byte) ≡ 5) where

@@ -13,6 +13,7 @@ use Rattle.rule.specs.declared.Outcome.the-variants.{Decided, Open}
 use Rattle.rule.specs.declared.Pair.{Pair}
 use Rattle.rule.specs.Meaning.{up, verdict, walk}
 use Rattle.rule.specs.Positions.{Fits}
+use Rattle.ring.specs.Ring.{history-byte}
 use Rattle.rule.specs.Started.{From, Before, Reach}
 use Rattle.instances.specs.Tree.{Tree, formula-of, words, Formed}
 use Rattle.instances.specs.Cells.{held, CellHolds, window, slot}
@@ -41,13 +42,6 @@ entered e q b = record { n = e .n + 1; pos = set (e .pos) (e .n) q; byte = set (
 -- The flag formula, by the byte that was saved for its variable.
 abbrev pub flagged : List ℕ → ℕ → ℕ → ℕ → Outcome
 flagged bytes v k s = Decided (verdict (up k (getD bytes v 0))) s
-
--- The byte of tick q: the current one, or that of the history.
-abbrev pub history-byte : List ℕ → ℕ → ℕ
-history-byte hist q = getD hist (q % length hist) 0
-
-abbrev pub byte-of : List ℕ → ℕ → ℕ → ℕ → ℕ
-byte-of hist b t q = cond (eqb q t) b (history-byte hist q)
 
 -- The bytes at hand are those of the stream: the history has the last H ticks before t, b is the byte of t, and each variable's is saved.
 pub record AtHand (flags : ℕ → ℕ) (H : ℕ) (hist : List ℕ) (b : ℕ) (e : Env) (t : ℕ) : Type 0 where

@@ -12,7 +12,7 @@ use Rattle.rule.specs.Started.{Before, Reach}
 use Rattle.instances.specs.Tree.{Tree, formula-of, words, Formed}
 use Rattle.instances.specs.Cells.{slot}
 use Rattle.instances.specs.Run.{SlotHolds}
-use Rattle.instances.specs.Calls.{history-byte}
+use Rattle.ring.specs.Ring.{history-byte}
 
 -- ---- one instance: a range's position p with no variable before it, started at p
 

@@ -10,12 +10,13 @@ use Rattle.rule.specs.Body.{body}
 use Rattle.rule.specs.Figures.{figures, at-tick}
 use Rattle.reader.specs.Decoded as decoded
 use Rattle.figures.specs.Measured.{SizesAt}
-use Rattle.demand.specs.Contract.{State, step-of, Invariant, Takes, Stepped}
+use Rattle.demand.specs.Contract.{State, step-of, batch-of, Invariant, Takes, Stepped, Batched}
 use Rattle.instances.specs.Tree.{words}
 use Rattle.instances.specs.Sized.{sized}
 use Rattle.instances.specs.Instances.{InstancesHold}
 use Rattle.instances.specs.declared.stepping.StepAnswer.{StepAnswer}
-use Rattle.instances.specs.Answers.{state-at, taken-from, step-answer}
+use Rattle.instances.specs.declared.batch.BatchAnswer.{BatchAnswer}
+use Rattle.instances.specs.Answers.{state-at, taken-from, step-answer, batch-answer}
 
 -- The invariant: the needed cells of the state's rule are what the ticks of the stream `flags` before its next tick leave. Tick p, of the last delay + 1,
 -- has slot p mod (delay + 1), four words for its own cell and four for each cell of the formula.
@@ -58,3 +59,8 @@ pub record TickMoved (ns : List ℕ) (f : Figures) (t : ℕ) (history : List ℕ
 abbrev pub StepOf : List ℕ → ℕ → ℕ → ℕ → List ℕ → List ℕ → List ℕ → StepAnswer → List ℕ → List ℕ → List ℕ → Type 0
 StepOf b L t flag history cells report r history′ cells′ report′ =
     (live : ℕ) → Stepped Stands (state-at b L t live) (step-of (step-answer (state-at b L t live) r) flag history cells report history′ cells′ report′) (step-answer (state-at b L t live) r)
+
+-- The same of a batch, which starts with so many live ticks.
+abbrev pub BatchOf : List ℕ → ℕ → ℕ → ℕ → List ℕ → List ℕ → List ℕ → List ℕ → BatchAnswer → List ℕ → List ℕ → List ℕ → Type 0
+BatchOf b L t live flags history cells report r history′ cells′ report′ =
+    Batched Stands (state-at b L t live) (batch-of (batch-answer (state-at b L t live) r) flags history cells report history′ cells′ report′) (batch-answer (state-at b L t live) r)

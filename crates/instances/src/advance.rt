@@ -12,7 +12,6 @@ use crate::env::flag_at;
 use crate::env::own_tick;
 use crate::head::load_head;
 use crate::head::store_head;
-use crate::ring::byte_of;
 use nodes::BESIDE_CODE;
 use nodes::CODE;
 use nodes::FIRST_WORDS;
@@ -25,6 +24,7 @@ use nodes::THEN_CODE;
 use nodes::VARIABLE;
 use nodes::node_word;
 use nodes::skip_nots;
+use ring::byte_of;
 use rule::Outcome;
 use rule::Verdict;
 
@@ -158,6 +158,7 @@ pub(crate) fn advance_position(
     )
 }
 
+// Whether an outcome is false.
 fn is_false(o: Outcome) -> bool
     ensures { λ r. ⌜ (r ≡ true → (d : ℕ) × (o ≡ Outcome.Decided Verdict.False d)) ⌝ }
 {

@@ -1,11 +1,10 @@
 // Many flag bytes of a rule, whose body is read and measured once.
 ghost use mathlib.Core.Path.{_≡_};
 ghost use mathlib.Core.List.{_++_};
-ghost use Prim.Native.Nat.{_+_, _*_, _-_, _≤_, _<_, min};
+ghost use Prim.Native.Nat.{_*_, _-_, _≤_, min};
 ghost use lib.ListN.{length, take, drop};
-ghost use Rattle.demand.specs.Contract.{paired, batch-of, Batched};
-ghost use Rattle.instances.specs.Moves.{Stands};
-ghost use Rattle.instances.specs.Answers.{state-at, batch-answer};
+ghost use Rattle.demand.specs.Contract.{paired};
+ghost use Rattle.instances.specs.Moves.{BatchOf};
 ghost use Rattle.instances.specs.Batches.{FlagsFit, FlagsTaken, PairsFit, PairsMoved};
 use crate::instances::Moved;
 use crate::instances::move_tick;
@@ -128,7 +127,7 @@ pub fn take_batch(
     cells: &mut [u32],
     report: &mut [u32],
 ) -> BatchAnswer
-    ensures { λ r. ⌜ Batched Stands (state-at (now (body .entry)) opened tick live) (batch-of (batch-answer (state-at (now (body .entry)) opened tick live) r) (now (flags .entry)) (now (history .entry)) (now (cells .entry)) (now (report .entry)) (now (history .exit)) (now (cells .exit)) (now (report .exit))) (batch-answer (state-at (now (body .entry)) opened tick live) r) ⌝ }
+    ensures { λ r. ⌜ BatchOf (now (body .entry)) opened tick live (now (flags .entry)) (now (history .entry)) (now (cells .entry)) (now (report .entry)) r (now (history .exit)) (now (cells .exit)) (now (report .exit)) ⌝ }
 {
     let mut nodes = [0u32; 768];
     let admitted = admission::admit_step(

@@ -10,8 +10,8 @@ ghost use Rattle.instances.specs.Instances.{InstanceMoved, InstanceFit, 
 ghost use Rattle.instances.specs.Moves.{TickFit, TickMoved};
 use crate::advance::advance_position;
 use crate::cells::load_outcome;
-use crate::ring::remember;
 use nodes::FORMULAS;
+use ring::remember;
 use rule::Figures;
 use rule::Outcome;
 use rule::Verdict;

@@ -5,7 +5,6 @@ mod cells;
 mod env;
 mod head;
 mod instances;
-mod ring;
 mod stepping;
 
 pub use batch::BatchAnswer;

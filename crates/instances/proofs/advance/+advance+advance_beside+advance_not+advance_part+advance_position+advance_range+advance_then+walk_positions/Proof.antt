@@ -62,7 +62,7 @@ use Rattle.instances.proofs.cells.store_outcome.Reads as store-outcome-
 use Rattle.instances.proofs.env.own_tick.Reads as own-tick-reads
 use Rattle.instances.proofs.head.load_head.Reads as load-head-reads
 use Rattle.instances.proofs.head.store_head.Reads as store-head-reads
-use Rattle.instances.proofs.ring.byte_of.Reads as byte-of-reads
+use Rattle.ring.proofs.byte_of.Reads as byte-of-reads
 use Rattle.nodes.proofs.node_word.Reads as node-word-reads
 use Rattle.nodes.proofs.skip_nots.Reads as skip-nots-reads
 use Rattle.outcomes.proofs.both.Reads as both-reads

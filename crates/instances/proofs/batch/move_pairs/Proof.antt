@@ -1,7 +1,6 @@
 -- `instances::batch::move_pairs` meets its contract. Assumes nothing.
 use mathlib.Core.Path.{sym}
 use native.Mathlib.Omega.{arith}
-use lib.ListN.{length}
 use lib.Seq.{length-take-le}
 use Rattle.instances.proofs.Batches.{spread-room, pairs-moved}
 use borrow.Author.Needs.{needs}

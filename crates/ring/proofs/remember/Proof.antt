@@ -6,8 +6,8 @@ use native.Mathlib.Nat.{mod-lt}
 use native.Mathlib.Omega.{arith}
 use lib.ListN.{length, set}
 use borrow.Author.Needs.{needs}
-use Rattle.instances.proofs.ring.remember.Statement.{statement}
-use Rattle.instances.proofs.ring.remember.Tie as tie
+use Rattle.ring.proofs.remember.Statement.{statement}
+use Rattle.ring.proofs.remember.Tie as tie
 
 set-none : (l : List ℕ) (i x : ℕ) → length l ≡ 0 → l ≡ set l i x
 set-none [] i x h = refl

@@ -2,10 +2,10 @@
 ghost use mathlib.Core.Path.{_≡_};
 ghost use Prim.Native.Nat.{_%_};
 ghost use lib.ListN.{length, set};
-ghost use Rattle.instances.specs.Calls.{byte-of};
+ghost use Rattle.ring.specs.Ring.{byte-of};
 
 // The byte of tick q: the flag byte given where q is t, else that of the history.
-pub(crate) fn byte_of(history: &[u8], flag: u8, t: u64, q: u64) -> u8
+pub fn byte_of(history: &[u8], flag: u8, t: u64, q: u64) -> u8
     ensures { λ r. ⌜ r ≡ byte-of (now (history .entry)) flag t q ⌝ }
 {
     if q == t {
@@ -21,7 +21,7 @@ pub(crate) fn byte_of(history: &[u8], flag: u8, t: u64, q: u64) -> u8
 
 // Stores the byte of tick t. This comes last in a step: where the history has no more bytes than the rule needs, byte t mod L still holds an older
 // tick that the step reads.
-pub(crate) fn remember(history: &mut [u8], t: u64, flag: u8)
+pub fn remember(history: &mut [u8], t: u64, flag: u8)
     ensures { λ _. ⌜ now (history .exit) ≡ set (now (history .entry)) (t % length (now (history .entry))) flag ⌝ }
 {
     if history.len() == 0 {

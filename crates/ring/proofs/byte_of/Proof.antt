@@ -5,8 +5,8 @@ use native.Mathlib.Nat.{mod-lt}
 use native.Mathlib.Omega.{arith}
 use borrow.Author.Tests.{eq-eqb, ne-eqb}
 use borrow.Author.Needs.{needs}
-use Rattle.instances.proofs.ring.byte_of.Statement.{statement}
-use Rattle.instances.proofs.ring.byte_of.Tie as tie
+use Rattle.ring.proofs.byte_of.Statement.{statement}
+use Rattle.ring.proofs.byte_of.Tie as tie
 
 returns : tie.Need-returns
 returns c = simp (eq-eqb _ _ (c .if1 .taken))
