@@ -5,14 +5,18 @@ use mathlib.Core.Logic.{inl, inr, ⊎-elim}
 use mathlib.Core.List.{List}
 use native.Mathlib.Omega.{arith}
 use lib.ListN.{length, getD, drop}
+use Rattle.rule.specs.declared.Verdict.the-variants.{False}
 use Rattle.rule.specs.declared.Outcome.{Outcome}
+use Rattle.rule.specs.declared.Outcome.the-variants.{Decided}
 use Rattle.rule.specs.Meaning.{both, outcome}
 use Rattle.rule.specs.Started.{Reach}
+use Rattle.rule.proofs.Progress.{clash, within, fresh}
 use Rattle.instances.specs.Tree.{Tree, beside-node, formula-of}
 use Rattle.instances.specs.Cells.{held, window}
-use Rattle.instances.specs.Run.{own-tick, RunHolds, RunReady}
+use Rattle.instances.specs.Run.{out, own-tick, RunHolds, RunReady}
 use Rattle.instances.specs.Calls.{Env, places, Advanced, PartAdvanced}
 use Rattle.instances.proofs.Marks.{rest-take}
+use Rattle.instances.proofs.Walks.{false-first}
 
 module _ {f : ℕ} {F G : Tree} {hist : List ℕ} {b : ℕ} {e : Env} {s t : ℕ} {run : List ℕ} where
   pub beside-of : (mid run′ : List ℕ) (x y r : Outcome) → 4 + f ≤ length run
@@ -48,4 +52,21 @@ module _ {f : ℕ} {F G : Tree} {hist : List ℕ} {b : ℕ} {e : Env} {s t : ℕ
             (c .1 .0 .0, λ o. subst (RunHolds flags t (places e) s G) nd (c .1 .0 .1 o)),
           ),
         );
+  }
+
+  -- the first part is false: the formula was not decided before, so it is false now, whatever the second is
+  pub beside-stopped : (mid : List ℕ) (x : Outcome) (d : ℕ) → PartAdvanced F hist b e s t 0 4 (4 + f) run x mid → x ≡ Decided False d
+      → Advanced (beside-node f F G) hist b e s t run x mid
+  unfolding outcome RunHolds RunReady Reach formula-of
+  beside-stopped mid x d p ex = record {
+    gives = λ flags H hon reach ready.
+        let st : s ≤ t = ⊎-elim (λ y. omega (arith, y)) (λ y. omega (arith, y .1, y .2)) ready in
+        let a = p .gives .1 flags H hon (reach .0) (⊎-elim (λ y. inl y) (λ y. inr (y .0, y .1, y .2, y .3 .1 .0)) ready) in
+        let first : out flags t (places e) s F ≡ Decided False d = sym (a .0) ∙ ex in
+        let least = false-first d (out flags t (places e) s G) in
+        let whole : out flags t (places e) s (beside-node f F G) ≡ Decided False (least .0) = ap (λ (o : Outcome). both o (out flags t (places e) s G)) first ∙ least .1 in
+        let by : d ≤ t = within (formula-of F) flags (places e) s t d False st first in
+        let now : t ≡ least .0 = fresh (formula-of (beside-node f F G)) flags (places e) s t (least .0) False (⊎-elim (λ y. inl y) (λ y. inr (y .0, y .1, y .2, y .3 .0)) ready) whole in
+        let same : d ≡ least .0 = omega (arith, least .2) in
+        (ex ∙ ap (Decided False) same ∙ sym whole, λ w. clash (out flags t (places e) s (beside-node f F G)) w whole);
   }

@@ -25,7 +25,7 @@ use Rattle.instances.proofs.Heads.{walk-last}
 
 -- ---- false beside anything is false, at the same step or an earlier one
 
-false-first : (a : ℕ) (o : Outcome) → (d : ℕ) × (both (Decided False a) o ≡ Decided False d) × (d ≤ a)
+pub false-first : (a : ℕ) (o : Outcome) → (d : ℕ) × (both (Decided False a) o ≡ Decided False d) × (d ≤ a)
 unfolding both
 false-first a (Decided True b) = (a, refl, omega arith)
 false-first a (Decided False b) = (min a b, refl, omega arith)

@@ -327,7 +327,7 @@ fn advance_then(
     }
 }
 
-// "Beside" at word i: its first part, in the words that the node says, and the second.
+// "Beside" at word i: its first part, in the words that the node says, and the second, which is left out where the first is false.
 fn advance_beside(
     nodes: &[u32; 768],
     left: usize,
@@ -346,7 +346,6 @@ fn advance_beside(
 {
     let z = run.len();
     let mid = 4 + node_word(nodes, i, FIRST_WORDS) as usize;
-    let g = node_word(nodes, i, SECOND_PART) as usize;
     let x = advance_part(
         nodes,
         left,
@@ -363,6 +362,10 @@ fn advance_beside(
         s,
         t,
     );
+    if is_false(x) {
+        return x;
+    }
+    let g = node_word(nodes, i, SECOND_PART) as usize;
     let y = advance_part(
         nodes,
         left,

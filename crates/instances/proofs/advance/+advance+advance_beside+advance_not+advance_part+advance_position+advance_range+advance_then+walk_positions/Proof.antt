@@ -21,7 +21,7 @@ use Rattle.instances.proofs.Walks.{WalkedTo, walk-begun, walk-done, wal
 use Rattle.instances.proofs.Parts.{tick-is, part-stays, part-moved}
 use Rattle.instances.proofs.Positions.{position-of}
 use Rattle.instances.proofs.Thens.{then-open, then-false, then-true}
-use Rattle.instances.proofs.Besides.{beside-of}
+use Rattle.instances.proofs.Besides.{beside-of, beside-stopped}
 use Rattle.instances.proofs.Foralls.{plan-here, range-of}
 use Rattle.instances.proofs.Formulas.{flag-of, is-then, is-beside, is-range}
 use Rattle.instances.proofs.Nots.{fit-nots, nots-of}
@@ -203,7 +203,7 @@ abbrev advance-claims : ℕ → advance-lts.Claims
 advance-claims t = (is-flag-reads.Asked, is-flag-reads.Learnt, flag-in-reads.Asked, flag-in-reads.Learnt, node-word-reads.Asked, node-word-reads.Learnt, advance-not-below t, advance-not.Post, advance-then-below t, advance-then.Post, advance-beside-below t, advance-beside.Post, advance-range-below t, advance-range.Post)
 
 abbrev advance-beside-claims : ℕ → advance-beside-lts.Claims
-advance-beside-claims t = (node-word-reads.Asked, node-word-reads.Learnt, advance-part-below t, advance-part.Post, both-reads.Asked, both-reads.Learnt)
+advance-beside-claims t = (node-word-reads.Asked, node-word-reads.Learnt, advance-part-below t, advance-part.Post, is-false-reads.Asked, is-false-reads.Learnt, both-reads.Asked, both-reads.Learnt)
 
 abbrev advance-not-claims : ℕ → advance-not-lts.Claims
 advance-not-claims t = (skip-nots-reads.Asked, skip-nots-reads.Learnt, advance-below t, advance.Post, opposite-if-reads.Asked, opposite-if-reads.Learnt)
@@ -454,55 +454,33 @@ advance-beside-add-mid measure c =
     let at-node-word = c .node-word in
     omega (arith, fit-left (s₀ .pre .1 .1) .end, at-node-word .ensures, s₀ .good .1 .1 .1 .0)
 
-advance-beside-node-word-requires-2 : (t : ℕ) → advance-beside-lts.Need-node-word-requires-2 (advance-beside-claims t) (advance-beside-at t) advance-beside.Post
-advance-beside-node-word-requires-2 t c κs = search needs
-
-advance-beside-cast-g : (t : ℕ) → advance-beside-lts.Need-cast-g (advance-beside-claims t) (advance-beside-at t) advance-beside.Post
-advance-beside-cast-g t c = search needs
-
 advance-beside-add-advance-part : (t : ℕ) → advance-beside-lts.Need-add-advance-part (advance-beside-claims t) (advance-beside-at t) advance-beside.Post
 advance-beside-add-advance-part measure c =
-    let s₀ = c .before .before .before .before .before .before in
+    let s₀ = c .before .before .before .before in
     omega (arith, s₀ .pre .1 .0)
 
 advance-beside-advance-part-requires : (t : ℕ) → advance-beside-lts.Need-advance-part-requires (advance-beside-claims t) (advance-beside-at t) advance-beside.Post
 advance-beside-advance-part-requires measure c κs =
-    let s₀ = c .before .before .before .before .before .before .before in
+    let s₀ = c .before .before .before .before .before in
     let nodes = s₀ .args .nodes .now in
     let run = s₀ .args .run .now in
     let left = s₀ .args .left in
     let i = s₀ .args .i in
     let env = env-of (s₀ .args .m) (s₀ .args .pos .now) (s₀ .args .byte .now) in
     let t = s₀ .args .t in
-    let at-node-word = c .before .before .before .node-word in
-    let at-node-word2 = c .before .node-word2 in
-    let fit = fit-beside env t (length run) (tree-at left nodes (i + 12)) (tree-at left nodes) (at-node-word .ensures) (at-node-word2 .ensures) (s₀ .pre .1 .1) in
+    let at-node-word = c .before .node-word in
+    let fit = fit-beside env t (length run) (tree-at left nodes (i + 12)) (tree-at left nodes) (at-node-word .ensures) refl (s₀ .pre .1 .1) in
     (omega (arith, s₀ .pre .0), fit-left fit)
 
-advance-beside-advance-part-requires-2 : (t : ℕ) → advance-beside-lts.Need-advance-part-requires-2 (advance-beside-claims t) (advance-beside-at t) advance-beside.Post
-advance-beside-advance-part-requires-2 measure c κs =
-    let s₀ = c .before .before .before .before .before .before .before .before .before .before .before in
-    let nodes = s₀ .args .nodes .now in
-    let run = s₀ .args .run .now in
-    let left = s₀ .args .left in
-    let i = s₀ .args .i in
-    let env = env-of (s₀ .args .m) (s₀ .args .pos .now) (s₀ .args .byte .now) in
-    let t = s₀ .args .t in
-    let at-advance-part = c .before .before .before .advance-part in
-    let at-node-word = c .before .before .before .before .before .before .before .node-word in
-    let at-node-word2 = c .before .before .before .before .before .node-word2 in
-    let fit = fit-beside env t (length run) (tree-at left nodes (i + 12)) (tree-at left nodes) (at-node-word .ensures) (at-node-word2 .ensures) (s₀ .pre .1 .1) in
-    (omega (arith, s₀ .pre .0), fit-right (length (at-advance-part .last .1 .1 .1 .0)) (at-advance-part .kept .1 .1 .1 .0) fit)
-
-advance-beside-both-requires : (t : ℕ) → advance-beside-lts.Need-both-requires (advance-beside-claims t) (advance-beside-at t) advance-beside.Post
-advance-beside-both-requires t c κs = search needs
+advance-beside-is-false-requires : (t : ℕ) → advance-beside-lts.Need-is-false-requires (advance-beside-claims t) (advance-beside-at t) advance-beside.Post
+advance-beside-is-false-requires t c κs = search needs
 
 advance-beside-same-length : (t : ℕ) → advance-beside-lts.Need-same-length (advance-beside-claims t) (advance-beside-at t) advance-beside.Post
 advance-beside-same-length t c = search needs
 
 advance-beside-returns : (t : ℕ) → advance-beside-lts.Need-returns (advance-beside-claims t) (advance-beside-at t) advance-beside.Post
 advance-beside-returns measure c =
-    let s₀ = c .before .before .before .before .before .before .before .before .before .before .before .before .before .before .before in
+    let s₀ = c .before .before .before .before .before .before .before .before .before .before in
     let nodes = s₀ .args .nodes .now in
     let run = s₀ .args .run .now in
     let hist = s₀ .args .history .now in
@@ -512,11 +490,58 @@ advance-beside-returns measure c =
     let env = env-of (s₀ .args .m) (s₀ .args .pos .now) (s₀ .args .byte .now) in
     let s = s₀ .args .s in
     let t = s₀ .args .t in
+    let at-node-word = c .before .before .before .before .before .before .node-word in
+    let at-advance-part = c .before .before .before .before .advance-part in
+    let at-is-false = c .before .is-false in
+    let at-if1 = c .if1 in
+    let x-false = at-is-false .ensures (at-if1 .taken) in
+    subst (λ (n : ℕ). Advanced (beside-node n (tree-at left nodes (i + 12)) (tree-at left nodes (getD nodes (i + 7) 0))) hist b env s t run (at-advance-part .result) (at-advance-part .last .1 .1 .1 .0)) (at-node-word .ensures)
+    (beside-stopped (at-advance-part .last .1 .1 .1 .0) (at-advance-part .result) (x-false .0) (at-advance-part .ensures) (x-false .1))
+
+advance-beside-node-word-requires-2 : (t : ℕ) → advance-beside-lts.Need-node-word-requires-2 (advance-beside-claims t) (advance-beside-at t) advance-beside.Post
+advance-beside-node-word-requires-2 t c κs = search needs
+
+advance-beside-cast-g : (t : ℕ) → advance-beside-lts.Need-cast-g (advance-beside-claims t) (advance-beside-at t) advance-beside.Post
+advance-beside-cast-g t c = search needs
+
+advance-beside-advance-part-requires-2 : (t : ℕ) → advance-beside-lts.Need-advance-part-requires-2 (advance-beside-claims t) (advance-beside-at t) advance-beside.Post
+advance-beside-advance-part-requires-2 measure c κs =
+    let s₀ = c .before .before .before .before .before .before .before .before .before .before .before .before .before in
+    let nodes = s₀ .args .nodes .now in
+    let run = s₀ .args .run .now in
+    let left = s₀ .args .left in
+    let i = s₀ .args .i in
+    let env = env-of (s₀ .args .m) (s₀ .args .pos .now) (s₀ .args .byte .now) in
+    let t = s₀ .args .t in
     let at-advance-part = c .before .before .before .before .before .before .before .advance-part in
+    let at-node-word = c .before .before .before .before .before .before .before .before .before .node-word in
+    let at-node-word2 = c .before .node-word2 in
+    let fit = fit-beside env t (length run) (tree-at left nodes (i + 12)) (tree-at left nodes) (at-node-word .ensures) (at-node-word2 .ensures) (s₀ .pre .1 .1) in
+    (omega (arith, s₀ .pre .0), fit-right (length (at-advance-part .last .1 .1 .1 .0)) (at-advance-part .kept .1 .1 .1 .0) fit)
+
+advance-beside-both-requires : (t : ℕ) → advance-beside-lts.Need-both-requires (advance-beside-claims t) (advance-beside-at t) advance-beside.Post
+advance-beside-both-requires t c κs = search needs
+
+advance-beside-same-length-2 : (t : ℕ) → advance-beside-lts.Need-same-length-2 (advance-beside-claims t) (advance-beside-at t) advance-beside.Post
+advance-beside-same-length-2 t c = search needs
+
+advance-beside-returns-2 : (t : ℕ) → advance-beside-lts.Need-returns-2 (advance-beside-claims t) (advance-beside-at t) advance-beside.Post
+advance-beside-returns-2 measure c =
+    let s₀ = c .before .before .before .before .before .before .before .before .before .before .before .before .before .before .before .before .before in
+    let nodes = s₀ .args .nodes .now in
+    let run = s₀ .args .run .now in
+    let hist = s₀ .args .history .now in
+    let left = s₀ .args .left in
+    let i = s₀ .args .i in
+    let b = s₀ .args .flag in
+    let env = env-of (s₀ .args .m) (s₀ .args .pos .now) (s₀ .args .byte .now) in
+    let s = s₀ .args .s in
+    let t = s₀ .args .t in
+    let at-advance-part = c .before .before .before .before .before .before .before .before .before .before .before .advance-part in
     let at-advance-part2 = c .before .before .before .advance-part2 in
     let at-both = c .both in
-    let at-node-word = c .before .before .before .before .before .before .before .before .before .before .before .node-word in
-    let at-node-word2 = c .before .before .before .before .before .before .before .before .before .node-word2 in
+    let at-node-word = c .before .before .before .before .before .before .before .before .before .before .before .before .before .node-word in
+    let at-node-word2 = c .before .before .before .before .before .node-word2 in
     let fit = fit-beside env t (length run) (tree-at left nodes (i + 12)) (tree-at left nodes) (at-node-word .ensures) (at-node-word2 .ensures) (s₀ .pre .1 .1) in
     subst (λ (m : ℕ). Advanced (beside-node (getD nodes (i + 10) 0) (tree-at left nodes (i + 12)) (tree-at left nodes m)) hist b env s t run (at-both .result) (at-advance-part2 .last .1 .1 .1 .0)) (at-node-word2 .ensures)
     (subst (λ (n : ℕ). Advanced (beside-node n (tree-at left nodes (i + 12)) (tree-at left nodes (at-node-word2 .result))) hist b env s t run (at-both .result) (at-advance-part2 .last .1 .1 .1 .0)) (at-node-word .ensures)
@@ -1159,14 +1184,17 @@ pub +advance+advance-beside+advance-not+advance-part+advance-position+advance-ra
     (advance-beside-node-word-requires t)
     (advance-beside-cast-mid t)
     (advance-beside-add-mid t)
-    (advance-beside-node-word-requires-2 t)
-    (advance-beside-cast-g t)
     (advance-beside-add-advance-part t)
     (advance-beside-advance-part-requires t)
+    (advance-beside-is-false-requires t)
+    (advance-beside-same-length t)
+    (advance-beside-returns t)
+    (advance-beside-node-word-requires-2 t)
+    (advance-beside-cast-g t)
     (advance-beside-advance-part-requires-2 t)
     (advance-beside-both-requires t)
-    (advance-beside-same-length t)
-    (advance-beside-returns t))
+    (advance-beside-same-length-2 t)
+    (advance-beside-returns-2 t))
     (λ t. advance-not-lts.spec (advance-not-claims t)
     (advance-not-at t)
     advance-not.Post
