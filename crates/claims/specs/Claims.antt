@@ -1,6 +1,8 @@
--- The main claims that are proved of the library as a whole: one proposition, from the calls down to the definitions that it rests on. What each call does is its contract;
--- this says what follows for whoever uses them. docs/DEMAND-3.md reads the first part slowly.
-use Prim.Native.Nat.{ℕ, _≤_, max}
+-- The main claims that are proved of the library as a whole, as one proposition. What each call does is its contract; this says what follows for whoever uses them.
+-- The link between the two is the text of six contracts, which a reader should look at: the `ensures` of `open`, `step` and `steps` (crates/engine/src) and of
+-- sw_open, sw_step and sw_steps (crates/exports/src/watching.rt) are `OpenPromise`, `StepPromise` and `BatchPromise` of their own arguments and results, and these are
+-- what the list of calls asks of each call. docs/DEMAND-3.md reads the first part slowly.
+use Prim.Native.Nat.{ℕ, _≤_, _<_, max}
 use mathlib.Core.Path.{_≡_}
 use mathlib.Core.List.{List, [], _∷_, _++_}
 use lib.ListN.{length}
@@ -15,18 +17,25 @@ use Rattle.proving_ground.specs.Marked.{Marked}
 use Rattle.notation.specs.Notation.{Rule, Reads}
 use Rattle.notation.specs.Bodies.{body-of-text}
 use Rattle.notation.specs.Printing.{text-of-body}
+use Rattle.demand.specs.Contract.{fresh-state}
 use Rattle.demand.specs.Demand.{Demanded}
 use Rattle.instances.specs.Moves.{Stands}
 use Rattle.engine.specs.declared.state.State as code
-use Rattle.engine.specs.States.{by-value}
-use Rattle.state_bytes.specs.States.{loaded, stored, in-bytes}
+use Rattle.engine.specs.States.{state-of, fresh-code, moved-code, by-value}
+use Rattle.state_bytes.specs.Numbers.{number-at}
+use Rattle.state_bytes.specs.States.{loaded, stored, moved-bytes, in-bytes}
 use Rattle.state_bytes.proofs.States.{Fitting, AllBytes}
 
 pub record Claims : Type 0 where
   -- Demand 3: after every call of `open`, about every list of calls of `step` and `steps`; and after every call of sw_open, about every list of calls of
-  -- sw_step and sw_steps. What is asked of each call in the list is, word for word, the contract of that function.
+  -- sw_step and sw_steps.
   pub of-values : Demanded Stands by-value
   pub of-bytes : Demanded Stands in-bytes
+  -- What is carried holds the states that 01 says: of an opening, and after a step; as values and as bytes.
+  pub value-fresh : (b : List ℕ) (L : ℕ) → length b ≤ 512 → state-of (fresh-code b L) ≡ fresh-state b L
+  pub bytes-moved : (st : List ℕ) (next live : ℕ) → length st ≡ 544 → next < 18446744073709551616 → live < 18446744073709551616
+      → loaded (moved-bytes st next live) ≡ moved-code (loaded st) next live
+  pub bytes-kept : (st : List ℕ) → AllBytes st → length st ≡ 544 → moved-bytes st (number-at st 528) (number-at st 536) ≡ st
   -- A state is stored as bytes that load as that state, and bytes that were loaded are stored as they were.
   pub state-back : (s : code.State) → Fitting s → loaded (stored s) ≡ s
   pub bytes-back : (st : List ℕ) → AllBytes st → length st ≡ 544 → stored (loaded st) ≡ st

@@ -154,6 +154,11 @@ module _ (st : List ℕ) (bytes : AllBytes st) where
   after : (at : ℕ) → at + 8 ≤ length st → take at st ++ low-bytes 8 (number-at st at) ≡ take (at + 8) st
   after at h = ap (λ (l : List ℕ). take at st ++ l) (there at h) ∙ take-more at 8 st
 
+  -- Bytes that are given their own next tick and live count again stay as they are.
+  pub moved-own : length st ≡ 544 → moved-bytes st (number-at st 528) (number-at st 536) ≡ st
+  unfolding moved-bytes
+  moved-own n = rw (after 528 (omega arith), after 536 (omega arith)) (take-all 544 st (omega arith))
+
   pub store-loaded : length st ≡ 544 → stored (loaded st) ≡ st
   unfolding loaded stored
   store-loaded n =
