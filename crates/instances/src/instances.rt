@@ -22,8 +22,8 @@ pub(crate) struct Moved {
     pub live: usize,
 }
 
-// The instance of tick p, moved to tick t: a range's position with no variable before it. One that was decided before stands in its cell, and nothing is made
-// ready for it.
+// The instance of tick p, moved to tick t: a range's position with no variable before it. One that was decided before is answered from its
+// cell.
 fn move_instance(
     nodes: &[u32; 768],
     left: usize,
@@ -90,7 +90,7 @@ fn oldest_tick(t: u64, n: u64) -> u64
     t + 1 - n
 }
 
-// The slot after slot j of n: after the last comes the first. It stands for a division, which would be the dearest thing about a tick that is decided.
+// The slot after slot j of n; after the last comes the first. Counting on saves a division for each tick.
 fn next_slot(j: u64, n: u64) -> u64
     requires { ⌜ j < n ⌝ }
     ensures { λ r. ⌜ r ≡ cond (eqb (j + 1) n) 0 (j + 1) ⌝ }
