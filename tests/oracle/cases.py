@@ -1,4 +1,4 @@
-"""The cases of a test program, from its file data/cases.txt, for the programs beside it.
+"""The cases of a file of crates/cases/data, for the programs beside it.
 
 A line is a case: its name, and behind a bar each what the program asks for; a bar has a blank on each side. Bytes are two hexadecimal digits in small
 letters, with blanks between them as one likes; `02*63` is 63 times the byte 02. A line that is empty or begins with `#` is no case.

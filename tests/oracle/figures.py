@@ -1,7 +1,7 @@
 #!/usr/bin/env python3
-"""The figures of bodies, worked out from the papers alone ("Figures" of document 01), for crates/figures_cases.
+"""The figures of bodies, worked out from the papers alone ("Figures" of document 01), for crates/cases.
 
-  python3 tests/oracle/figures.py crates/figures_cases/data/cases.txt     what that program must write (its file stdout)
+  python3 tests/oracle/figures.py crates/cases/data/bodies.txt     what that program must write for it
 
 Cases are read by cases.py and bodies by paper.py beside it.
 """

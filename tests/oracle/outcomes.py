@@ -1,7 +1,7 @@
 #!/usr/bin/env python3
 """The recording evaluator's outcomes, worked out a second time from the papers alone.
 
-  outcomes.py cases CASES     what crates/recording_cases must write (its file stdout) for its file data/cases.txt
+  outcomes.py cases CASES     what crates/cases must write for its file data/recordings.txt
   outcomes.py long            what crates/recording_long must write (its file stdout)
 
 The cases of the long recordings stand here and in that program. Case files are read by cases.py, bodies read and the meaning evaluated by paper.py beside

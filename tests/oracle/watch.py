@@ -2,7 +2,7 @@
 """What the program `watch` prints, worked out a second time from the papers alone ("The sheet", "The program `watch`").
 
   watch.py print SHEET FLAGS      what watch prints for these two files; one that is missing counts as empty
-  watch.py refusals CASES         what crates/watch_refusals must print for the sheets of its file data/cases.txt
+  watch.py refusals CASES         what crates/cases must print for the sheets of its file data/sheets.txt
   watch.py long FOLDER            makes the sheet and the flags of crates/watch_long in a folder
   watch.py large FOLDER           the same of crates/watch_large_sheet
 

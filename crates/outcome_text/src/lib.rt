@@ -9,6 +9,11 @@ pub fn text(t: &[u8]) {
     io::write_all(STDOUT_FILENO, t);
 }
 
+// Writes a number's digits.
+pub fn number(n: u64) {
+    io::print_decimal(STDOUT_FILENO, n);
+}
+
 // A name and then bytes, each as a space and two digits.
 pub fn bytes(name: &[u8], b: &[u8]) {
     text(name);
@@ -23,7 +28,7 @@ pub fn bytes(name: &[u8], b: &[u8]) {
 
 // The outcome of a body at a tick, as `5: false at 7`, `5: open` or `5: refused 16`.
 pub fn outcome(body: &[u8], flags: &[u8], tick: usize) {
-    io::print_decimal(STDOUT_FILENO, tick as u64);
+    number(tick as u64);
     text(b": ");
     answer(recording::outcome_at(body, flags, tick));
     text(b"\n");
@@ -37,7 +42,7 @@ fn answer(a: Evaluated) {
         },
         Evaluated::Refused(why) => {
             text(b"refused ");
-            io::print_decimal(STDOUT_FILENO, refusal::number(why) as u64);
+            number(refusal::number(why) as u64);
         }
     }
 }
@@ -47,7 +52,7 @@ fn decided(v: Verdict, d: u64) {
         Verdict::True => text(b"true at "),
         Verdict::False => text(b"false at "),
     }
-    io::print_decimal(STDOUT_FILENO, d);
+    number(d);
 }
 
 fn wide(b: u8) -> u64 {

@@ -1,16 +1,15 @@
--- `figures_cases::take_lines` is safe and ends.
--- Assumes nothing.
+-- `cases::take_lines` is safe and ends. Assumes nothing.
 use Prim.Native.Nat.{_-_}
 use lib.ListN.{length}
 use borrow.Author.Needs.{needs}
-use Rattle.figures_cases.proofs.take_lines.Statement.{statement}
-use Rattle.figures_cases.proofs.take_lines.Tie as tie
+use Rattle.cases.proofs.take_lines.Statement.{statement}
+use Rattle.cases.proofs.take_lines.Tie as tie
 
 abbrev Inv-loop : tie.InvT-loop
-Inv-loop file at₀ at = Unit
+Inv-loop kind file at₀ at = Unit
 
 abbrev μ-loop : tie.MeasureT-loop
-μ-loop file at₀ at = length file - at
+μ-loop kind file at₀ at = length file - at
 
 loop-holds : tie.Need-loop-holds Inv-loop μ-loop
 loop-holds c = search needs

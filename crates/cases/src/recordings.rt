@@ -1,6 +1,5 @@
-// Outcomes over short recordings, and refused bodies. A case is a line of data/cases.txt, as the crate case_file reads it: a name, a body and flag bytes,
-// of which every tick is shown and the one after the end; or these and a tick, which alone is shown. The file stdout is what tests/oracle/outcomes.py
-// works out from the papers alone, from the same lines (tests/oracle/run runs it).
+// Outcomes over short recordings, and refused bodies. A case is a name, a body and flag bytes, of which every tick is shown and the one after the end; or
+// these and a tick, which alone is shown. tests/oracle/outcomes.py works out the same.
 use case_file::has_bar;
 use case_file::past_bar;
 use case_file::read_bytes;
@@ -61,30 +60,11 @@ fn take_fields(line: &[u8], body_field: &[u8], rest: &[u8]) {
     ask(line, &body_space[..n], &flag_space[..m], rest);
 }
 
-// A line of the file.
-fn take_line(line: &[u8]) {
-    if !case_file::is_case(line) {
-        return;
-    }
+pub(crate) fn take_case(line: &[u8]) {
     let fields = past_bar(line);
-    if case_file::name(line).len() == 0 || !has_bar(fields) {
+    if !has_bar(fields) {
         say_malformed(line);
         return;
     }
     take_fields(line, to_bar(fields), past_bar(fields));
-}
-
-fn take_lines(file: &[u8]) {
-    let mut at: usize = 0;
-    while at < file.len() {
-        let line = case_file::line_at(file, at);
-        take_line(line);
-        at += line.len() + 1;
-    }
-}
-
-fn main() {
-    let mut space = io::large_buffer();
-    let n = case_file::load(&mut space);
-    take_lines(&space[..n]);
 }

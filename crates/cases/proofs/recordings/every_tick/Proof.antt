@@ -1,10 +1,9 @@
--- `recording_cases::every_tick` is safe and ends.
--- Assumes nothing.
+-- `cases::every_tick` is safe and ends. Assumes nothing.
 use Prim.Native.Nat.{_-_, _≤_}
 use lib.ListN.{length}
 use borrow.Author.Needs.{needs}
-use Rattle.recording_cases.proofs.every_tick.Statement.{statement}
-use Rattle.recording_cases.proofs.every_tick.Tie as tie
+use Rattle.cases.proofs.recordings.every_tick.Statement.{statement}
+use Rattle.cases.proofs.recordings.every_tick.Tie as tie
 
 abbrev Inv-loop : tie.InvT-loop
 Inv-loop name body flags tick₀ tick = tick ≤ length flags
