@@ -6,7 +6,9 @@ use crate::lent::Word;
 use crate::library::{Library, State, StepAnswer, StepLent, StepsAnswer};
 use std::cell::RefCell;
 use std::ffi::{c_int, c_long, c_void};
+use std::ops::Range;
 use std::ptr;
+use std::slice::from_ref;
 
 // The C library's, as of Linux on x86-64, for which alone the Rattle library is built.
 extern "C" {
@@ -77,7 +79,7 @@ impl Pages {
 
     /// The same of one number.
     pub fn lend_one<T: Word>(&mut self, content: &T) -> &mut T {
-        &mut self.lend(std::slice::from_ref(content))[0]
+        &mut self.lend(from_ref(content))[0]
     }
 }
 
@@ -89,17 +91,45 @@ impl Drop for Pages {
     }
 }
 
-/// A library whose every buffer and every answer is lent at a guard page of its own.
+/// Is told each buffer and each answer that a call is lent: the call and its name, and where
+/// it lies.
+pub type Told<'a> = &'a dyn Fn(&str, Range<*const u8>);
+
+/// Pages for one buffer of a call.
+struct Lender<'a> {
+    pages: Pages,
+    told: Told<'a>,
+}
+
+impl Lender<'_> {
+    fn lend<T: Word>(&mut self, name: &str, content: &[T]) -> &mut [T] {
+        let bytes = content.as_ptr_range();
+        (self.told)(name, bytes.start.cast()..bytes.end.cast());
+        self.pages.lend(content)
+    }
+
+    fn lend_one<T: Word>(&mut self, name: &str, content: &T) -> &mut T {
+        &mut self.lend(name, from_ref(content))[0]
+    }
+}
+
+/// A library whose every buffer and every answer is lent on to another, at a guard page of its
+/// own.
 pub struct Guarded<'a> {
     library: &'a dyn Library,
     /// As many as the call with the most of them needs.
-    pages: RefCell<[Pages; 8]>,
+    lenders: RefCell<[Lender<'a>; 8]>,
 }
 
-impl Guarded<'_> {
-    pub fn new(library: &dyn Library, guard: Guard) -> Guarded<'_> {
-        let pages = RefCell::new(std::array::from_fn(|_| Pages::new(PAGE, guard)));
-        Guarded { library, pages }
+impl<'a> Guarded<'a> {
+    pub fn new(library: &'a dyn Library, guard: Guard) -> Guarded<'a> {
+        Guarded::telling(library, guard, &|_, _| ())
+    }
+
+    /// The same, which tells what it is lent itself.
+    pub fn telling(library: &'a dyn Library, guard: Guard, told: Told<'a>) -> Guarded<'a> {
+        let lender = |_| Lender { pages: Pages::new(PAGE, guard), told };
+        Guarded { library, lenders: RefCell::new(std::array::from_fn(lender)) }
     }
 }
 
@@ -114,8 +144,12 @@ fn state_of(lent: &mut [u8]) -> &mut State {
 
 impl Library for Guarded<'_> {
     fn rule_place(&self, sheet: &[u8], rule: usize, start: &mut usize, size: &mut usize) -> u32 {
-        let [a, b, c, ..] = &mut *self.pages.borrow_mut();
-        let (lent, at, length) = (a.lend(sheet), b.lend_one(start), c.lend_one(size));
+        let [a, b, c, ..] = &mut *self.lenders.borrow_mut();
+        let (lent, at, length) = (
+            a.lend("place sheet", sheet),
+            b.lend_one("place start", start),
+            c.lend_one("place size", size),
+        );
         let number = self.library.rule_place(lent, rule, at, length);
         (*start, *size) = (*at, *length);
         check_kept(lent, sheet);
@@ -129,9 +163,10 @@ impl Library for Guarded<'_> {
         out: &mut [u8],
         written: &mut usize,
     ) -> u32 {
-        let [a, b, c, d, ..] = &mut *self.pages.borrow_mut();
-        let (lent_lengths, lent_bodies) = (a.lend(lengths), b.lend(bodies));
-        let (sheet, length) = (c.lend(out), d.lend_one(written));
+        let [a, b, c, d, ..] = &mut *self.lenders.borrow_mut();
+        let (lent_lengths, lent_bodies) =
+            (a.lend("write lengths", lengths), b.lend("write bodies", bodies));
+        let (sheet, length) = (c.lend("write out", out), d.lend_one("write written", written));
         let number = self.library.write_sheet(lent_lengths, lent_bodies, sheet, length);
         out.copy_from_slice(sheet);
         *written = *length;
@@ -141,8 +176,12 @@ impl Library for Guarded<'_> {
     }
 
     fn rule_from_text(&self, text: &[u8], body: &mut [u8], written: &mut usize) -> u32 {
-        let [a, b, c, ..] = &mut *self.pages.borrow_mut();
-        let (lent, out, length) = (a.lend(text), b.lend(body), c.lend_one(written));
+        let [a, b, c, ..] = &mut *self.lenders.borrow_mut();
+        let (lent, out, length) = (
+            a.lend("read text", text),
+            b.lend("read body", body),
+            c.lend_one("read written", written),
+        );
         let number = self.library.rule_from_text(lent, out, length);
         body.copy_from_slice(out);
         *written = *length;
@@ -151,8 +190,12 @@ impl Library for Guarded<'_> {
     }
 
     fn rule_to_text(&self, body: &[u8], text: &mut [u8], written: &mut usize) -> u32 {
-        let [a, b, c, ..] = &mut *self.pages.borrow_mut();
-        let (lent, out, length) = (a.lend(body), b.lend(text), c.lend_one(written));
+        let [a, b, c, ..] = &mut *self.lenders.borrow_mut();
+        let (lent, out, length) = (
+            a.lend("print body", body),
+            b.lend("print text", text),
+            c.lend_one("print written", written),
+        );
         let number = self.library.rule_to_text(lent, out, length);
         text.copy_from_slice(out);
         *written = *length;
@@ -161,9 +204,13 @@ impl Library for Guarded<'_> {
     }
 
     fn figures(&self, body: &[u8], history: &mut u64, delay: &mut u64, cells: &mut u64) -> u32 {
-        let [a, b, c, d, ..] = &mut *self.pages.borrow_mut();
-        let lent = a.lend(body);
-        let (h, dl, cs) = (b.lend_one(history), c.lend_one(delay), d.lend_one(cells));
+        let [a, b, c, d, ..] = &mut *self.lenders.borrow_mut();
+        let lent = a.lend("figures body", body);
+        let (h, dl, cs) = (
+            b.lend_one("figures history", history),
+            c.lend_one("figures delay", delay),
+            d.lend_one("figures cells", cells),
+        );
         let number = self.library.figures(lent, h, dl, cs);
         (*history, *delay, *cells) = (*h, *dl, *cs);
         check_kept(lent, body);
@@ -178,9 +225,11 @@ impl Library for Guarded<'_> {
         verdict: &mut u32,
         step: &mut u64,
     ) -> u32 {
-        let [a, b, c, d, ..] = &mut *self.pages.borrow_mut();
-        let (lent_body, lent_recording) = (a.lend(body), b.lend(recording));
-        let (answer, at) = (c.lend_one(verdict), d.lend_one(step));
+        let [a, b, c, d, ..] = &mut *self.lenders.borrow_mut();
+        let (lent_body, lent_recording) =
+            (a.lend("outcome body", body), b.lend("outcome recording", recording));
+        let (answer, at) =
+            (c.lend_one("outcome verdict", verdict), d.lend_one("outcome step", step));
         let number = self.library.outcome(lent_body, lent_recording, tick, answer, at);
         (*verdict, *step) = (*answer, *at);
         check_kept(lent_body, body);
@@ -196,9 +245,10 @@ impl Library for Guarded<'_> {
         cells: &[u32],
         state: &mut State,
     ) -> u32 {
-        let [a, b, c, d, ..] = &mut *self.pages.borrow_mut();
-        let (lent_sheet, lent_cells) = (a.lend(sheet), b.lend(cells));
-        let (flags, opened) = (c.lend(history), state_of(d.lend(state)));
+        let [a, b, c, d, ..] = &mut *self.lenders.borrow_mut();
+        let (lent_sheet, lent_cells) = (a.lend("open sheet", sheet), b.lend("open cells", cells));
+        let (flags, opened) =
+            (c.lend("open history", history), state_of(d.lend("open state", state)));
         let number = self.library.open(lent_sheet, rule, flags, lent_cells, opened);
         history.copy_from_slice(flags);
         *state = *opened;
@@ -208,11 +258,13 @@ impl Library for Guarded<'_> {
     }
 
     fn step(&self, state: &mut State, flag: u8, lent: StepLent, answer: StepAnswer) -> u32 {
-        let [a, b, c, d, e, f, ..] = &mut *self.pages.borrow_mut();
-        let own = state_of(a.lend(state));
-        let (history, cells) = (b.lend(lent.history), c.lend(lent.cells));
-        let report = d.lend(lent.report);
-        let (reported, live) = (e.lend_one(answer.reported), f.lend_one(answer.live));
+        let [a, b, c, d, e, f, ..] = &mut *self.lenders.borrow_mut();
+        let own = state_of(a.lend("step state", state));
+        let (history, cells) =
+            (b.lend("step history", lent.history), c.lend("step cells", lent.cells));
+        let report = d.lend("step report", lent.report);
+        let (reported, live) =
+            (e.lend_one("step reported", answer.reported), f.lend_one("step live", answer.live));
         let own_answer = StepAnswer { reported: &mut *reported, live: &mut *live };
         let number = self.library.step(own, flag, parts(history, cells, report), own_answer);
         *state = *own;
@@ -224,12 +276,15 @@ impl Library for Guarded<'_> {
     }
 
     fn steps(&self, state: &mut State, flags: &[u8], lent: StepLent, answer: StepsAnswer) -> u32 {
-        let [a, b, c, d, e, f, g, h] = &mut *self.pages.borrow_mut();
-        let (own, lent_flags) = (state_of(a.lend(state)), b.lend(flags));
-        let (history, cells) = (c.lend(lent.history), d.lend(lent.cells));
-        let report = e.lend(lent.report);
-        let (taken, pairs) = (f.lend_one(answer.taken), g.lend_one(answer.pairs));
-        let live = h.lend_one(answer.live);
+        let [a, b, c, d, e, f, g, h] = &mut *self.lenders.borrow_mut();
+        let (own, lent_flags) =
+            (state_of(a.lend("steps state", state)), b.lend("steps flags", flags));
+        let (history, cells) =
+            (c.lend("steps history", lent.history), d.lend("steps cells", lent.cells));
+        let report = e.lend("steps report", lent.report);
+        let (taken, pairs) =
+            (f.lend_one("steps taken", answer.taken), g.lend_one("steps pairs", answer.pairs));
+        let live = h.lend_one("steps live", answer.live);
         let own_answer = StepsAnswer { taken: &mut *taken, pairs: &mut *pairs, live: &mut *live };
         let number = self.library.steps(own, lent_flags, parts(history, cells, report), own_answer);
         *state = *own;
