@@ -5,7 +5,7 @@ import subprocess
 import threading
 import time
 
-from station import CELLS_4160, COMMAND, FIGURES, FLAG_UP, REFUSED_1, REFUSED_15, Station, lines
+from station import CELLS_4160, COMMAND, FIGURES, FLAG_UP, REFUSED_1, REFUSED_2, REFUSED_15, Station, lines
 
 MANY = bytes(100_000)  # as many violations
 
@@ -86,6 +86,9 @@ class Output(Station):
 
 
 class Input(Station):
+    def test_empty(self):
+        self.ends(0, lines(FLAG_UP, b""), "", flags=b"")
+
     def test_directory(self):
         folder = os.open("/", os.O_RDONLY)
         self.addCleanup(os.close, folder)
@@ -128,6 +131,10 @@ class Sheet(Station):
     def test_empty(self):
         self.write("watch.sheet", b"")
         self.ends(1, b"refused 1\n", REFUSED_1)
+
+    def test_one_byte_more(self):
+        self.write("watch.sheet", FLAG_UP + b"\0")
+        self.ends(1, b"refused 2\n", REFUSED_2)
 
     def test_refused(self):
         self.write("watch.sheet", CELLS_4160)

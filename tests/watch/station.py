@@ -16,6 +16,7 @@ from watch import watch  # noqa: E402  (the lines that document 01 asks for)
 FLAG_UP = bytes([1, 5, 0, 3, 0, 1, 0, 0])  # one rule, "flag 0 at X": a byte 00 is a violation at its own step
 CELLS_4160 = bytes([1, 5, 0, 12, 0, 5, 2, 0, 0, 0, 2, 0, 63, 0, 1, 1, 0])  # X..X+63, document 01's case of refusal 15
 REFUSED_1 = "watch: refused 1: %s\n" % SENTENCES[1]
+REFUSED_2 = "watch: refused 2: %s\n" % SENTENCES[2]
 REFUSED_15 = "watch: refused 15: %s\n" % SENTENCES[15]
 
 
