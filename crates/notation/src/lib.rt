@@ -13,10 +13,6 @@ pub fn deliver(bytes: &[u8], out: &mut [u8]) -> Written
     if out.len() < bytes.len() {
         return Written::Refused(Refusal::BufferTooShort);
     }
-    let mut i: usize = 0;
-    while i < bytes.len() {
-        out[i] = bytes[i];
-        i += 1;
-    }
+    bytes::copy(bytes, out);
     Written::Length(bytes.len())
 }
