@@ -7,12 +7,12 @@ use mathlib.Core.Path.{_≡_}
 use mathlib.Core.List.{List, [], _∷_, _++_}
 use lib.ListN.{length}
 use Rattle.refusal.specs.Answer.{accepted}
+use Rattle.words.specs.Words.{Bytes}
 use Rattle.sheet.specs.Writing.{sheet-length}
-use Rattle.sheet.proofs.RoundTrip.{ReadsBack}
+use Rattle.sheet.specs.RoundTrip.{ReadsBack}
 use Rattle.rule.specs.Formula.{Bound, Formula, forall}
 use Rattle.rule.specs.Meaning.{range, seen, outcome}
-use Rattle.rule.proofs.Every.{Said}
-use Rattle.rule.proofs.Written.{Bytes}
+use Rattle.rule.specs.ForAll.{Said}
 use Rattle.proving_ground.specs.Marked.{Marked}
 use Rattle.notation.specs.Notation.{Rule, Reads}
 use Rattle.notation.specs.Bodies.{body-of-text}
@@ -23,8 +23,7 @@ use Rattle.instances.specs.Moves.{Stands}
 use Rattle.engine.specs.declared.state.State as code
 use Rattle.engine.specs.States.{state-of, fresh-code, moved-code, by-value}
 use Rattle.state_bytes.specs.Numbers.{number-at}
-use Rattle.state_bytes.specs.States.{loaded, stored, moved-bytes, in-bytes}
-use Rattle.state_bytes.proofs.States.{Fitting, AllBytes}
+use Rattle.state_bytes.specs.States.{loaded, stored, Storable, moved-bytes, in-bytes}
 
 pub record Claims : Type 0 where
   -- Demand 3: after every call of `open`, about every list of calls of `step` and `steps`; and after every call of sw_open, about every list of calls of
@@ -35,10 +34,10 @@ pub record Claims : Type 0 where
   pub value-fresh : (b : List ℕ) (L : ℕ) → length b ≤ 512 → state-of (fresh-code b L) ≡ fresh-state b L
   pub bytes-moved : (st : List ℕ) (next live : ℕ) → length st ≡ 544 → next < 18446744073709551616 → live < 18446744073709551616
       → loaded (moved-bytes st next live) ≡ moved-code (loaded st) next live
-  pub bytes-kept : (st : List ℕ) → AllBytes st → length st ≡ 544 → moved-bytes st (number-at st 528) (number-at st 536) ≡ st
+  pub bytes-kept : (st : List ℕ) → Bytes st → length st ≡ 544 → moved-bytes st (number-at st 528) (number-at st 536) ≡ st
   -- A state is stored as bytes that load as that state, and bytes that were loaded are stored as they were.
-  pub state-back : (s : code.State) → Fitting s → loaded (stored s) ≡ s
-  pub bytes-back : (st : List ℕ) → AllBytes st → length st ≡ 544 → stored (loaded st) ≡ st
+  pub state-back : (s : code.State) → Storable s → loaded (stored s) ≡ s
+  pub bytes-back : (st : List ℕ) → Bytes st → length st ≡ 544 → stored (loaded st) ≡ st
   -- For all is 01's sentence.
   pub for-all : (B₁ B₂ : Bound) (F : Formula) (flags : ℕ → ℕ) (t : ℕ) (env : List ℕ) (s : ℕ)
       → Said (range B₁ B₂ env) (λ q. seen t q (outcome F flags t (env ++ (q ∷ [])) (max s q))) t s (outcome (forall B₁ B₂ F) flags t env s)

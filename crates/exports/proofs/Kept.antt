@@ -32,8 +32,8 @@ use Rattle.engine.specs.States.{state-of, fresh-code, blank-code, moved-code, b
 use Rattle.engine.specs.Promises.{open-answer}
 use Rattle.engine.proofs.States.{length-padded}
 use Rattle.state_bytes.specs.Numbers.{number-at}
-use Rattle.state_bytes.specs.States.{loaded, stored, state-in, moved-bytes, in-bytes}
-use Rattle.state_bytes.proofs.States.{Fitting, load-stored, load-moved}
+use Rattle.state_bytes.specs.States.{loaded, stored, state-in, Storable, moved-bytes, in-bytes}
+use Rattle.state_bytes.proofs.States.{load-stored, load-moved}
 use Rattle.exports.specs.Answers.{answered, KeptIfRefused}
 
 -- A lent number that a refused call did not write.
@@ -66,8 +66,8 @@ module _ (sheet : List ℕ) (number : ℕ) (history cells st : List ℕ) (o : Op
     short : length (body-part (rule-body sheet number)) ≤ 512
     short = let b = q .keeps .2 in rw b (body-size sheet number (q .keeps .0) b .1)
 
-    fitting : Fitting s
-    fitting =
+    storable : Storable s
+    storable =
         let b = body-part (rule-body sheet number) in
         let h = short in
         rw state-is
@@ -76,7 +76,7 @@ module _ (sheet : List ℕ) (number : ℕ) (history cells st : List ℕ) (o : Op
     pub open-accepted : (st′ : List ℕ) → st′ ≡ stored s → OpenKept 0 st′
     unfolding state-in
     open-accepted st′ i =
-        let same : state-of s ≡ state-in st′ = sym (ap (λ (x : List ℕ). state-of (loaded x)) i ∙ ap state-of (load-stored s fitting)) in
+        let same : state-of s ≡ state-in st′ = sym (ap (λ (x : List ℕ). state-of (loaded x)) i ∙ ap state-of (load-stored s storable)) in
         record {
           keeps = subst (λ (y : State). Opened Stands (opening-of (accepted y) sheet number history cells history′) (accepted y)) same (q .keeps);
           left = i ∙ ap stored state-is;

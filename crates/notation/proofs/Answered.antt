@@ -17,18 +17,10 @@ use Rattle.rule.proofs.BodyNumbers.{body-refusals}
 use Rattle.rule.proofs.BodyLengths.{body-short}
 use Rattle.notation.specs.Notation.{Named, Rule, monitor, Reads}
 use Rattle.notation.specs.Reading.{reading}
-use Rattle.notation.specs.Bodies.{formula-bytes, all-bound, named-body, translated, checked, fitted, body-of-text}
+use Rattle.notation.specs.Bodies.{formula-bytes, all-bound, named-body, translated, checked, fitted, body-of-text, Misspelt, Unbound}
 use Rattle.notation.proofs.OneReading.{read-back, reads, refused-reading}
 
 -- ---- the texts, by their reading
-
--- Longer than a text may be, or without a reading.
-abbrev pub Misspelt : List ℕ → Type 0
-Misspelt s = (4096 < length s) ⊎ ((N : Rule) → Reads s N → ⊥)
-
--- With a reading in which some name is not bound.
-abbrev pub Unbound : List ℕ → Type 0
-Unbound s = (n : List ℕ) × (F : Named) × (length s ≤ 4096) × Reads s (monitor n F) × (all-bound (n ∷ []) F ≡ false)
 
 -- With a reading in which all names are bound.
 abbrev pub Closed : List ℕ → Type 0

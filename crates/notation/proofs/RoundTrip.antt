@@ -9,11 +9,11 @@ use lib.ListN.{length, length-append}
 use borrow.Author.Tests.{le-leb}
 use Rattle.refusal.specs.Answer.{Answer, refused, accepted, and-then}
 use Rattle.refusal.proofs.Answers.{not-accepted, same-refusal, same-value, passed, both-accepted}
+use Rattle.words.specs.Words.{Bytes}
 use Rattle.rule.specs.Formula.{Formula}
-use Rattle.rule.specs.Body.{body}
-use Rattle.rule.proofs.Written.{Bytes}
+use Rattle.rule.specs.Body.{body, OfABody}
 use Rattle.rule.proofs.OneBody.{body-accepted}
-use Rattle.rule.proofs.BodyNumbers.{OfABody, body-refusals}
+use Rattle.rule.proofs.BodyNumbers.{body-refusals}
 use Rattle.notation.specs.Notation.{Rule, colon-sign, formula-text, text, SpeltRule, Reads}
 use Rattle.notation.specs.Reading.{reading}
 use Rattle.notation.specs.Bodies.{named-body, translated, checked, fitted, body-of-text}

@@ -1,13 +1,14 @@
 -- The body of a rule in the notation, document 01, "The body".
-use Prim.Native.Nat.{ℕ, suc, _+_, _-_, _*_, _/_, _%_}
+use Prim.Native.Nat.{ℕ, suc, _+_, _-_, _*_, _/_, _%_, _≤_, _<_}
 use mathlib.Core.Path.{_≡_}
-use mathlib.Core.Bool.{Bool, true, cond, _&&_}
+use mathlib.Core.Logic.{_⊎_}
+use mathlib.Core.Bool.{Bool, true, false, cond, _&&_}
 use mathlib.Core.List.{List, [], _∷_, _++_}
 use lib.Dec.{leb}
 use lib.ListN.{length, drop}
 use Rattle.refusal.specs.Answer.{Answer, refused, accepted, and-then}
 use Rattle.rule.specs.Body.{body}
-use Rattle.notation.specs.Notation.{Base, origin, infinity, position, Offset, nothing, plus, minus, End, end, Named, flag, negate, then, beside, forall, Rule, monitor, same}
+use Rattle.notation.specs.Notation.{Base, origin, infinity, position, Offset, nothing, plus, minus, End, end, Named, flag, negate, then, beside, forall, Rule, monitor, same, Reads}
 use Rattle.notation.specs.Reading.{Joint, then-joint, beside-joint, reading}
 
 -- ---- names. The names in scope, innermost first: variable 0 is the rule's own, "a quantifier nested under m others binds variable m + 1".
@@ -105,6 +106,16 @@ fitted room b = cond (leb (length b) room) (accepted b) (refused 22)
 
 unfoldable pub body-of-text : List ℕ → ℕ → Answer (List ℕ)
 body-of-text s room = and-then (and-then (translated s) checked) (fitted room)
+
+-- ---- the texts that are 25 and 26, said by `Reads` alone
+
+-- Longer than a text may be, or without a reading.
+abbrev pub Misspelt : List ℕ → Type 0
+Misspelt s = (4096 < length s) ⊎ ((N : Rule) → Reads s N → ⊥)
+
+-- With a reading in which some name is not bound.
+abbrev pub Unbound : List ℕ → Type 0
+Unbound s = (n : List ℕ) × (F : Named) × (length s ≤ 4096) × Reads s (monitor n F) × (all-bound (n ∷ []) F ≡ false)
 
 -- ---- what is answered and what the lent buffer holds then: "if the lent buffer is shorter than the body, whose length is answered; bytes
 -- after it keep their content"

@@ -9,12 +9,8 @@ use Rattle.words.specs.Words.{byte}
 use Rattle.refusal.specs.Answer.{refused, accepted}
 use Rattle.refusal.proofs.Answers.{not-accepted, same-refusal}
 use Rattle.rule.specs.Formula.{Formula, negate, then, beside, forall}
-use Rattle.rule.specs.Body.{Head, refuse, flag-head, negate-head, then-head, beside-head, forall-head, require-bound, contents, head, Read, stop, read, one, two, parts, formula, formula-at, whole, body}
+use Rattle.rule.specs.Body.{Head, refuse, flag-head, negate-head, then-head, beside-head, forall-head, require-bound, contents, head, Read, stop, read, one, two, parts, formula, formula-at, whole, body, OfABody}
 use Rattle.rule.proofs.Reading.{require-holds, cond-holds}
-
--- 4 to 10, 23 or 24.
-abbrev pub OfABody : ℕ → Type 0
-OfABody n = ((leb 4 n && leb n 10) || (eqb n 23 || eqb n 24)) ≡ true
 
 -- ---- a formula's own bytes
 

@@ -10,7 +10,7 @@ use lib.Dec.{leb, ltb, eqb}
 use lib.ListN.{length, drop}
 use lib.Seq.{drop-length}
 use borrow.Author.Tests.{leb-true, eqb-true, eqb-false}
-use Rattle.words.specs.Words.{byte}
+use Rattle.words.specs.Words.{byte, Bytes}
 use Rattle.refusal.specs.Answer.{accepted}
 use Rattle.refusal.proofs.Answers.{not-accepted, same-value}
 use Rattle.refusal.proofs.Answers as answers
@@ -18,7 +18,7 @@ use Rattle.rule.specs.Formula.{Formula, negate, then, beside, forall, fo
 use Rattle.rule.specs.Body.{Head, refuse, flag-head, negate-head, then-head, beside-head, forall-head, fixed, contents, head, bound, Read, stop, read, one, two, parts, formula, formula-at, whole, body}
 use Rattle.rule.proofs.Reading.{require-holds, cond-holds}
 use Rattle.rule.proofs.Heads.{Tested, Passed, head-passed, flag-room, forall-room}
-use Rattle.rule.proofs.Written.{Bytes, bound-bytes, formula-bytes, LegalBound, Legal, one-byte, more-bytes, TestedBound, bound-tested, bound-legal, bound-written}
+use Rattle.rule.proofs.Written.{bound-bytes, formula-bytes, LegalBound, Legal, one-byte, more-bytes, TestedBound, bound-tested, bound-legal, bound-written}
 
 -- ---- a formula's own bytes
 

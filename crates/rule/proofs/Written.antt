@@ -10,14 +10,10 @@ use lib.IntN.{ℤ, pos, negsuc, natAbs}
 use lib.ListN.{length, drop}
 use lib.Seq.{drop-cons}
 use borrow.Author.Tests.{leb-true, eqb-true, eqb-false, eq-eqb, ne-eqb}
-use Rattle.words.specs.Words.{byte, word}
+use Rattle.words.specs.Words.{byte, Bytes, word}
 use Rattle.rule.specs.Formula.{Bound, origin, infinity, variable, Formula, flag, negate, then, beside, forall}
 use Rattle.rule.specs.Body.{Head, refuse, signed, bound, require-bound}
 use Rattle.rule.proofs.Reading.{require-holds}
-
--- A list of bytes: each is below 256.
-abbrev pub Bytes : List ℕ → Type 0
-Bytes s = (i : ℕ) → byte s i < 256
 
 -- ---- the bytes of a formula
 

@@ -5,14 +5,15 @@ use mathlib.Core.Path.{_≡_, refl, sym, ap, ap₂, _∙_}
 use mathlib.Core.List.{List, [], _∷_, _++_, append-nil}
 use native.Mathlib.Nat.{zero-add, suc-add}
 use native.Mathlib.Omega.{arith}
-use lib.ListN.{length, getD, take, drop, length-append, length-drop, take-append-drop, drop-of-length-le}
-use lib.Seq.{take-nil, getD-take, getD-drop, take-length, take-at, take-all, take-take, take-append-le, length-take-le}
+use lib.ListN.{length, take, drop, length-append, length-drop, take-append-drop, drop-of-length-le}
+use lib.Seq.{take-nil, getD-drop, take-length, take-at, take-all, take-take, take-append-le, length-take-le}
+use Rattle.words.specs.Words.{Bytes}
 use Rattle.sheet.specs.Writing.{splice}
 use Rattle.sheet.proofs.Stores.{take-splice, length-splice}
 use Rattle.engine.specs.declared.state.State as code
 use Rattle.engine.specs.States.{moved-code}
 use Rattle.state_bytes.specs.Numbers.{value, low-bytes, number-at}
-use Rattle.state_bytes.specs.States.{loaded, stored, moved-bytes}
+use Rattle.state_bytes.specs.States.{loaded, stored, moved-bytes, Storable}
 use Rattle.state_bytes.proofs.Numbers.{length-low, number-before, number-last}
 
 -- ---- copying the body
@@ -71,15 +72,7 @@ whole-stored st s s₀ s₁ s₂ s₃ s₄ n r e₀ e₁ e₂ e₃ e₄ =
 length-after : (p : List ℕ) (x n : ℕ) → length p ≡ n → length (p ++ low-bytes 8 x) ≡ n + 8
 length-after p x n e = length-append p (low-bytes 8 x) ∙ (let d = length-low 8 x in omega arith)
 
--- Numbers of a state that fit 64 bits.
-pub record Fitting (s : code.State) : Type 0 where
-  pub room : length (s .body) ≡ 512
-  pub size-fits : s .size < 18446744073709551616
-  pub opened-fits : s .opened < 18446744073709551616
-  pub next-fits : s .next < 18446744073709551616
-  pub live-fits : s .live < 18446744073709551616
-
-pub load-stored : (s : code.State) → Fitting s → loaded (stored s) ≡ s
+pub load-stored : (s : code.State) → Storable s → loaded (stored s) ≡ s
 unfolding loaded stored
 load-stored s h =
     let R = s .body in
@@ -123,18 +116,20 @@ load-moved st next live n low fits =
 
 -- ---- storing what was loaded
 
--- Every one is a byte.
-unfoldable pub AllBytes : List ℕ → Type 0
-AllBytes l = (i : ℕ) → i < length l → getD l i 0 < 256
-
-low-value : (l : List ℕ) → AllBytes l → low-bytes (length l) (value l) ≡ l
-unfolding low-bytes value AllBytes
+low-value : (l : List ℕ) → Bytes l → low-bytes (length l) (value l) ≡ l
+unfolding low-bytes value
 low-value [] h = refl
 low-value (b ∷ l) h =
-    let here : b < 256 = h 0 (omega arith) in
+    let here : b < 256 = h 0 in
     let m : (b + 256 * value l) % 256 ≡ b = omega arith in
     let d : (b + 256 * value l) / 256 ≡ value l = omega arith in
-    ap₂ (λ (x : ℕ) (y : List ℕ). x ∷ y) m (ap (low-bytes (length l)) d ∙ low-value l (λ i k. h (suc i) (omega arith)))
+    ap₂ (λ (x : ℕ) (y : List ℕ). x ∷ y) m (ap (low-bytes (length l)) d ∙ low-value l (λ i. h (suc i)))
+
+bytes-taken : (n : ℕ) (l : List ℕ) → Bytes l → Bytes (take n l)
+bytes-taken zero l h i = omega arith
+bytes-taken (suc n) [] h i = omega arith
+bytes-taken (suc n) (b ∷ l) h zero = h 0
+bytes-taken (suc n) (b ∷ l) h (suc i) = bytes-taken n l (λ j. h (suc j)) i
 
 take-more : (n m : ℕ) (l : List ℕ) → take n l ++ take m (drop n l) ≡ take (n + m) l
 take-more zero m l = rw zero-add
@@ -142,14 +137,14 @@ take-more (suc n) m [] = rw (suc-add, take-nil)
 take-more (suc n) m (x ∷ l) = rw suc-add (ap (λ (k : List ℕ). x ∷ k) (take-more n m l))
 
 -- The bytes of the number at a position are the bytes there.
-module _ (st : List ℕ) (bytes : AllBytes st) where
+module _ (st : List ℕ) (bytes : Bytes st) where
   there : (at : ℕ) → at + 8 ≤ length st → low-bytes 8 (number-at st at) ≡ take 8 (drop at st)
-  unfolding number-at AllBytes
+  unfolding number-at
   there at h =
       let d = length-drop at st in
       let n : length (take 8 (drop at st)) ≡ 8 = length-take-le 8 (drop at st) (omega arith) in
       ap (λ (k : ℕ). low-bytes k (value (take 8 (drop at st)))) (sym n)
-      ∙ low-value (take 8 (drop at st)) (λ i k. rw (getD-take 8 (drop at st) i 0 (omega arith), getD-drop at st i 0) (bytes (at + i) (omega arith)))
+      ∙ low-value (take 8 (drop at st)) (bytes-taken 8 (drop at st) (λ i. rw (getD-drop at st i 0) (bytes (at + i))))
 
   after : (at : ℕ) → at + 8 ≤ length st → take at st ++ low-bytes 8 (number-at st at) ≡ take (at + 8) st
   after at h = ap (λ (l : List ℕ). take at st ++ l) (there at h) ∙ take-more at 8 st
