@@ -1,9 +1,17 @@
 -- The library's claims hold. Assumes nothing.
 use Rattle.sheet.proofs.RoundTrip.{round-trip}
 use Rattle.rule.proofs.Every.{forall-said}
+use Rattle.rule.proofs.Progress as progress
+use Rattle.rule.proofs.Delay.{delay-law}
+use Rattle.rule.proofs.Locality.{locality}
+use Rattle.rule.proofs.Window.{rule-window}
+use Rattle.rule.proofs.OneBody as bodies
+use Rattle.rule.proofs.BodyNumbers as numbers
+use Rattle.rule.proofs.BodyLengths as lengths
 use Rattle.proving_ground.proofs.Cases.{marked}
-use Rattle.notation.proofs.OneReading.{one-reading}
-use Rattle.notation.proofs.RoundTrip as notation
+use Rattle.notation.proofs.OneReading as reading
+use Rattle.notation.proofs.Answered as answered
+use Rattle.notation.proofs.RoundTrip as printed
 use Rattle.engine.proofs.States.{fresh-is}
 use Rattle.engine.proofs.Demand3 as values
 use Rattle.exports.proofs.Demand3 as bytes
@@ -21,8 +29,23 @@ claimed =
       state-back = load-stored;
       bytes-back = store-loaded;
       for-all = forall-said;
+      not-before = progress.started;
+      not-after = progress.within;
+      stays = progress.stays;
+      now-decided = progress.fresh;
+      in-time = delay-law;
+      none-later = locality;
+      none-older = rule-window;
       sheet-back = round-trip;
-      one-reading = one-reading;
-      text-back = notation.text-back;
+      one-body = bodies.one-body;
+      body-refusals = numbers.body-refusals;
+      body-short = lengths.body-short;
+      one-reading = reading.one-reading;
+      text-answered = answered.reading-answered;
+      text-25 = λ s room. (answered.only-misspelt s room, answered.misspelt s room);
+      text-26 = λ s room. (answered.only-unbound s room, answered.unbound s room);
+      text-back = printed.text-back;
+      body-room = answered.fits-always;
+      text-room = printed.text-fits;
       marked-cases = marked;
     }
