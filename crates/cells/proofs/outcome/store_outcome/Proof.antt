@@ -1,0 +1,106 @@
+-- `outcome::store_outcome` meets its contract: it writes the words that `mark` writes, in the same order, or none.
+use Prim.Native.Nat.{_+_}
+use native.Mathlib.Omega.{arith}
+use borrow.Author.Tests.{le-leb, lt-leb}
+use lib.ListN.{length, length-set}
+use Rattle.cells.specs.Cells.{mark, stored}
+use borrow.Author.Needs.{needs}
+use Rattle.cells.proofs.outcome.store_outcome.Statement.{statement}
+use Rattle.cells.proofs.outcome.store_outcome.Tie as tie
+
+add-if1 : tie.Need-add-if1
+add-if1 c = search needs
+
+returns : tie.Need-returns
+unfolding stored
+returns c = simp (le-leb _ _ (c .if1 .taken))
+
+enum-told : tie.Need-enum-told
+enum-told c = search needs
+
+mul-cell : tie.Need-mul-cell
+mul-cell c = search needs
+
+slice-write-cell : tie.Need-slice-write-cell
+slice-write-cell c = search needs
+
+enum-known-o : tie.Need-enum-known-o
+enum-known-o c = search needs
+
+elapsed-requires : tie.Need-elapsed-requires
+elapsed-requires c κs = search needs
+
+add-cell : tie.Need-add-cell
+add-cell c = search needs
+
+mul-cell-2 : tie.Need-mul-cell-2
+mul-cell-2 c = search needs
+
+slice-write-cell-2 : tie.Need-slice-write-cell-2
+slice-write-cell-2 c = search needs
+
+enum-told-2 : tie.Need-enum-told-2
+enum-told-2 c = search needs
+
+mul-cell-3 : tie.Need-mul-cell-3
+mul-cell-3 c = search needs
+
+slice-write-cell-3 : tie.Need-slice-write-cell-3
+slice-write-cell-3 c = simp length-set (omega (arith, c .before .before .before .before .before .before .if1 .left))
+
+enum-told-3 : tie.Need-enum-told-3
+enum-told-3 c = search needs
+
+mul-cell-4 : tie.Need-mul-cell-4
+mul-cell-4 c = search needs
+
+slice-write-cell-4 : tie.Need-slice-write-cell-4
+slice-write-cell-4 c = simp length-set (omega (arith, c .before .before .before .before .before .before .if1 .left))
+
+same-length : tie.Need-same-length
+same-length c = search needs
+
+returns-2 : tie.Need-returns-2
+unfolding stored mark
+returns-2 c = simp (lt-leb (length (c .before .before .before .before .args .cell .now)) (c .before .before .before .before .args .k + 2) (omega (arith, c .before .before .if1 .left)), c .enum-told .given .1)
+
+same-length-2 : tie.Need-same-length-2
+same-length-2 c = search needs
+
+returns-3 : tie.Need-returns-3
+unfolding stored mark
+returns-3 c = simp (lt-leb (length (c .before .before .before .before .before .before .before .before .args .cell .now)) (c .before .before .before .before .before .before .before .before .args .k + 2) (omega (arith, c .before .before .before .before .before .before .if1 .left)), c .before .before .before .before .o .given .1, c .enum-told2 .given .1, c .before .before .elapsed .ensures)
+
+same-length-3 : tie.Need-same-length-3
+same-length-3 c = search needs
+
+returns-4 : tie.Need-returns-4
+unfolding stored mark
+returns-4 c = simp (lt-leb (length (c .before .before .before .before .before .before .before .before .args .cell .now)) (c .before .before .before .before .before .before .before .before .args .k + 2) (omega (arith, c .before .before .before .before .before .before .if1 .left)), c .before .before .before .before .o .given .1, c .enum-told3 .given .1, c .before .before .elapsed .ensures)
+
+pub store-outcome-spec : {M : Type 1} → statement M
+store-outcome-spec =
+    tie.close
+    (tie.spec
+    add-if1
+    returns
+    enum-told
+    mul-cell
+    slice-write-cell
+    enum-known-o
+    elapsed-requires
+    add-cell
+    mul-cell-2
+    slice-write-cell-2
+    enum-told-2
+    mul-cell-3
+    slice-write-cell-3
+    enum-told-3
+    mul-cell-4
+    slice-write-cell-4
+    same-length
+    returns-2
+    same-length-2
+    returns-3
+    same-length-3
+    returns-4)
