@@ -52,7 +52,7 @@ module _ (s t n w : ℕ) where
   unfolding leading-of
   leading-kept h g = simp (ne-eqb t s h, le-leb w n g)
 
-  pub leading-least : leading-of s t n w ≤ n
+  leading-least : leading-of s t n w ≤ n
   unfolding leading-of
   leading-least = go (eqb t s)
     where
@@ -77,6 +77,23 @@ pub leading-there : (s t n : ℕ) (cell : List ℕ) → 2 < length cell → lead
 unfolding leading-in
 leading-there s t n cell h = simp (lt-leb (length cell) 2 h)
 
-pub head-stored-there : (p leading latest : ℕ) (cell : List ℕ) → 2 < length cell → head-stored p leading latest cell ≡ set (set cell 2 (since p latest)) 0 (leading % 4294967296)
-unfolding head-stored
-head-stored-there p leading latest cell h = simp (lt-leb (length cell) 2 h)
+pub leading-in-least : (s t n : ℕ) (cell : List ℕ) → leading-in s t n cell ≤ n
+unfolding leading-in
+leading-in-least s t n cell = elim (decLt 2 (length cell)) [
+  | yes l ↦ rw (lt-leb (length cell) 2 l) (leading-least s t n (getD cell 0 0))
+  | no l ↦ rw (le-leb (length cell) 2 (omega arith)) (omega arith)
+]
+
+module _ (p leading latest : ℕ) (cell : List ℕ) (there : 2 < length cell) where
+  head-there-stored : head-stored p leading latest cell ≡ set (set cell 2 (since p latest)) 0 (leading % 4294967296)
+  unfolding head-stored
+  head-there-stored = simp (lt-leb (length cell) 2 there)
+
+  pub stored-leading : getD (head-stored p leading latest cell) 0 0 ≡ leading % 4294967296
+  stored-leading = ap (λ (l : List ℕ). getD l 0 0) head-there-stored ∙ two-first cell 0 (since p latest) (leading % 4294967296) (omega arith)
+
+  pub stored-latest : getD (head-stored p leading latest cell) 2 0 ≡ since p latest
+  stored-latest = ap (λ (l : List ℕ). getD l 2 0) head-there-stored ∙ two-second cell 0 (since p latest) (leading % 4294967296) there
+
+  pub stored-drop : (b : ℕ) → 2 < b → drop b (head-stored p leading latest cell) ≡ drop b cell
+  stored-drop b h = ap (drop b) head-there-stored ∙ two-drop cell 0 (since p latest) (leading % 4294967296) b h

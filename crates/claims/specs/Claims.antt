@@ -28,7 +28,7 @@ use Rattle.notation.specs.Bodies.{named-body, checked, fitted, body-of-text, Mi
 use Rattle.notation.specs.Printing.{text-of-body}
 use Rattle.demand.specs.Contract.{fresh-state}
 use Rattle.demand.specs.Demand.{Demanded}
-use Rattle.instances.specs.Moves.{Stands}
+use Rattle.cell_runs.specs.Moves.{Stands}
 use Rattle.engine.specs.declared.state.State as code
 use Rattle.engine.specs.States.{state-of, fresh-code, moved-code, by-value}
 use Rattle.state_bytes.specs.Numbers.{number-at}

@@ -2,7 +2,7 @@
 -- it). Assumes nothing.
 use Rattle.demand.specs.Demand.{Demanded}
 use Rattle.demand.proofs.Theorem.{demand-3}
-use Rattle.instances.specs.Moves.{Stands}
+use Rattle.cell_runs.specs.Moves.{Stands}
 use Rattle.engine.specs.States.{by-value}
 
 -- Exactly the acceptable openings are accepted, and whatever list of calls follows one: every report is exactly the ticks that the meaning over the

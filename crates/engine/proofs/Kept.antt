@@ -21,8 +21,10 @@ use Rattle.instances.specs.declared.stepping.StepAnswer.{StepAnswer}
 use Rattle.instances.specs.declared.stepping.StepAnswer.the-variants as steps
 use Rattle.instances.specs.declared.batch.BatchAnswer.{BatchAnswer}
 use Rattle.instances.specs.declared.batch.BatchAnswer.the-variants as batches
-use Rattle.instances.specs.Answers.{state-at, step-answer, batch-answer}
-use Rattle.instances.specs.Moves.{Stands, StepOf, BatchOf}
+use Rattle.cell_runs.specs.States.{state-at}
+use Rattle.instances.specs.Answers.{step-answer, batch-answer}
+use Rattle.cell_runs.specs.Moves.{Stands}
+use Rattle.instances.specs.Answers.{StepOf, BatchOf}
 use Rattle.engine.specs.declared.state.State as code
 use Rattle.engine.specs.States.{state-of, moved-code, by-value}
 

@@ -18,8 +18,8 @@ use Rattle.figures.specs.declared.answer.FigureAnswer.{FigureAnswer}
 use Rattle.figures.specs.declared.answer.FigureAnswer.the-variants as sized
 use Rattle.figures.specs.Prepared.{told}
 use Rattle.demand.specs.Contract.{room, fresh-state, opening-of, OpenPromise}
-use Rattle.instances.specs.Moves.{Stands}
-use Rattle.instances.proofs.Rules.{stands-at-start}
+use Rattle.cell_runs.specs.Moves.{Stands}
+use Rattle.cell_runs.proofs.Rules.{stands-at-start}
 use Rattle.engine.specs.declared.opening.OpenAnswer.{OpenAnswer}
 use Rattle.engine.specs.declared.opening.OpenAnswer.the-variants as answer
 use Rattle.engine.specs.declared.opening.OpenResult.{OpenResult}

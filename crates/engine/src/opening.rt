@@ -3,7 +3,7 @@ ghost use mathlib.Core.Path.{_≡_};
 ghost use Prim.Native.Nat.{_≤_};
 ghost use lib.ListN.{length, replicate};
 ghost use Rattle.demand.specs.Contract.{opening-of, OpenPromise};
-ghost use Rattle.instances.specs.Moves.{Stands};
+ghost use Rattle.cell_runs.specs.Moves.{Stands};
 ghost use Rattle.engine.specs.States.{state-of, blank-code, by-value};
 ghost use Rattle.engine.specs.Promises.{open-answer, BodyOpened};
 use crate::state::State;

@@ -1,7 +1,7 @@
 // Stepping an opened rule by one flag byte, or by many.
 ghost use Rattle.demand.specs.Contract.{step-of, batch-of, StepPromise, BatchPromise};
 ghost use Rattle.instances.specs.Answers.{step-answer, batch-answer};
-ghost use Rattle.instances.specs.Moves.{Stands};
+ghost use Rattle.cell_runs.specs.Moves.{Stands};
 ghost use Rattle.engine.specs.States.{state-of, by-value};
 use crate::state::State;
 use crate::state::moved;

@@ -2,7 +2,7 @@
 -- it; docs/DEMAND-3.md walks through it). Assumes nothing.
 use Rattle.demand.specs.Demand.{Demanded}
 use Rattle.demand.proofs.Theorem.{demand-3}
-use Rattle.instances.specs.Moves.{Stands}
+use Rattle.cell_runs.specs.Moves.{Stands}
 use Rattle.state_bytes.specs.States.{in-bytes}
 
 -- The same as of the engine, of states that are carried as bytes: what it asks of an opening, a step and a batch is, word for word, what the contracts of

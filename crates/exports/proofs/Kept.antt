@@ -23,8 +23,9 @@ use Rattle.instances.specs.declared.stepping.StepAnswer.{StepAnswer}
 use Rattle.instances.specs.declared.stepping.StepAnswer.the-variants as steps
 use Rattle.instances.specs.declared.batch.BatchAnswer.{BatchAnswer}
 use Rattle.instances.specs.declared.batch.BatchAnswer.the-variants as batches
-use Rattle.instances.specs.Answers.{taken-from, counts-from, step-answer, batch-answer}
-use Rattle.instances.specs.Moves.{Stands}
+use Rattle.cell_runs.specs.States.{taken-from, counts-from}
+use Rattle.instances.specs.Answers.{step-answer, batch-answer}
+use Rattle.cell_runs.specs.Moves.{Stands}
 use Rattle.engine.specs.declared.opening.OpenAnswer.{OpenAnswer}
 use Rattle.engine.specs.declared.opening.OpenAnswer.the-variants as opens
 use Rattle.engine.specs.declared.state.State as code

@@ -1,7 +1,7 @@
 // Opening a rule, and stepping it by one flag byte or by many.
 ghost use Rattle.demand.specs.Contract.{opening-of, step-of, batch-of, OpenPromise, StepPromise, BatchPromise};
-ghost use Rattle.instances.specs.Answers.{taken-from, counts-from};
-ghost use Rattle.instances.specs.Moves.{Stands};
+ghost use Rattle.cell_runs.specs.States.{taken-from, counts-from};
+ghost use Rattle.cell_runs.specs.Moves.{Stands};
 ghost use Rattle.state_bytes.specs.States.{state-in, in-bytes};
 ghost use Rattle.exports.specs.Answers.{answered, KeptIfRefused};
 use engine::OpenAnswer;

@@ -4,19 +4,19 @@ ghost use mathlib.Core.Bool.{true, false};
 ghost use Prim.Native.Nat.{ℕ, _+_, _<_};
 ghost use lib.ListN.{length, getD};
 ghost use Rattle.nodes.specs.Table.{bound-at};
-ghost use Rattle.instances.specs.Tree.{flag-node, then-node, beside-node, range-node, tree-at, HasParts};
-ghost use Rattle.instances.specs.Calls.{env-of, flagged, Fit, SlotFit, WalkFit, PartFit, Advanced, PositionAdvanced, PositionsWalked, PartAdvanced};
-use crate::cells::load_outcome;
-use crate::cells::store_outcome;
-use crate::env::flag_at;
-use crate::env::own_tick;
-use crate::head::load_head;
-use crate::head::store_head;
+ghost use Rattle.cell_runs.specs.Tree.{flag-node, then-node, beside-node, range-node, tree-at, HasParts};
+ghost use Rattle.cell_runs.specs.Calls.{env-of, flagged, Fit, SlotFit, WalkFit, PartFit, Advanced, PositionAdvanced, PositionsWalked, PartAdvanced};
+use crate::head::move_head;
+use cells::CELL_WORDS;
+use cells::load_head;
+use cells::load_outcome;
+use cells::store_outcome;
 use nodes::BESIDE_CODE;
 use nodes::CODE;
 use nodes::FIRST_WORDS;
 use nodes::FLAG;
 use nodes::FORALL_CODE;
+use nodes::NODE_WORDS;
 use nodes::NOT_CODE;
 use nodes::SECOND_PART;
 use nodes::SLOT_WORDS;
@@ -65,7 +65,15 @@ fn flag_in(nodes: &[u32], i: usize, byte: &[u8; 5], s: u64) -> Outcome
 {
     let v = node_word(nodes, i, VARIABLE) as usize;
     let k = node_word(nodes, i, FLAG);
-    flag_at(byte, v, k, s)
+    outcomes::flag_outcome(byte[v], k, s)
+}
+
+// The rule's own tick.
+fn own_tick(pos: &[u64; 5]) -> u32
+    requires { ⌜ getD (now pos) 0 0 < 4294967296 ⌝ }
+    ensures { λ r. ⌜ r ≡ getD (now (pos .entry)) 0 0 ⌝ }
+{
+    pos[0] as u32
 }
 
 // Moves the formula whose run is the words from a to z, and whose outcome the words k and k + 2 hold.
@@ -74,7 +82,7 @@ fn advance_part(
     left: usize,
     i: usize,
     run: &mut [u32],
-    k: usize,
+    k: u32,
     a: usize,
     z: usize,
     history: &[u8],
@@ -146,7 +154,7 @@ pub(crate) fn advance_position(
         i,
         slot,
         0,
-        4,
+        CELL_WORDS,
         z,
         history,
         flag,
@@ -250,8 +258,8 @@ fn advance_range(
     let rest = walk_positions(
         nodes,
         left,
-        i + 12,
-        &mut run[4..],
+        i + NODE_WORDS,
+        &mut run[CELL_WORDS..],
         history,
         flag,
         m,
@@ -265,7 +273,7 @@ fn advance_range(
         end,
         z,
     );
-    store_head(run, h.leading, n, z, p, h.latest);
+    move_head(run, h.leading, n, z, p, h.latest);
     outcomes::both(Outcome::Decided(Verdict::True, h.latest), rest)
 }
 
@@ -290,10 +298,10 @@ fn advance_then(
     let o = advance_part(
         nodes,
         left,
-        i + 12,
+        i + NODE_WORDS,
         run,
         0,
-        4,
+        CELL_WORDS,
         z,
         history,
         flag,
@@ -313,7 +321,7 @@ fn advance_then(
                     nodes,
                     left,
                     g,
-                    &mut run[4..],
+                    &mut run[CELL_WORDS..],
                     history,
                     flag,
                     m,
@@ -349,7 +357,7 @@ fn advance_beside(
     let x = advance_part(
         nodes,
         left,
-        i + 12,
+        i + NODE_WORDS,
         run,
         0,
         4,

@@ -5,11 +5,12 @@ ghost use mathlib.Core.List.{_++_};
 ghost use Prim.Native.Nat.{_+_, _*_, _-_, _≤_, _<_};
 ghost use lib.Dec.{eqb};
 ghost use lib.ListN.{length, drop, take};
-ghost use Rattle.instances.specs.Tree.{tree-at};
-ghost use Rattle.instances.specs.Instances.{InstanceMoved, InstanceFit, tick-if-false, open-count, TicksFit, TicksMoved, Spared};
-ghost use Rattle.instances.specs.Moves.{TickFit, TickMoved};
+ghost use Rattle.cell_runs.specs.Tree.{tree-at};
+ghost use Rattle.cell_runs.specs.Instances.{InstanceMoved, InstanceFit, tick-if-false, open-count, TicksFit, TicksMoved, Spared};
+ghost use Rattle.cell_runs.specs.Moves.{TickFit, TickMoved};
 use crate::advance::advance_position;
-use crate::cells::load_outcome;
+use cells::CELL_WORDS;
+use cells::load_outcome;
 use nodes::FORMULAS;
 use ring::remember;
 use rule::Figures;
@@ -37,7 +38,7 @@ fn move_instance(
     ensures { λ r. ⌜ InstanceMoved (tree-at left (now (nodes .entry)) 0) (now (history .entry)) flag t p (now (run .entry)) r (now (run .exit)) ⌝ }
 {
     if p != t {
-        let h = load_outcome(run, 0, p);
+        let h = load_outcome(run, 0, p as u32);
         if let Outcome::Decided(_, _) = h {
             return h;
         }

@@ -1,8 +1,6 @@
 // The instances of a rule, each in its own run of cells, moved by one tick at a time: for one step, or for each of many flag bytes.
 mod advance;
 mod batch;
-mod cells;
-mod env;
 mod head;
 mod instances;
 mod stepping;

@@ -1,5 +1,5 @@
 // One step of a rule: refused, or its tick taken.
-ghost use Rattle.instances.specs.Moves.{StepOf};
+ghost use Rattle.instances.specs.Answers.{StepOf};
 use crate::instances::move_tick;
 use figures::FigureAnswer;
 use refusal::Refusal;

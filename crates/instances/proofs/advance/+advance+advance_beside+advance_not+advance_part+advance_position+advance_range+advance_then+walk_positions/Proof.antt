@@ -11,21 +11,21 @@ use Rattle.nodes.specs.Table.{bound-at}
 use Rattle.nodes.proofs.Nodes.{word-in}
 use Rattle.nodes.proofs.Nots.{nots-less}
 use Rattle.ranges.specs.Spans.{positions-of}
-use Rattle.instances.specs.Tree.{Tree, then-node, beside-node, tree-at}
-use Rattle.instances.specs.Run.{own-tick}
-use Rattle.instances.specs.Calls.{env-of, places, Fit, SlotFit, Advanced}
-use Rattle.instances.proofs.Slots.{slot-before}
-use Rattle.instances.proofs.Marks.{tail-take}
-use Rattle.instances.proofs.Heads.{leading-least}
-use Rattle.instances.proofs.Walks.{WalkedTo, walk-begun, walk-done, walk-more, walk-stopped}
-use Rattle.instances.proofs.Parts.{tick-is, part-stays, part-moved}
-use Rattle.instances.proofs.Positions.{position-of}
-use Rattle.instances.proofs.Thens.{then-open, then-false, then-true}
-use Rattle.instances.proofs.Besides.{beside-of, beside-stopped}
-use Rattle.instances.proofs.Foralls.{plan-here, range-of}
-use Rattle.instances.proofs.Formulas.{flag-of, is-then, is-beside, is-range}
-use Rattle.instances.proofs.Nots.{fit-nots, nots-of}
-use Rattle.instances.proofs.Fits.{tail-length, window-length, slot-length, fit-entered, fit-head, fit-few, fit-long, fit-walk, fit-store, fit-first, fit-second, fit-beside, fit-left, fit-right, fit-flag, fit-come}
+use Rattle.cell_runs.specs.Tree.{Tree, then-node, beside-node, tree-at}
+use Rattle.cell_runs.specs.Calls.{env-of, places, Fit, SlotFit, Advanced}
+use Rattle.cell_runs.proofs.Slots.{slot-before}
+use Rattle.cells.proofs.Marks.{loaded-there, stored-there}
+use Rattle.cell_runs.proofs.PutBack.{tail-take}
+use Rattle.cells.proofs.Heads.{leading-in-least, leading-there}
+use Rattle.cell_runs.proofs.Walks.{WalkedTo, walk-begun, walk-done, walk-more, walk-stopped}
+use Rattle.cell_runs.proofs.Parts.{tick-is, part-stays, part-moved}
+use Rattle.cell_runs.proofs.Positions.{position-of}
+use Rattle.cell_runs.proofs.Thens.{then-open, then-false, then-true}
+use Rattle.cell_runs.proofs.Besides.{beside-of, beside-stopped}
+use Rattle.cell_runs.proofs.Foralls.{plan-here, range-of}
+use Rattle.cell_runs.proofs.Formulas.{flag-of, is-then, is-beside, is-range}
+use Rattle.cell_runs.proofs.Nots.{fit-nots, nots-of}
+use Rattle.cell_runs.proofs.Fits.{tail-length, window-length, slot-length, fit-entered, fit-head, fit-few, fit-long, fit-walk, fit-store, part-room, fit-first, fit-second, fit-beside, fit-left, fit-right, fit-flag, fit-come}
 use borrow.Fn.Kinds.{In}
 use borrow.Fn.PlainCycle.{Measures, is, falls, and}
 use Rattle.instances.proofs.advance.advance.Reads as advance
@@ -57,11 +57,11 @@ use Rattle.instances.proofs.advance.is_false.Reads as is-false-reads
 use Rattle.instances.proofs.advance.is_flag.Reads as is-flag-reads
 use Rattle.instances.proofs.advance.slot_words.Reads as slot-words-reads
 use Rattle.instances.proofs.advance.wide.Reads as wide-reads
-use Rattle.instances.proofs.cells.load_outcome.Reads as load-outcome-reads
-use Rattle.instances.proofs.cells.store_outcome.Reads as store-outcome-reads
-use Rattle.instances.proofs.env.own_tick.Reads as own-tick-reads
-use Rattle.instances.proofs.head.load_head.Reads as load-head-reads
-use Rattle.instances.proofs.head.store_head.Reads as store-head-reads
+use Rattle.cells.proofs.load_outcome.Reads as load-outcome-reads
+use Rattle.cells.proofs.store_outcome.Reads as store-outcome-reads
+use Rattle.instances.proofs.advance.own_tick.Reads as own-tick-reads
+use Rattle.cells.proofs.load_head.Reads as load-head-reads
+use Rattle.instances.proofs.head.move_head.Reads as move-head-reads
 use Rattle.ring.proofs.byte_of.Reads as byte-of-reads
 use Rattle.nodes.proofs.node_word.Reads as node-word-reads
 use Rattle.nodes.proofs.skip_nots.Reads as skip-nots-reads
@@ -215,7 +215,7 @@ abbrev advance-position-claims : ℕ → advance-position-lts.Claims
 advance-position-claims t = (later-reads.Asked, later-reads.Learnt, byte-of-reads.Asked, byte-of-reads.Learnt, wide-reads.Asked, wide-reads.Learnt, advance-part-below t, advance-part.Post)
 
 abbrev advance-range-claims : ℕ → advance-range-lts.Claims
-advance-range-claims t = (slot-words-reads.Asked, slot-words-reads.Learnt, range-at-reads.Asked, range-at-reads.Learnt, plan-up-to-reads.Asked, plan-up-to-reads.Learnt, own-tick-reads.Asked, own-tick-reads.Learnt, load-head-reads.Asked, load-head-reads.Learnt, walk-positions-below t, walk-positions.Post, store-head-reads.Asked, store-head-reads.Learnt, both-reads.Asked, both-reads.Learnt)
+advance-range-claims t = (slot-words-reads.Asked, slot-words-reads.Learnt, range-at-reads.Asked, range-at-reads.Learnt, plan-up-to-reads.Asked, plan-up-to-reads.Learnt, own-tick-reads.Asked, own-tick-reads.Learnt, load-head-reads.Asked, load-head-reads.Learnt, walk-positions-below t, walk-positions.Post, move-head-reads.Asked, move-head-reads.Learnt, both-reads.Asked, both-reads.Learnt)
 
 abbrev advance-then-claims : ℕ → advance-then-lts.Claims
 advance-then-claims t = (advance-part-below t, advance-part.Post, node-word-reads.Asked, node-word-reads.Learnt, advance-below t, advance.Post)
@@ -575,15 +575,10 @@ advance-not-returns measure c =
     nots-of (s₀ .args .nodes .now) (s₀ .args .left) (s₀ .args .i) (at-skip-nots .result) (at-skip-nots .ensures) (at-advance .result) (at-opposite-if .result) (at-advance .last .1 .1 .1 .0) (at-advance .ensures) (at-opposite-if .ensures)
 
 advance-part-own-tick-requires : (t : ℕ) → advance-part-lts.Need-own-tick-requires (advance-part-claims t) (advance-part-at t) advance-part.Post
-advance-part-own-tick-requires t c κs = search needs
+advance-part-own-tick-requires measure c κs = let s₀ = c .before .before in omega (arith, s₀ .pre .1 .fit .past 0, s₀ .pre .1 .fit .low)
 
 advance-part-load-outcome-requires : (t : ℕ) → advance-part-lts.Need-load-outcome-requires (advance-part-claims t) (advance-part-at t) advance-part.Post
-advance-part-load-outcome-requires measure c κs =
-    let s₀ = c .before .before .before .before .before in
-    let env = env-of (s₀ .args .m) (s₀ .args .pos .now) (s₀ .args .byte .now) in
-    let at-own-tick = c .before .before .own-tick in
-    let h : at-own-tick .result ≡ own-tick (places env) = at-own-tick .ensures ∙ tick-is env (s₀ .pre .1 .fit .some) in
-    (omega (arith, s₀ .pre .1 .after-cell, s₀ .pre .1 .start, s₀ .pre .1 .end), s₀ .pre .1 .cell, omega (arith, s₀ .pre .1 .fit .low, fit-come (s₀ .pre .1 .fit)))
+advance-part-load-outcome-requires t c κs = search needs
 
 advance-part-enum-told : (t : ℕ) → advance-part-lts.Need-enum-told (advance-part-claims t) (advance-part-at t) advance-part.Post
 advance-part-enum-told t c = search needs
@@ -610,7 +605,7 @@ advance-part-returns measure c =
     let at-if1 = c .before .before .before .before .if1 in
     let at-load-outcome = c .before .before .load-outcome in
     let at-enum-told = c .enum-told in
-    part-stays (tree-at left nodes i) hist b env s t k a z run (at-own-tick .result) (at-load-outcome .result) _ _ (at-own-tick .ensures ∙ tick-is env (s₀ .pre .1 .fit .some)) (at-if1 .taken) (at-load-outcome .ensures) (at-enum-told .given .1)
+    part-stays (tree-at left nodes i) hist b env s t k a z run (at-own-tick .result) (at-load-outcome .result) _ _ (at-own-tick .ensures ∙ tick-is env (s₀ .pre .1 .fit .some)) (at-if1 .taken) (at-load-outcome .ensures ∙ loaded-there (at-own-tick .result) k run (omega (arith, part-room (s₀ .pre .1)))) (at-enum-told .given .1)
 
 advance-part-enum-told-2 : (t : ℕ) → advance-part-lts.Need-enum-told-2 (advance-part-claims t) (advance-part-at t) advance-part.Post
 advance-part-enum-told-2 t c = search needs
@@ -666,8 +661,8 @@ advance-part-returns-2 measure c =
     let at-advance = c .before .before .before .before .before .before .advance in
     let at-store-outcome = c .before .before .store-outcome in
     part-moved (tree-at left nodes i) hist b env s t k a z run (at-own-tick .result) (at-own-tick .ensures ∙ tick-is env (s₀ .pre .1 .fit .some)) (s₀ .pre .1) (fit-come (s₀ .pre .1 .fit))
-    (⊎-elim (λ x. inr (sym (x .4 .given .1) ∙ x .2 .ensures)) (λ x. inl (x .left)) (at-if1 .came))
-    (at-advance .result) (at-advance .last .1 .1 .1 .0) (at-store-outcome .last .0) (at-advance .ensures) (at-advance .kept .1 .1 .1 .0) (at-store-outcome .ensures)
+    (⊎-elim (λ x. inr (sym (x .4 .given .1) ∙ x .2 .ensures ∙ loaded-there (at-own-tick .result) k run (omega (arith, part-room (s₀ .pre .1))))) (λ x. inl (x .left)) (at-if1 .came))
+    (at-advance .result) (at-advance .last .1 .1 .1 .0) (at-store-outcome .last .0) (at-advance .ensures) (at-advance .kept .1 .1 .1 .0) (at-store-outcome .ensures ∙ stored-there (at-own-tick .result) k (at-advance .result) (putMid a (z - a) run (at-advance .last .1 .1 .1 .0)) (omega (arith, part-room (s₀ .pre .1), same-len-mid a (z - a) run (at-advance .last .1 .1 .1 .0) (at-advance .kept .1 .1 .1 .0))))
 
 advance-position-later-requires : (t : ℕ) → advance-position-lts.Need-later-requires (advance-position-claims t) (advance-position-at t) advance-position.Post
 advance-position-later-requires t c κs = search needs
@@ -761,15 +756,10 @@ advance-range-plan-up-to-requires : (t : ℕ) → advance-range-lts.Need-plan-up
 advance-range-plan-up-to-requires t c κs = search needs
 
 advance-range-own-tick-requires : (t : ℕ) → advance-range-lts.Need-own-tick-requires (advance-range-claims t) (advance-range-at t) advance-range.Post
-advance-range-own-tick-requires t c κs = search needs
+advance-range-own-tick-requires measure c κs = let s₀ = c .before .before .before .before .before .before .before in omega (arith, s₀ .pre .1 .1 .past 0, s₀ .pre .1 .1 .low)
 
 advance-range-load-head-requires : (t : ℕ) → advance-range-lts.Need-load-head-requires (advance-range-claims t) (advance-range-at t) advance-range.Post
-advance-range-load-head-requires measure c κs =
-    let s₀ = c .before .before .before .before .before .before .before .before .before in
-    let env = env-of (s₀ .args .m) (s₀ .args .pos .now) (s₀ .args .byte .now) in
-    let at-own-tick = c .before .own-tick in
-    let h : at-own-tick .result ≡ own-tick (places env) = at-own-tick .ensures ∙ tick-is env (s₀ .pre .1 .1 .some) in
-    (fit-head (s₀ .pre .1 .1), omega (arith, s₀ .pre .1 .1 .low, fit-come (s₀ .pre .1 .1)))
+advance-range-load-head-requires t c κs = search needs
 
 advance-range-add-walk-positions : (t : ℕ) → advance-range-lts.Need-add-walk-positions (advance-range-claims t) (advance-range-at t) advance-range.Post
 advance-range-add-walk-positions measure c =
@@ -807,11 +797,11 @@ advance-range-walk-positions-requires measure c κs =
     let plan = plan-here (bound-at nodes (i + 1)) (bound-at nodes (i + 4)) env t s (at-plan-up-to .result .first) (at-plan-up-to .result .n) (at-plan-up-to .result .end) (positions-of (at-range-at .result)) (s₀ .pre .1 .1 .low) (s₀ .pre .1 .1 .past) (s₀ .pre .1 .1 .unbound) (at-range-at .ensures) (at-plan-up-to .ensures) in (
       omega (arith, s₀ .pre .0),
       fit-walk (s₀ .pre .1 .1) s (at-plan-up-to .result .first) (at-load-head .result .leading) (at-plan-up-to .result .n) (at-slot-words .result) (length (take (length run - 4) (drop 4 run))) (at-plan-up-to .result .end)
-          (subst (λ (x : ℕ). x ≤ at-plan-up-to .result .n) (sym (at-load-head .ensures .0)) (leading-least (at-own-tick .result) s t (at-plan-up-to .result .n) (getD run 0 0) (getD run 2 0))) (at-slot-words .ensures .0) (tail-length run) plan,
+          (subst (λ (x : ℕ). x ≤ at-plan-up-to .result .n) (sym (at-load-head .ensures .0)) (leading-in-least s t (at-plan-up-to .result .n) run)) (at-slot-words .ensures .0) (tail-length run) plan,
     )
 
-advance-range-store-head-requires : (t : ℕ) → advance-range-lts.Need-store-head-requires (advance-range-claims t) (advance-range-at t) advance-range.Post
-advance-range-store-head-requires measure c κs =
+advance-range-move-head-requires : (t : ℕ) → advance-range-lts.Need-move-head-requires (advance-range-claims t) (advance-range-at t) advance-range.Post
+advance-range-move-head-requires measure c κs =
     let s₀ = c .before .before .before .before .before .before .before .before .before .before .before .before .before .before .before in
     let nodes = s₀ .args .nodes .now in
     let run = s₀ .args .run .now in
@@ -826,8 +816,8 @@ advance-range-store-head-requires measure c κs =
     let at-load-head = c .before .before .before .before .before .load-head in
     let at-walk-positions = c .before .before .before .walk-positions in
     let plan = plan-here (bound-at nodes (i + 1)) (bound-at nodes (i + 4)) env t s (at-plan-up-to .result .first) (at-plan-up-to .result .n) (at-plan-up-to .result .end) (positions-of (at-range-at .result)) (s₀ .pre .1 .1 .low) (s₀ .pre .1 .1 .past) (s₀ .pre .1 .1 .unbound) (at-range-at .ensures) (at-plan-up-to .ensures) in
-    fit-store (s₀ .pre .1 .1) s (at-plan-up-to .result .first) (at-load-head .result .leading) (at-plan-up-to .result .n) (at-slot-words .result) (at-own-tick .result) (length (putMid 4 (length run - 4) run (at-walk-positions .last .1 .1 .1 .0))) (at-plan-up-to .result .end)
-    (subst (λ (x : ℕ). x ≤ at-plan-up-to .result .n) (sym (at-load-head .ensures .0)) (leading-least (at-own-tick .result) s t (at-plan-up-to .result .n) (getD run 0 0) (getD run 2 0))) (at-slot-words .ensures .0) (at-own-tick .ensures ∙ tick-is env (s₀ .pre .1 .1 .some)) (same-len-mid 4 (length run - 4) run (at-walk-positions .last .1 .1 .1 .0) (at-walk-positions .kept .1 .1 .1 .0)) plan
+    fit-store (s₀ .pre .1 .1) s (at-plan-up-to .result .first) (at-load-head .result .leading) (at-plan-up-to .result .n) (at-slot-words .result) (length (putMid 4 (length run - 4) run (at-walk-positions .last .1 .1 .1 .0))) (at-plan-up-to .result .end)
+    (subst (λ (x : ℕ). x ≤ at-plan-up-to .result .n) (sym (at-load-head .ensures .0)) (leading-in-least s t (at-plan-up-to .result .n) run)) (at-slot-words .ensures .0) (same-len-mid 4 (length run - 4) run (at-walk-positions .last .1 .1 .1 .0) (at-walk-positions .kept .1 .1 .1 .0)) plan
 
 advance-range-both-requires : (t : ℕ) → advance-range-lts.Need-both-requires (advance-range-claims t) (advance-range-at t) advance-range.Post
 advance-range-both-requires t c κs = search needs
@@ -837,8 +827,8 @@ advance-range-same-length measure c =
     let s₀ = c .before .before .before .before .before .before .before .before .before .before .before .before .before .before .before .before .before .before .before in
     let run = s₀ .args .run .now in
     let at-walk-positions = c .before .before .before .before .before .before .before .walk-positions in
-    let at-store-head = c .before .before .before .store-head in
-    at-store-head .kept .0 ∙ (same-len-mid 4 (length run - 4) run (at-walk-positions .last .1 .1 .1 .0) (at-walk-positions .kept .1 .1 .1 .0))
+    let at-move-head = c .before .before .before .move-head in
+    at-move-head .kept .0 ∙ (same-len-mid 4 (length run - 4) run (at-walk-positions .last .1 .1 .1 .0) (at-walk-positions .kept .1 .1 .1 .0))
 
 advance-range-returns : (t : ℕ) → advance-range-lts.Need-returns (advance-range-claims t) (advance-range-at t) advance-range.Post
 advance-range-returns measure c =
@@ -855,13 +845,13 @@ advance-range-returns measure c =
     let at-own-tick = c .before .before .before .before .before .before .before .before .before .before .before .own-tick in
     let at-load-head = c .before .before .before .before .before .before .before .before .before .load-head in
     let at-walk-positions = c .before .before .before .before .before .before .before .walk-positions in
-    let at-store-head = c .before .before .before .store-head in
+    let at-move-head = c .before .before .before .move-head in
     let at-both = c .both in
     let plan = plan-here (bound-at nodes (i + 1)) (bound-at nodes (i + 4)) env t s (at-plan-up-to .result .first) (at-plan-up-to .result .n) (at-plan-up-to .result .end) (positions-of (at-range-at .result)) (s₀ .pre .1 .1 .low) (s₀ .pre .1 .1 .past) (s₀ .pre .1 .1 .unbound) (at-range-at .ensures) (at-plan-up-to .ensures) in
-    range-of (at-plan-up-to .result .first) (at-plan-up-to .result .n) (at-load-head .result .leading) (at-load-head .result .latest) (at-own-tick .result) (at-slot-words .result) (at-plan-up-to .result .end) (at-walk-positions .result) (at-both .result) (at-walk-positions .last .1 .1 .1 .0) (putMid 4 (length run - 4) run (at-walk-positions .last .1 .1 .1 .0)) (at-store-head .last .0)
+    range-of (at-plan-up-to .result .first) (at-plan-up-to .result .n) (at-load-head .result .leading) (at-load-head .result .latest) (at-own-tick .result) (at-slot-words .result) (at-plan-up-to .result .end) (at-walk-positions .result) (at-both .result) (at-walk-positions .last .1 .1 .1 .0) (putMid 4 (length run - 4) run (at-walk-positions .last .1 .1 .1 .0)) (at-move-head .last .0)
     (at-slot-words .ensures .0) (fit-head (s₀ .pre .1 .1)) plan (at-own-tick .ensures ∙ tick-is env (s₀ .pre .1 .1 .some)) (omega (arith, fit-long (s₀ .pre .1 .1), s₀ .pre .1 .1 .some)) (s₀ .pre .1 .1 .near)
     (omega (arith, fit-few (s₀ .pre .1 .1) s (at-plan-up-to .result .first) (at-plan-up-to .result .n) (at-plan-up-to .result .end) plan, at-slot-words .ensures .1))
-    (at-load-head .ensures .0) (at-load-head .ensures .1) (at-walk-positions .ensures) refl (at-store-head .ensures) (at-both .ensures)
+    (at-load-head .ensures .0 ∙ leading-there s t (at-plan-up-to .result .n) run (omega (arith, fit-head (s₀ .pre .1 .1)))) (at-load-head .ensures .1) (at-walk-positions .ensures) refl (at-move-head .ensures) (at-both .ensures)
 
 advance-then-add-advance-part : (t : ℕ) → advance-then-lts.Need-add-advance-part (advance-then-claims t) (advance-then-at t) advance-then.Post
 advance-then-add-advance-part measure c =
@@ -1250,7 +1240,7 @@ pub +advance+advance-beside+advance-not+advance-part+advance-position+advance-ra
     (advance-range-part-walk-positions-start t)
     (advance-range-part-walk-positions-end t)
     (advance-range-walk-positions-requires t)
-    (advance-range-store-head-requires t)
+    (advance-range-move-head-requires t)
     (advance-range-both-requires t)
     (advance-range-same-length t)
     (advance-range-returns t))

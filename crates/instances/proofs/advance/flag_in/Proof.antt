@@ -1,9 +1,8 @@
 -- `advance::flag_in` meets its contract.
 use Prim.Native.Nat.{ℕ, _+_}
 use mathlib.Core.Path.{ap, _∙_}
-use native.Mathlib.Omega.{arith}
 use lib.ListN.{getD}
-use Rattle.instances.specs.Calls.{flagged}
+use Rattle.cell_runs.specs.Calls.{flagged}
 use borrow.Author.Needs.{needs}
 use Rattle.instances.proofs.advance.flag_in.Statement.{statement}
 use Rattle.instances.proofs.advance.flag_in.Tie as tie
@@ -17,17 +16,27 @@ cast-v c = search needs
 node-word-requires-2 : tie.Need-node-word-requires-2
 node-word-requires-2 c κs = search needs
 
-flag-at-requires : tie.Need-flag-at-requires
-flag-at-requires c κs = search needs
+element-copy-out-flag-outcome : tie.Need-element-copy-out-flag-outcome
+element-copy-out-flag-outcome c = search needs
+
+flag-outcome-requires : tie.Need-flag-outcome-requires
+flag-outcome-requires c κs = search needs
 
 returns : tie.Need-returns
 returns c =
-    let s₀ = c .before .before .before .before in
+    let s₀ = c .before .before .before .before .before in
     let bytes = s₀ .args .byte .now in
-    let v = c .before .before .node-word in
-    let k = c .before .node-word2 in
-    c .flag-at .ensures ∙ ap (λ (n : ℕ). flagged bytes n (k .result) (s₀ .args .s)) (v .ensures) ∙ ap (λ (n : ℕ). flagged bytes (getD (s₀ .args .nodes .now) (s₀ .args .i + 1) 0) n (s₀ .args .s)) (k .ensures)
+    let v = c .before .before .before .node-word in
+    let k = c .before .before .node-word2 in
+    c .flag-outcome .ensures ∙ ap (λ (n : ℕ). flagged bytes n (k .result) (s₀ .args .s)) (v .ensures) ∙ ap (λ (n : ℕ). flagged bytes (getD (s₀ .args .nodes .now) (s₀ .args .i + 1) 0) n (s₀ .args .s)) (k .ensures)
 
 pub flag-in-spec : {M : Type 1} → statement M
 flag-in-spec =
-    tie.close (tie.spec node-word-requires cast-v node-word-requires-2 flag-at-requires returns)
+    tie.close
+    (tie.spec
+    node-word-requires
+    cast-v
+    node-word-requires-2
+    element-copy-out-flag-outcome
+    flag-outcome-requires
+    returns)

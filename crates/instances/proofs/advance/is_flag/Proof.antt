@@ -2,7 +2,7 @@
 use mathlib.Core.Path.{sym, _∙_}
 use mathlib.Core.Bool.{true≢false}
 use native.Mathlib.Omega.{arith}
-use Rattle.instances.proofs.Formulas.{is-none, is-flag}
+use Rattle.cell_runs.proofs.Formulas.{is-none, is-flag}
 use borrow.Author.Needs.{needs}
 use Rattle.instances.proofs.advance.is_flag.Statement.{statement}
 use Rattle.instances.proofs.advance.is_flag.Tie as tie

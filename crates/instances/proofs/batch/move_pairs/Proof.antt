@@ -2,7 +2,7 @@
 use mathlib.Core.Path.{sym}
 use native.Mathlib.Omega.{arith}
 use lib.Seq.{length-take-le}
-use Rattle.instances.proofs.Batches.{spread-room, pairs-moved}
+use Rattle.cell_runs.proofs.Batches.{spread-room, pairs-moved}
 use borrow.Author.Needs.{needs}
 use Rattle.instances.proofs.batch.move_pairs.Statement.{statement}
 use Rattle.instances.proofs.batch.move_pairs.Tie as tie

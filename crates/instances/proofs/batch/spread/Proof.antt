@@ -6,7 +6,7 @@ use mathlib.Core.List.{List, _++_}
 use native.Mathlib.Omega.{arith}
 use lib.ListN.{length, take, drop, length-set}
 use Rattle.demand.specs.Contract.{paired}
-use Rattle.instances.proofs.Batches.{spread-none, spread-front, spread-rest}
+use Rattle.cell_runs.proofs.Batches.{spread-none, spread-front, spread-rest}
 use Rattle.instances.proofs.batch.spread.Statement.{statement}
 use Rattle.instances.proofs.batch.spread.Tie as tie
 

@@ -1,8 +1,8 @@
 -- `instances::batch::take_batch` meets its contract. Assumes nothing.
 use mathlib.Core.Path.{refl}
 use lib.ListN.{length}
-use Rattle.instances.specs.Answers.{state-at}
-use Rattle.instances.proofs.Takes.{admitted-as, refused-as, table-of, flags-fit}
+use Rattle.cell_runs.specs.States.{state-at}
+use Rattle.cell_runs.proofs.Takes.{admitted-as, refused-as, table-of, flags-fit}
 use borrow.Author.Needs.{needs}
 use Rattle.instances.proofs.batch.take_batch.Statement.{statement}
 use Rattle.instances.proofs.batch.take_batch.Tie as tie

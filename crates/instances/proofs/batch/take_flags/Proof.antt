@@ -4,8 +4,8 @@ use mathlib.Core.Path.{refl}
 use mathlib.Core.Logic.{inl, inr}
 use native.Mathlib.Omega.{arith}
 use lib.ListN.{length, take, drop}
-use Rattle.instances.proofs.Rules.{table-short}
-use Rattle.instances.proofs.Batches.{Under, under-start, under-ends, under-all, next-fits, taken-words, under-more}
+use Rattle.cell_runs.proofs.Rules.{table-short}
+use Rattle.cell_runs.proofs.Batches.{Under, under-start, under-ends, under-all, next-fits, taken-words, under-more}
 use borrow.Author.Needs.{needs}
 use Rattle.instances.proofs.batch.take_flags.Statement.{statement}
 use Rattle.instances.proofs.batch.take_flags.Tie as tie

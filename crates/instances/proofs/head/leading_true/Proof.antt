@@ -2,9 +2,9 @@
 use Prim.Native.Nat.{ℕ, _+_, _-_, _*_, _≤_, _<_}
 use native.Mathlib.Omega.{arith}
 use borrow.Author.Needs.{needs}
-use Rattle.instances.specs.Leading.{MovedOn, HeadFit}
-use Rattle.instances.proofs.Slots.{slot-before}
-use Rattle.instances.proofs.Heads.{moved-none, moved-more}
+use Rattle.cell_runs.specs.Leading.{MovedOn, HeadFit}
+use Rattle.cell_runs.proofs.Slots.{slot-before}
+use Rattle.cell_runs.proofs.Heads.{moved-none, moved-more}
 use Rattle.instances.proofs.head.leading_true.Statement.{statement}
 use Rattle.instances.proofs.head.leading_true.Tie as tie
 
@@ -15,38 +15,35 @@ abbrev μ-loop : tie.MeasureT-loop
 μ-loop slots leading n z p latest l₀ m₀ l m = n - l
 
 -- slot l lies within the slots
-inside : (p z n leading len l : ℕ) → HeadFit p z n leading (4 + len) → l < n → l * z + 4 ≤ len
-inside p z n leading len l f h = omega (arith, slot-before z l n h, f .room, f .slots (omega arith))
+inside : (z n leading len l : ℕ) → HeadFit z n leading (4 + len) → l < n → l * z + 4 ≤ len
+inside z n leading len l f h = omega (arith, slot-before z l n h, f .room, f .slots (omega arith))
 
 loop-holds : tie.Need-loop-holds Inv-loop μ-loop
 loop-holds c = let s₀ = c .before in moved-none (s₀ .args .p) (s₀ .args .z) (s₀ .args .n) (s₀ .args .slots .now) (s₀ .args .leading) (s₀ .args .latest) (s₀ .pre .within)
 
 mul-at : tie.Need-mul-at Inv-loop μ-loop
-mul-at c = let s₀ = c .before .before .before in omega (arith, inside _ (s₀ .args .z) (s₀ .args .n) _ _ (c .before .loop .l) (s₀ .pre) (c .loop-test .taken), s₀ .good .0)
+mul-at c = let s₀ = c .before .before .before in omega (arith, inside (s₀ .args .z) (s₀ .args .n) _ _ (c .before .loop .l) (s₀ .pre) (c .loop-test .taken), s₀ .good .0)
 
 mul-if1 : tie.Need-mul-if1 Inv-loop μ-loop
-mul-if1 c = let s₀ = c .before .before .before in omega (arith, inside _ (s₀ .args .z) (s₀ .args .n) _ _ (c .before .loop .l) (s₀ .pre) (c .loop-test .taken), s₀ .good .0)
+mul-if1 c = let s₀ = c .before .before .before in omega (arith, inside (s₀ .args .z) (s₀ .args .n) _ _ (c .before .loop .l) (s₀ .pre) (c .loop-test .taken), s₀ .good .0)
 
 shared-slice-read-if1 : tie.Need-shared-slice-read-if1 Inv-loop μ-loop
-shared-slice-read-if1 c = let s₀ = c .before .before .before .before in omega (arith, inside _ (s₀ .args .z) (s₀ .args .n) _ _ (c .before .before .loop .l) (s₀ .pre) (c .before .loop-test .taken))
+shared-slice-read-if1 c = let s₀ = c .before .before .before .before in omega (arith, inside (s₀ .args .z) (s₀ .args .n) _ _ (c .before .before .loop .l) (s₀ .pre) (c .before .loop-test .taken))
 
 returns : tie.Need-returns Inv-loop μ-loop
 returns c = c .before .before .before .loop .inv
 
-add-long : tie.Need-add-long Inv-loop μ-loop
-add-long c = let s₀ = c .before .before .before .before .before in omega (arith, inside _ (s₀ .args .z) (s₀ .args .n) _ _ (c .before .before .before .loop .l) (s₀ .pre) (c .before .before .loop-test .taken), s₀ .good .0)
+add-step-after : tie.Need-add-step-after Inv-loop μ-loop
+add-step-after c = let s₀ = c .before .before .before .before .before in omega (arith, inside (s₀ .args .z) (s₀ .args .n) _ _ (c .before .before .before .loop .l) (s₀ .pre) (c .before .before .loop-test .taken), s₀ .good .0)
 
-mul-long : tie.Need-mul-long Inv-loop μ-loop
-mul-long c = let s₀ = c .before .before .before .before .before in omega (arith, inside _ (s₀ .args .z) (s₀ .args .n) _ _ (c .before .before .before .loop .l) (s₀ .pre) (c .before .before .loop-test .taken), s₀ .good .0)
+mul-step-after : tie.Need-mul-step-after Inv-loop μ-loop
+mul-step-after c = let s₀ = c .before .before .before .before .before in omega (arith, inside (s₀ .args .z) (s₀ .args .n) _ _ (c .before .before .before .loop .l) (s₀ .pre) (c .before .before .loop-test .taken), s₀ .good .0)
 
-shared-slice-read-long : tie.Need-shared-slice-read-long Inv-loop μ-loop
-shared-slice-read-long c = let s₀ = c .before .before .before .before .before .before in omega (arith, inside _ (s₀ .args .z) (s₀ .args .n) _ _ (c .before .before .before .before .loop .l) (s₀ .pre) (c .before .before .before .loop-test .taken))
+shared-slice-read-step-after : tie.Need-shared-slice-read-step-after Inv-loop μ-loop
+shared-slice-read-step-after c = let s₀ = c .before .before .before .before .before .before in omega (arith, inside (s₀ .args .z) (s₀ .args .n) _ _ (c .before .before .before .before .loop .l) (s₀ .pre) (c .before .before .before .loop-test .taken))
 
-long-requires : tie.Need-long-requires Inv-loop μ-loop
-long-requires c κs = search needs
-
-add-later : tie.Need-add-later Inv-loop μ-loop
-add-later c = omega (arith, c .long .ensures .1, c .before .before .before .before .before .before .before .pre .low)
+step-after-requires : tie.Need-step-after-requires Inv-loop μ-loop
+step-after-requires c κs = search needs
 
 later-requires : tie.Need-later-requires Inv-loop μ-loop
 later-requires c κs = search needs
@@ -62,8 +59,8 @@ loop-again c =
     let s₀ = c .before .before .before .before .before .before .before .before in
     let now = c .before .before .before .before .before .before .loop in
     let more = c .before .before .before .before .before .loop-test .taken in
-    moved-more (s₀ .args .p) (s₀ .args .z) (s₀ .args .n) (s₀ .args .slots .now) (s₀ .args .leading) (s₀ .args .latest) (now .l) (now .m) (c .before .long .result) (c .later .result)
-    more (s₀ .pre .slots (omega (arith, more))) (omega (arith, c .before .before .before .if1 .left)) (c .before .long .ensures .0) (c .later .ensures) (now .inv)
+    moved-more (s₀ .args .p) (s₀ .args .z) (s₀ .args .n) (s₀ .args .slots .now) (s₀ .args .leading) (s₀ .args .latest) (now .l) (now .m) (c .before .step-after .result) (c .later .result)
+    more (s₀ .pre .slots (omega (arith, more))) (omega (arith, c .before .before .before .if1 .left)) (c .before .step-after .ensures) (c .later .ensures) (now .inv)
 
 returns-2 : tie.Need-returns-2 Inv-loop μ-loop
 returns-2 c = c .before .loop .inv
@@ -79,11 +76,10 @@ leading-true-spec =
     mul-if1
     shared-slice-read-if1
     returns
-    add-long
-    mul-long
-    shared-slice-read-long
-    long-requires
-    add-later
+    add-step-after
+    mul-step-after
+    shared-slice-read-step-after
+    step-after-requires
     later-requires
     add-l
     loop-less

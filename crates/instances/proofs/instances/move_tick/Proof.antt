@@ -4,7 +4,7 @@ use mathlib.Core.Path.{refl}
 use native.Mathlib.Omega.{arith}
 use native.Mathlib.Nat.{div-le-self}
 use lib.ListN.{length}
-use Rattle.instances.proofs.Rules.{rule-fits, rule-takes, table-short}
+use Rattle.cell_runs.proofs.Rules.{rule-fits, rule-takes, table-short}
 use borrow.Author.Needs.{needs}
 use Rattle.instances.proofs.instances.move_tick.Statement.{statement}
 use Rattle.instances.proofs.instances.move_tick.Tie as tie

@@ -6,9 +6,9 @@ use native.Mathlib.Omega.{arith}
 use lib.Dec.{eqb}
 use lib.ListN.{length, take, drop}
 use borrow.Rule.Slice.PartMut.{putMid}
-use Rattle.instances.specs.Tree.{tree-at, words}
-use Rattle.instances.specs.Instances.{InstanceMoved}
-use Rattle.instances.proofs.Ticks.{MovedUntil, slot-inside, slot-length-at, slot-next, until-none, until-more, until-all}
+use Rattle.cell_runs.specs.Tree.{tree-at, words}
+use Rattle.cell_runs.specs.Instances.{InstanceMoved}
+use Rattle.cell_runs.proofs.Ticks.{MovedUntil, slot-inside, slot-length-at, slot-next, until-none, until-more, until-all}
 use borrow.Author.Needs.{needs}
 use Rattle.instances.proofs.instances.move_ticks.Statement.{statement}
 use Rattle.instances.proofs.instances.move_ticks.Tie as tie

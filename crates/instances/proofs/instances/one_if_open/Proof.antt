@@ -2,7 +2,7 @@
 use mathlib.Core.Path.{refl}
 use native.Mathlib.Omega.{arith}
 use Rattle.rule.specs.Steps.{is-open}
-use Rattle.instances.specs.Instances.{open-count}
+use Rattle.cell_runs.specs.Instances.{open-count}
 use borrow.Author.Needs.{needs}
 use Rattle.instances.proofs.instances.one_if_open.Statement.{statement}
 use Rattle.instances.proofs.instances.one_if_open.Tie as tie

@@ -1,5 +1,5 @@
 -- `instances::report_if_false` meets its contract: one word is written, or none.
-use Rattle.instances.proofs.Reports.{report-none, report-one, tick-open, tick-true, tick-now, tick-past}
+use Rattle.cell_runs.proofs.Reports.{report-none, report-one, tick-open, tick-true, tick-now, tick-past}
 use borrow.Author.Needs.{needs}
 use Rattle.instances.proofs.instances.report_if_false.Statement.{statement}
 use Rattle.instances.proofs.instances.report_if_false.Tie as tie

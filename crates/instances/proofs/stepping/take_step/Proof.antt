@@ -1,8 +1,8 @@
 -- `instances::stepping::take_step` meets its contract. Assumes nothing.
 use mathlib.Core.Path.{refl}
 use lib.ListN.{length}
-use Rattle.instances.specs.Answers.{state-at}
-use Rattle.instances.proofs.Takes.{admitted-as, refused-as, table-of, tick-fits}
+use Rattle.cell_runs.specs.States.{state-at}
+use Rattle.cell_runs.proofs.Takes.{admitted-as, refused-as, table-of, tick-fits}
 use borrow.Author.Needs.{needs}
 use Rattle.instances.proofs.stepping.take_step.Statement.{statement}
 use Rattle.instances.proofs.stepping.take_step.Tie as tie

@@ -1,0 +1,10 @@
+pub mod Tree
+pub mod Slots
+pub mod Leading
+pub mod Run
+pub mod Calls
+pub mod Instances
+pub mod Sized
+pub mod States
+pub mod Moves
+pub mod Batches

@@ -1,0 +1,16 @@
+-- The states that a step and a batch start from and leave.
+use Prim.Native.Nat.{ℕ, _+_}
+use mathlib.Core.List.{List}
+use Rattle.demand.specs.Contract.{State, Taken, Counts, next-state}
+
+-- A state with this body, opened length, next tick and live count.
+abbrev pub state-at : List ℕ → ℕ → ℕ → ℕ → State
+state-at b L t live = record { body-bytes = b; opened = L; next = t; live-count = live }
+
+-- A step from state s that took its tick and reported n ticks.
+abbrev pub taken-from : State → ℕ → ℕ → Taken
+taken-from s n live = record { reported = n; live-count = live; state = next-state s live }
+
+-- A batch from state s that took n flags.
+abbrev pub counts-from : State → ℕ → ℕ → ℕ → Counts
+counts-from s n pairs live = record { taken = n; pairs = pairs; state = state-at (s .body-bytes) (s .opened) (s .next + n) live }
