@@ -10,21 +10,21 @@ use Rattle.rule.specs.declared.Size.the-variants.{Finite, Unbounded}
 use Rattle.rule.proofs.Order.{by-order}
 use Rattle.cell_count.specs.Counts.{cap, sum, product, then-cells, beside-cells, range-cells, rule-cells}
 
-cap-least : (a : Size) → cap a ≤ 4097
-cap-least (Finite n) = omega arith
-cap-least Unbounded = omega arith
+pub cap-most : (a : Size) → cap a ≤ 4097
+cap-most (Finite n) = omega arith
+cap-most Unbounded = omega arith
 
 cap-larger : (a b : Size) → max (cap a) (cap b) ≡ cap (larger a b)
 unfolding larger
 cap-larger (Finite a) (Finite b) = omega arith
 cap-larger (Finite a) Unbounded = omega arith
-cap-larger Unbounded b = omega (arith, cap-least b)
+cap-larger Unbounded b = omega (arith, cap-most b)
 
-pub cap-plus : (a b : Size) → sum (cap a) (cap b) ≡ cap (plus a b)
+cap-plus : (a b : Size) → sum (cap a) (cap b) ≡ cap (plus a b)
 unfolding plus
 cap-plus (Finite a) (Finite b) = omega arith
 cap-plus (Finite a) Unbounded = omega arith
-cap-plus Unbounded b = omega (arith, cap-least b)
+cap-plus Unbounded b = omega (arith, cap-most b)
 
 grows : (a b : ℕ) → a ≤ a * suc b
 grows a b = le-mul-of-pos-right a (omega arith)
@@ -78,7 +78,3 @@ cap-is a n e h = ap cap e ∙ least n h
   where
     least : (k : ℕ) → k ≤ 4096 → min k 4097 ≡ k
     least k g = omega arith
-
-pub exact-cap : (a : Size) → cap a ≤ 4096 → a ≡ Finite (cap a)
-exact-cap (Finite n) h = let e : n ≡ min n 4097 = omega arith in ap Finite e
-exact-cap Unbounded h = absurd (omega arith)

@@ -16,6 +16,8 @@ use Rattle.rule.specs.declared.Outcome.{Outcome}
 use Rattle.rule.specs.Positions.{Fits, Lies, Within}
 use Rattle.rule.proofs.Pairs.{fits-more, range-lies, width-holds}
 use Rattle.rule.proofs.Reach.{at-most}
+use Rattle.cell_count.specs.Counts.{cap}
+use Rattle.cell_count.proofs.Saturation.{cap-most}
 use Rattle.ranges.specs.Plans.{Plans}
 use Rattle.cell_runs.specs.Tree.{Tree, flag-node, not-node, then-node, beside-node, range-node, words, Formed}
 use Rattle.cell_runs.specs.Leading.{HeadFit}
@@ -56,7 +58,7 @@ past-set t ps n q h g s v = elim (decLt v n) [
 
 pub fit-entered : (F : Tree) (e : Env) (t q b len n : ℕ) → SlotFit F e t q len → n ≡ len → PartFit F (entered e q b) t 0 4 n n
 fit-entered F e t q b len n f en =
-    let room : 4 + words F ≤ len = f .room in
+    let room : 4 + words (f .pairs) F ≤ len = f .room in
     let le : 4 ≤ len = omega arith in
     let deep : e .n < 5 = f .depth in
     let w : length (e .pos) ≡ 5 = f .five-places in
@@ -85,7 +87,11 @@ fit-entered F e t q b len n f en =
 
 -- ---- the positions of a range
 
-module _ {F : Tree} {B₁ B₂ : Bound} {w z : ℕ} {e : Env} {t len : ℕ} (f : Fit (range-node B₁ B₂ w z F) e t len) where
+module _ {F : Tree} {B₁ B₂ : Bound} {z : ℕ} {e : Env} {t len : ℕ} (f : Fit (range-node B₁ B₂ z F) e t len) where
+  -- the positions that the run has slots for
+  abbrev w : ℕ
+  w = cap (width (range-pair B₁ B₂ (f .pairs)))
+
   pub fit-head : 4 ≤ len
   unfolding words
   fit-head = let r : 4 + w * z ≤ len = f .room in omega arith
@@ -94,7 +100,7 @@ module _ {F : Tree} {B₁ B₂ : Bound} {w z : ℕ} {e : Env} {t len : ℕ} (f :
   fit-long = let a : length (e .pos) ≡ 5 = f .five-places in let d : e .n ≤ 5 = f .depth in length-take-le (e .n) (e .pos) (omega arith)
 
   -- there are no more than W
-  pub fit-few : (s first n : ℕ) (end : Outcome) → Plans (range B₁ B₂ (places e)) t s first n end → n ≤ w
+  fit-few : (s first n : ℕ) (end : Outcome) → Plans (range B₁ B₂ (places e)) t s first n end → n ≤ w
   unfolding Formed
   fit-few s first n end p = elim (decLt 0 n) [
     | no l ↦ omega arith
@@ -109,8 +115,12 @@ module _ {F : Tree} {B₁ B₂ : Bound} {w z : ℕ} {e : Env} {t len : ℕ} (f :
       same : (n : ℕ) → n + 0 ≡ n
       same n = omega arith
 
+  -- and a word can count them
+  pub fit-short : (s first n : ℕ) (end : Outcome) → Plans (range B₁ B₂ (places e)) t s first n end → n < 4294967296
+  fit-short s first n end p = omega (arith, fit-few s first n end p, cap-most (width (range-pair B₁ B₂ (f .pairs))))
+
   -- a range with a position has room for its body
-  body : 0 < w → (4 + words F ≤ z) × Formed (f .pairs ++ (range-pair B₁ B₂ (f .pairs) ∷ [])) F
+  body : 0 < w → (4 + words (f .pairs ++ (range-pair B₁ B₂ (f .pairs) ∷ [])) F ≤ z) × Formed (f .pairs ++ (range-pair B₁ B₂ (f .pairs) ∷ [])) F
   unfolding Formed
   body h = ⊎-elim (λ e. absurd (omega arith)) (λ y. y) (f .formed .1 .1)
 
@@ -151,7 +161,7 @@ module _ {F : Tree} {B₁ B₂ : Bound} {w z : ℕ} {e : Env} {t len : ℕ} (f :
       let r : 4 + w * z ≤ len = f .room in
       let few : n ≤ w = fit-few s first n end p in
       let m : n * z ≤ w * z = mul-le-mul-right z few in
-      rw ez (record { room = omega arith; slots = λ some. let wide : 4 + words F ≤ z = body (omega arith) .0 in omega arith; within = le })
+      rw ez (record { room = omega arith; slots = λ some. let wide : 4 + words (f .pairs ++ (range-pair B₁ B₂ (f .pairs) ∷ [])) F ≤ z = body (omega arith) .0 in omega arith; within = le })
 
 -- ---- the other formulas
 
@@ -160,7 +170,7 @@ pub part-room : {F : Tree} {e : Env} {t k a z len : ℕ} → PartFit F e t k a z
 part-room f = omega (arith, f .cell, f .after-cell, f .start, f .end)
 
 -- another formula of the same variables
-fit-as : (F : Tree) {G : Tree} {e : Env} {t len : ℕ} (len′ : ℕ) (f : Fit G e t len) → Formed (f .pairs) F → words F ≤ len′ → Fit F e t len′
+fit-as : (F : Tree) {G : Tree} {e : Env} {t len : ℕ} (len′ : ℕ) (f : Fit G e t len) → Formed (f .pairs) F → words (f .pairs) F ≤ len′ → Fit F e t len′
 fit-as F len′ f h r = record {
   pairs = f .pairs;
   fits = f .fits;
@@ -180,13 +190,13 @@ fit-as F len′ f h r = record {
 pub fit-first : {F G : Tree} {e : Env} {t len : ℕ} → Fit (then-node F G) e t len → PartFit F e t 0 4 len len
 unfolding words Formed
 fit-first {F} {G} {e} {t} {len} f =
-    let r : 4 + max (words F) (words G) ≤ len = f .room in
+    let r : 4 + max (words (f .pairs) F) (words (f .pairs) G) ≤ len = f .room in
     record { fit = fit-as F (len - 4) f (f .formed .0) (omega arith); cell = omega arith; after-cell = omega arith; start = omega arith; end = omega arith }
 
 pub fit-second : {F G : Tree} {e : Env} {t len : ℕ} → Fit (then-node F G) e t len → Fit G e t (len - 4)
 unfolding words Formed
 fit-second {F} {G} {e} {t} {len} f =
-    let r : 4 + max (words F) (words G) ≤ len = f .room in
+    let r : 4 + max (words (f .pairs) F) (words (f .pairs) G) ≤ len = f .room in
     fit-as G (len - 4) f (f .formed .1) (omega arith)
 
 -- the sizes and places that are read off the node are its own
@@ -196,14 +206,14 @@ fit-beside e t len F G ew eg f = rw (ew, eg) f
 pub fit-left : {w : ℕ} {F G : Tree} {e : Env} {t len : ℕ} → Fit (beside-node w F G) e t len → PartFit F e t 0 4 (4 + w) len
 unfolding words Formed
 fit-left {w} {F} {G} {e} {t} {len} f =
-    let r : 4 + w + words G ≤ len = f .room in
-    let g : words F ≤ w = f .formed .0 in
+    let r : 4 + w + words (f .pairs) G ≤ len = f .room in
+    let g : words (f .pairs) F ≤ w = f .formed .0 in
     record { fit = fit-as F (4 + w - 4) f (f .formed .1 .0) (omega arith); cell = omega arith; after-cell = omega arith; start = omega arith; end = omega arith }
 
 pub fit-right : {w : ℕ} {F G : Tree} {e : Env} {t len : ℕ} (n : ℕ) → n ≡ len → Fit (beside-node w F G) e t len → PartFit G e t 1 (4 + w) len n
 unfolding words Formed
 fit-right {w} {F} {G} {e} {t} {len} n en f =
-    let r : 4 + w + words G ≤ len = f .room in
+    let r : 4 + w + words (f .pairs) G ≤ len = f .room in
     record { fit = fit-as G (len - (4 + w)) f (f .formed .1 .1) (omega arith); cell = omega arith; after-cell = omega arith; start = omega arith; end = omega arith }
 
 pub fit-not : {F : Tree} {e : Env} {t len : ℕ} → Fit (not-node F) e t len → Fit F e t len

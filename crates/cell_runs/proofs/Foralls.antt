@@ -43,7 +43,7 @@ use Rattle.cell_runs.proofs.Heads.{leading-walk, leading-on, leading-at
 bind-tick : (env : List ℕ) (q : ℕ) → 0 < length env → own-tick (bind env q) ≡ own-tick env
 bind-tick env q h = List·getD-append env (q ∷ []) 0 0 h
 
-module _ (B₁ B₂ : Bound) (w z : ℕ) (F : Tree) (e : Env) (s t : ℕ) (run : List ℕ) (first n leading latest own : ℕ) (end : Outcome)
+module _ (B₁ B₂ : Bound) (z : ℕ) (F : Tree) (e : Env) (s t : ℕ) (run : List ℕ) (first n leading latest own : ℕ) (end : Outcome)
     (p : Plans (range B₁ B₂ (places e)) t s first n end) (eo : own ≡ own-tick (places e))
     (el : leading ≡ leading-of s t n (getD run 0 0)) (ec : latest ≡ latest-of own s leading (getD run 2 0)) (flags : ℕ → ℕ) where
   -- what the head says holds now, and the leading slots need no flag-node
@@ -58,7 +58,7 @@ module _ (B₁ B₂ : Bound) (w z : ℕ) (F : Tree) (e : Env) (s t : ℕ) (run :
       let cs : latest ≡ s = ec ∙ simp (eq-eqb leading 0 z0) in
       (rw z0 cs, λ j i. absurd (omega arith))
 
-  leading-before : (k : ℕ) → t ≡ k + 1 → s ≤ k → RunHolds flags k (places e) s (range-node B₁ B₂ w z F) run → LeadingHolds
+  leading-before : (k : ℕ) → t ≡ k + 1 → s ≤ k → RunHolds flags k (places e) s (range-node B₁ B₂ z F) run → LeadingHolds
   unfolding RunHolds SlotHolds
   leading-before k et sk rep =
       let ef : first ≡ first-of (range B₁ B₂ (places e)) = p .starts in
@@ -92,22 +92,22 @@ module _ (B₁ B₂ : Bound) (w z : ℕ) (F : Tree) (e : Env) (s t : ℕ) (run :
             (sl .0, (now ∙ sym (was .1) ∙ sl .1 .0, λ x. clash _ x now)),
       )
 
-module _ (B₁ B₂ : Bound) (w z : ℕ) (F : Tree) (hist : List ℕ) (b : ℕ) (e : Env) (s t : ℕ) (run : List ℕ) where
-  started-by : (flags : ℕ → ℕ) → RunReady flags t (places e) s (range-node B₁ B₂ w z F) run → s ≤ t
+module _ (B₁ B₂ : Bound) (z : ℕ) (F : Tree) (hist : List ℕ) (b : ℕ) (e : Env) (s t : ℕ) (run : List ℕ) where
+  started-by : (flags : ℕ → ℕ) → RunReady flags t (places e) s (range-node B₁ B₂ z F) run → s ≤ t
   unfolding RunReady
   started-by flags x = ⊎-elim (λ y. omega arith) (λ y. let et : t ≡ y .0 + 1 = y .1 in let le : s ≤ y .0 = y .2 in omega arith) x
 
   leading-ready : (first n leading latest own : ℕ) (end : Outcome) → Plans (range B₁ B₂ (places e)) t s first n end → own ≡ own-tick (places e)
       → leading ≡ leading-of s t n (getD run 0 0) → latest ≡ latest-of own s leading (getD run 2 0)
-      → (flags : ℕ → ℕ) → RunReady flags t (places e) s (range-node B₁ B₂ w z F) run
+      → (flags : ℕ → ℕ) → RunReady flags t (places e) s (range-node B₁ B₂ z F) run
       → Leading (λ q. out flags t (bind (places e) q) (max s q) F) first s leading latest × ((j : ℕ) → j < leading → SlotHolds flags t (places e) s F (first + j) (slot z j (drop 4 run)))
   unfolding RunReady
   leading-ready first n leading latest own end p eo el ec flags ready = ⊎-elim
-      (λ y. leading-now B₁ B₂ w z F e s t run first n leading latest own end p eo el ec flags y)
-      (λ y. leading-before B₁ B₂ w z F e s t run first n leading latest own end p eo el ec flags (y .0) (y .1) (y .2) (y .3 .1))
+      (λ y. leading-now B₁ B₂ z F e s t run first n leading latest own end p eo el ec flags y)
+      (λ y. leading-before B₁ B₂ z F e s t run first n leading latest own end p eo el ec flags (y .0) (y .1) (y .2) (y .3 .1))
       ready
 
-  slots-ready : (first n : ℕ) (end : Outcome) → Plans (range B₁ B₂ (places e)) t s first n end → (flags : ℕ → ℕ) → RunReady flags t (places e) s (range-node B₁ B₂ w z F) run
+  slots-ready : (first n : ℕ) (end : Outcome) → Plans (range B₁ B₂ (places e)) t s first n end → (flags : ℕ → ℕ) → RunReady flags t (places e) s (range-node B₁ B₂ z F) run
       → (j : ℕ) → j < n → SlotReady flags t (places e) s F (first + j) (slot z j (drop 4 run))
   unfolding RunReady SlotReady RunHolds SlotHolds
   slots-ready first n end p flags ready j h =
@@ -157,12 +157,12 @@ module _ (B₁ B₂ : Bound) (w z : ℕ) (F : Tree) (hist : List ℕ) (b : ℕ) 
       )
 
   -- the walk stopped at a false position: the range was not decided before, so it is false now
-  stopped : (flags : ℕ → ℕ) → RunReady flags t (places e) s (range-node B₁ B₂ w z F) run → (a d latest : ℕ) (r o : Outcome)
-      → out flags t (places e) s (range-node B₁ B₂ w z F) ≡ Decided False d → d ≤ a → a ≤ t → r ≡ Decided False a → o ≡ both (Decided True latest) r
-      → o ≡ out flags t (places e) s (range-node B₁ B₂ w z F)
+  stopped : (flags : ℕ → ℕ) → RunReady flags t (places e) s (range-node B₁ B₂ z F) run → (a d latest : ℕ) (r o : Outcome)
+      → out flags t (places e) s (range-node B₁ B₂ z F) ≡ Decided False d → d ≤ a → a ≤ t → r ≡ Decided False a → o ≡ both (Decided True latest) r
+      → o ≡ out flags t (places e) s (range-node B₁ B₂ z F)
   unfolding RunReady both
   stopped flags ready a d latest r o ed da at er eo =
-      let now : t ≡ d = fresh (formula-of (range-node B₁ B₂ w z F)) flags (places e) s t d False (⊎-elim (λ y. inl y) (λ y. inr (y .0, y .1, y .2, y .3 .0)) ready) ed in
+      let now : t ≡ d = fresh (formula-of (range-node B₁ B₂ z F)) flags (places e) s t d False (⊎-elim (λ y. inl y) (λ y. inr (y .0, y .1, y .2, y .3 .0)) ready) ed in
       let same : a ≡ d = omega arith in
       eo ∙ ap (both (Decided True latest)) er ∙ ap (Decided False) same ∙ sym ed
 
@@ -172,7 +172,7 @@ module _ (B₁ B₂ : Bound) (w z : ℕ) (F : Tree) (hist : List ℕ) (b : ℕ) 
       → leading ≡ leading-of s t n (getD run 0 0) → latest ≡ latest-of own s leading (getD run 2 0)
       → rest ≡ drop 4 run → drop 4 mid ≡ ys → PositionsWalked F hist b e s t first leading n end z rest r ys
       → HeadMoved own z n mid leading latest run′ → o ≡ both (Decided True latest) r
-      → Advanced (range-node B₁ B₂ w z F) hist b e s t run o run′
+      → Advanced (range-node B₁ B₂ z F) hist b e s t run o run′
   unfolding outcome RunHolds SlotHolds Reach formula-of
   range-of′ first n leading latest own end r o rest ys mid run′ p eo some near small el ec er ey walked c eout = record {
     gives = λ flags H hon reach ready.
@@ -180,7 +180,7 @@ module _ (B₁ B₂ : Bound) (w z : ℕ) (F : Tree) (hist : List ℕ) (b : ℕ) 
         let st : s ≤ t = started-by flags ready in
         let ef : first ≡ first-of (range B₁ B₂ (places e)) = p .starts in
         let op = leading-ready first n leading latest own end p eo el ec flags ready in
-        let whole : walk (λ q. out flags t (bind (places e) q) (max s q) F) n first end ≡ out flags t (places e) s (range-node B₁ B₂ w z F) =
+        let whole : walk (λ q. out flags t (bind (places e) q) (max s q) F) n first end ≡ out flags t (places e) s (range-node B₁ B₂ z F) =
         walk-same (λ q. out flags t (bind (places e) q) (max s q) F) (λ q. seen t q (out flags t (bind (places e) q) (max s q) F)) n first end (λ i g l. sym (seen-in t i _ (omega arith)))
         ∙ sym (p .same (λ q. seen t q (out flags t (bind (places e) q) (max s q) F)) (λ q g. seen-out t q _ g)) in
         ⊎-elim
@@ -210,20 +210,20 @@ module _ (B₁ B₂ : Bound) (w z : ℕ) (F : Tree) (hist : List ℕ) (b : ℕ) 
         ))
         (λ x.
         let last = walk-false (λ q. out flags t (bind (places e) q) (max s q) F) (x .0) first (x .1) in
-        let ed : out flags t (places e) s (range-node B₁ B₂ w z F) ≡ Decided False (last .0) = sym whole ∙ x .4 ∙ ap (walk (λ q. out flags t (bind (places e) q) (max s q) F) (x .0) first) (x .2) ∙ last .1 in
-        (stopped flags ready (x .1) (last .0) latest r o ed (last .2) (x .3) (x .2) eout, λ y. clash (out flags t (places e) s (range-node B₁ B₂ w z F)) y ed))
+        let ed : out flags t (places e) s (range-node B₁ B₂ z F) ≡ Decided False (last .0) = sym whole ∙ x .4 ∙ ap (walk (λ q. out flags t (bind (places e) q) (max s q) F) (x .0) first) (x .2) ∙ last .1 in
+        (stopped flags ready (x .1) (last .0) latest r o ed (last .2) (x .3) (x .2) eout, λ y. clash (out flags t (places e) s (range-node B₁ B₂ z F)) y ed))
         (walked .gives .1 flags H hon (λ j g h. reach (first + j) (p .inside j h)) (λ j g h. subst (λ (l : List ℕ). SlotReady flags t (places e) s F (first + j) (slot z j l)) (sym er) (slots-ready first n end p flags ready j h)));
   }
 
-module _ {B₁ B₂ : Bound} {w z : ℕ} {F : Tree} {hist : List ℕ} {b : ℕ} {e : Env} {s t : ℕ} {run : List ℕ} where
+module _ {B₁ B₂ : Bound} {z : ℕ} {F : Tree} {hist : List ℕ} {b : ℕ} {e : Env} {s t : ℕ} {run : List ℕ} where
   pub range-of : (first n leading latest own z′ : ℕ) (end r o : Outcome) (ys mid run′ : List ℕ) → z′ ≡ z → 4 ≤ length run → Plans (range B₁ B₂ (places e)) t s first n end
       → own ≡ own-tick (places e) → 0 < length (places e) → t < own-tick (places e) + 4294967296 → n < 4294967296
       → leading ≡ leading-of s t n (getD run 0 0) → latest ≡ latest-of own s leading (getD run 2 0)
       → PositionsWalked F hist b e s t first leading n end z′ (take (length run - 4) (drop 4 run)) r ys → mid ≡ putMid 4 (length run - 4) run ys
       → HeadMoved own z′ n mid leading latest run′ → o ≡ both (Decided True latest) r
-      → Advanced (range-node B₁ B₂ w z F) hist b e s t run o run′
+      → Advanced (range-node B₁ B₂ z F) hist b e s t run o run′
   range-of first n leading latest own z′ end r o ys mid run′ ez room p eo some near small el ec walked ep c eout =
-      range-of′ B₁ B₂ w z F hist b e s t run first n leading latest own end r o (take (length run - 4) (drop 4 run)) ys mid run′ p eo some near small el ec
+      range-of′ B₁ B₂ z F hist b e s t run first n leading latest own end r o (take (length run - 4) (drop 4 run)) ys mid run′ p eo some near small el ec
       (tail-take run) (ap (drop 4) ep ∙ tail-drop run ys room)
       (subst (λ (i : ℕ). PositionsWalked F hist b e s t first leading n end i (take (length run - 4) (drop 4 run)) r ys) ez walked)
       (subst (λ (i : ℕ). HeadMoved own i n mid leading latest run′) ez c) eout

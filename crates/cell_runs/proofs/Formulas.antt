@@ -54,13 +54,13 @@ module _ (ns : List ℕ) (i : ℕ) where
   is-then left h c1 c = ap (λ (n : ℕ). tree-at n ns i) (some-left h) ∙ simp (ne-eqb (getD ns (i + 0) 0) 2 c1, eq-eqb (getD ns (i + 0) 0) 3 c)
 
   pub is-beside : (left : ℕ) → (left ≡ 0 → ⊥) → (getD ns (i + 0) 0 ≡ 2 → ⊥) → (getD ns (i + 0) 0 ≡ 3 → ⊥) → getD ns (i + 0) 0 ≡ 4
-      → tree-at left ns i ≡ beside-node (getD ns (i + 10) 0) (tree-at (left - 1) ns (i + 12)) (tree-at (left - 1) ns (getD ns (i + 7) 0))
+      → tree-at left ns i ≡ beside-node (getD ns (i + 9) 0) (tree-at (left - 1) ns (i + 12)) (tree-at (left - 1) ns (getD ns (i + 7) 0))
   unfolding tree-at
   is-beside left h c1 c2 c = ap (λ (n : ℕ). tree-at n ns i) (some-left h)
       ∙ simp (ne-eqb (getD ns (i + 0) 0) 2 c1, ne-eqb (getD ns (i + 0) 0) 3 c2, eq-eqb (getD ns (i + 0) 0) 4 c)
 
   pub is-range : (left : ℕ) → (left ≡ 0 → ⊥) → (getD ns (i + 0) 0 ≡ 2 → ⊥) → (getD ns (i + 0) 0 ≡ 3 → ⊥) → (getD ns (i + 0) 0 ≡ 4 → ⊥) → getD ns (i + 0) 0 ≡ 5
-      → tree-at left ns i ≡ range-node (bound-at ns (i + 1)) (bound-at ns (i + 4)) (getD ns (i + 8) 0) (getD ns (i + 9) 0) (tree-at (left - 1) ns (i + 12))
+      → tree-at left ns i ≡ range-node (bound-at ns (i + 1)) (bound-at ns (i + 4)) (getD ns (i + 8) 0) (tree-at (left - 1) ns (i + 12))
   unfolding tree-at
   is-range left h c1 c2 c3 c = ap (λ (n : ℕ). tree-at n ns i) (some-left h)
       ∙ simp (ne-eqb (getD ns (i + 0) 0) 2 c1, ne-eqb (getD ns (i + 0) 0) 3 c2, ne-eqb (getD ns (i + 0) 0) 4 c3, eq-eqb (getD ns (i + 0) 0) 5 c)

@@ -59,22 +59,22 @@ module _ (F : Formula) (f : Figures) (ns : List ℕ) (p : Prepares F f ns) where
   tree-is = tree-sized F 64 ns (at-tick ∷ []) 0 0 (12 * formulas F) (omega (arith, p .stands .room)) (p .stands .holds) (p .sizes)
 
   -- the words of one instance, and of all
-  words-are : 4 + words (sized F (at-tick ∷ [])) ≡ 4 * (1 + limits .own)
+  words-are : 4 + words (at-tick ∷ []) (sized F (at-tick ∷ [])) ≡ 4 * (1 + limits .own)
   words-are =
       let s : limits .own ≤ 4095 = limits .small in
-      let w : words (sized F (at-tick ∷ [])) ≡ 4 * limits .own = words-sized F (at-tick ∷ []) (limits .own) (limits .own-is) (omega arith) in
+      let w : words (at-tick ∷ []) (sized F (at-tick ∷ [])) ≡ 4 * limits .own = words-sized F (at-tick ∷ []) (limits .own) (limits .own-is) (omega arith) in
       omega arith
 
-  all-words : (f .delay + 1) * (4 + words (sized F (at-tick ∷ []))) ≡ 4 * f .cells
+  all-words : (f .delay + 1) * (4 + words (at-tick ∷ []) (sized F (at-tick ∷ []))) ≡ 4 * f .cells
   all-words =
       let n : ℕ = f .delay + 1 in
       let k : ℕ = 1 + limits .own in
       ap (λ (x : ℕ). n * x) words-are ∙ sym (mul-assoc n 4 k) ∙ ap (λ (x : ℕ). x * k) (mul-comm n 4) ∙ mul-assoc 4 n k ∙ ap (λ (x : ℕ). 4 * x) (limits .needed-is)
 
-  pub slot-words : f .cells / (f .delay + 1) * 4 ≡ 4 + words (sized F (at-tick ∷ []))
+  pub slot-words : f .cells / (f .delay + 1) * 4 ≡ 4 + words (at-tick ∷ []) (sized F (at-tick ∷ []))
   slot-words =
       let q : f .cells / (f .delay + 1) ≡ 1 + limits .own = div-eq-of-eq-mul-right (omega arith) (sym (limits .needed-is)) in
-      let w : 4 + words (sized F (at-tick ∷ [])) ≡ 4 * (1 + limits .own) = words-are in
+      let w : 4 + words (at-tick ∷ []) (sized F (at-tick ∷ [])) ≡ 4 * (1 + limits .own) = words-are in
       omega arith
 
   rule-reaches : (flags : ℕ → ℕ) (q : ℕ) → Reach (f .history) flags (q ∷ []) q (formula-of (sized F (at-tick ∷ [])))
@@ -111,13 +111,13 @@ module _ (ns : List ℕ) (f : Figures) (L t : ℕ) (s : State) (at : TableOf ns 
 
   -- the cells of a state whose figures are known
   stands-as : (cells : List ℕ) (flags : ℕ → ℕ) (F : Formula) (r : body (s .body-bytes) ≡ accepted F) → Stands s cells flags
-      → InstancesHold (sized F (at-tick ∷ [])) (f .delay + 1) (4 + words (sized F (at-tick ∷ []))) flags t cells
+      → InstancesHold (sized F (at-tick ∷ [])) (f .delay + 1) (4 + words (at-tick ∷ []) (sized F (at-tick ∷ []))) flags t cells
   unfolding Stands
   stands-as cells flags F r h =
-      subst (λ (u : ℕ). InstancesHold (sized F (at-tick ∷ [])) (f .delay + 1) (4 + words (sized F (at-tick ∷ []))) flags u cells) (at .next) (h F f r (prepared F r .within))
+      subst (λ (u : ℕ). InstancesHold (sized F (at-tick ∷ [])) (f .delay + 1) (4 + words (at-tick ∷ []) (sized F (at-tick ∷ []))) flags u cells) (at .next) (h F f r (prepared F r .within))
 
   stands-next : (live : ℕ) (cells : List ℕ) (flags : ℕ → ℕ) (F : Formula) (r : body (s .body-bytes) ≡ accepted F)
-      → InstancesHold (sized F (at-tick ∷ [])) (f .delay + 1) (4 + words (sized F (at-tick ∷ []))) flags (suc t) cells → Stands (next-state s live) cells flags
+      → InstancesHold (sized F (at-tick ∷ [])) (f .delay + 1) (4 + words (at-tick ∷ []) (sized F (at-tick ∷ []))) flags (suc t) cells → Stands (next-state s live) cells flags
   unfolding Stands
   stands-next live cells flags F r h G g i w =
       let same : F ≡ G = cc in
@@ -128,12 +128,12 @@ module _ (ns : List ℕ) (f : Figures) (c : ℕ) (hist : List ℕ) (b t low : �
     (ec : c ≡ f .cells / (f .delay + 1) * 4) (el : low ≡ t + 1 - (f .delay + 1)) (room : 4 * f .cells ≤ length table) (long : length table′ ≡ length table)
     (moved : TicksMoved (tree-at 64 ns 0) (f .delay + 1) c hist b t low table report₀ reported live-count table′ report′) where
   rule-means : (F : Formula) → Prepares F f ns → (flags : ℕ → ℕ) → flags t ≡ b → Kept flags (length hist) (f .history) t hist
-      → InstancesHold (sized F (at-tick ∷ [])) (f .delay + 1) (4 + words (sized F (at-tick ∷ []))) flags t (take (4 * f .cells) table)
+      → InstancesHold (sized F (at-tick ∷ [])) (f .delay + 1) (4 + words (at-tick ∷ []) (sized F (at-tick ∷ []))) flags t (take (4 * f .cells) table)
       → (take reported report′ ≡ report F flags t) × (reported ≡ length (report F flags t)) × (live-count ≡ length (live F flags t))
-      × InstancesHold (sized F (at-tick ∷ [])) (f .delay + 1) (4 + words (sized F (at-tick ∷ []))) flags (suc t) (take (4 * f .cells) table′)
+      × InstancesHold (sized F (at-tick ∷ [])) (f .delay + 1) (4 + words (at-tick ∷ []) (sized F (at-tick ∷ []))) flags (suc t) (take (4 * f .cells) table′)
   rule-means F p flags eb kept stand =
       let T : Tree = sized F (at-tick ∷ []) in
-      let w : ℕ = 4 + words (sized F (at-tick ∷ [])) in
+      let w : ℕ = 4 + words (at-tick ∷ []) (sized F (at-tick ∷ [])) in
       let n : ℕ = f .delay + 1 in
       let whole : n * w ≡ 4 * f .cells = all-words F f ns p in
       let moved′ : TicksMoved T n w hist b t low table report₀ reported live-count table′ report′ =
@@ -190,8 +190,8 @@ module _ (ns : List ℕ) (f : Figures) (L t cells words′ : ℕ) (i : TickFit n
   rule-fits =
       let T : Tree = sized F (at-tick ∷ []) in
       let room : 4 * f .cells ≤ cells = i .cells-fit in
-      let sw : f .cells / (f .delay + 1) * 4 ≡ 4 + words T = slot-words F f ns p in
-      let whole : (f .delay + 1) * (4 + words T) ≡ 4 * f .cells = all-words F f ns p in
+      let sw : f .cells / (f .delay + 1) * 4 ≡ 4 + words (at-tick ∷ []) T = slot-words F f ns p in
+      let whole : (f .delay + 1) * (4 + words (at-tick ∷ []) T) ≡ 4 * f .cells = all-words F f ns p in
       let small : limits F f ns p .own ≤ 4095 = limits F f ns p .small in
       let scoped = body-scoped (i .state .body-bytes) F (i .table-of .reads) in
       rw (tree-is F f ns p, sw) (record {

@@ -48,7 +48,7 @@ tree-sized (beside F G) (suc n) ns ps m i e r h s =
     let b : j + 12 ≤ e = ends G ns m j e (h .1 .1) in
     simp (h .0, s .0, tree-sized F n ns ps m (i + 12) j (omega arith) (h .1 .0) (s .1 .0), tree-sized G n ns ps m j e (omega arith) (h .1 .1) (s .1 .1))
 tree-sized (forall B C F) (suc n) ns ps m i e r h s =
-    simp (h .0, h .1 .1 .0, h .1 .1 .1 .0, s .0, s .1 .0, tree-sized F n ns (ps ++ (range-pair B C ps ∷ [])) (m + 1) (i + 12) e (omega arith) (h .1 .1 .1 .1) (s .1 .1))
+    simp (h .0, h .1 .1 .0, h .1 .1 .1 .0, s .0, tree-sized F n ns (ps ++ (range-pair B C ps ∷ [])) (m + 1) (i + 12) e (omega arith) (h .1 .1 .1 .1) (s .1))
 
 -- ---- the parts of a number of cells
 
@@ -129,7 +129,7 @@ range-parts w c n e h =
         least : (k : ℕ) → k ≤ 4096 → k ≤ min k 4097
         least k h = omega arith
 
-pub words-sized : (F : Formula) (ps : List Pair) (n : ℕ) → cells F ps ≡ Finite n → n ≤ 4096 → words (sized F ps) ≡ 4 * n
+pub words-sized : (F : Formula) (ps : List Pair) (n : ℕ) → cells F ps ≡ Finite n → n ≤ 4096 → words ps (sized F ps) ≡ 4 * n
 unfolding words sized cells
 words-sized (flag v k) ps n e h = let z : 0 ≡ n = cc in omega arith
 words-sized (negate F) ps n e h = words-sized F ps n e h
@@ -138,8 +138,8 @@ words-sized (then F G) ps n e h =
     let p = larger-parts (cells F ps) (cells G ps) (o .0) (o .1) in
     let en : n ≡ 1 + o .0 = o .2 in
     let em : o .0 ≡ max (p .0) (p .1) = p .4 in
-    let a : words (sized F ps) ≡ 4 * p .0 = words-sized F ps (p .0) (p .2) (omega arith) in
-    let b : words (sized G ps) ≡ 4 * p .1 = words-sized G ps (p .1) (p .3) (omega arith) in
+    let a : words ps (sized F ps) ≡ 4 * p .0 = words-sized F ps (p .0) (p .2) (omega arith) in
+    let b : words ps (sized G ps) ≡ 4 * p .1 = words-sized G ps (p .1) (p .3) (omega arith) in
     omega arith
 words-sized (beside F G) ps n e h =
     let o = one-more (plus (cells F ps) (cells G ps)) n e in
@@ -147,7 +147,7 @@ words-sized (beside F G) ps n e h =
     let en : n ≡ 1 + o .0 = o .2 in
     let em : o .0 ≡ p .0 + p .1 = p .4 in
     let a : cap (cells F ps) ≡ p .0 = cap-is (cells F ps) (p .0) (p .2) (omega arith) in
-    let b : words (sized G ps) ≡ 4 * p .1 = words-sized G ps (p .1) (p .3) (omega arith) in
+    let b : words ps (sized G ps) ≡ 4 * p .1 = words-sized G ps (p .1) (p .3) (omega arith) in
     omega arith
 words-sized (forall B C F) ps n e h = range-parts (width (range-pair B C ps)) (cells F (ps ++ (range-pair B C ps ∷ []))) n e h .run-words
 
@@ -169,7 +169,7 @@ formed-sized (beside F G) ns ps m i e h l s n c g =
     let p = plus-parts (cells F ps) (cells G ps) (o .0) (o .1) in
     let en : n ≡ 1 + o .0 = o .2 in
     let em : o .0 ≡ p .0 + p .1 = p .4 in
-    let a : words (sized F ps) ≡ 4 * p .0 = words-sized F ps (p .0) (p .2) (omega arith) in
+    let a : words ps (sized F ps) ≡ 4 * p .0 = words-sized F ps (p .0) (p .2) (omega arith) in
     let b : cap (cells F ps) ≡ p .0 = cap-is (cells F ps) (p .0) (p .2) (omega arith) in (
       omega arith,
       (
@@ -186,7 +186,7 @@ formed-sized (forall B C F) ns ps m i e h l s n c g =
         r .width-within,
         ⊎-elim (λ z. inl z)
             (λ x.
-            let a : words (sized F (ps ++ (range-pair B C ps ∷ []))) ≡ 4 * x .0 = words-sized F (ps ++ (range-pair B C ps ∷ [])) (x .0) (x .1) (x .2) in
+            let a : words (ps ++ (range-pair B C ps ∷ [])) (sized F (ps ++ (range-pair B C ps ∷ []))) ≡ 4 * x .0 = words-sized F (ps ++ (range-pair B C ps ∷ [])) (x .0) (x .1) (x .2) in
             let b : cap (cells F (ps ++ (range-pair B C ps ∷ []))) ≡ x .0 = cap-is (cells F (ps ++ (range-pair B C ps ∷ []))) (x .0) (x .1) (x .2) in
             inr (
               omega arith,

@@ -57,7 +57,7 @@ pub record Fit (F : Tree) (e : Env) (t : ℕ) (len : ℕ) : Type 0 where
   pub fits : Fits (own-tick (places e)) pairs (places e)
   pub size : length pairs ≡ e .n
   pub formed : Formed pairs F
-  pub room : words F ≤ len
+  pub room : words pairs F ≤ len
   pub low : t < 4294967296
   pub near : t < own-tick (places e) + 4294967296
   pub past : (v : ℕ) → getD (e .pos) v 0 ≤ t
@@ -73,7 +73,7 @@ pub record SlotFit (F : Tree) (e : Env) (t q : ℕ) (len : ℕ) : Type 0 where
   pub fits : Fits (own-tick (bind (places e) q)) pairs (bind (places e) q)
   pub size : length pairs ≡ suc (e .n)
   pub formed : Formed pairs F
-  pub room : 4 + words F ≤ len
+  pub room : 4 + words pairs F ≤ len
   pub low : t < 4294967296
   pub near : t < own-tick (bind (places e) q) + 4294967296
   pub come : q ≤ t

@@ -27,7 +27,7 @@ pub record FlagsAtHand (flags : ℕ → ℕ) (H : ℕ) (hist : List ℕ) (b t : 
 
 pub record InstanceFit (F : Tree) (t p len : ℕ) : Type 0 where
   pub formed : Formed (at-tick ∷ []) F
-  pub room : 4 + words F ≤ len
+  pub room : 4 + words (at-tick ∷ []) F ≤ len
   pub low : t < 4294967295
   pub come : p ≤ t
 
@@ -53,7 +53,7 @@ InstancesHold F n c flags t cells = (k p : ℕ) → t ≡ k + 1 → p ≤ k → 
 -- What is required: nothing of what the cells hold.
 pub record TicksFit (F : Tree) (t n c len words′ : ℕ) : Type 0 where
   pub formed : Formed (at-tick ∷ []) F
-  pub room : 4 + words F ≤ c
+  pub room : 4 + words (at-tick ∷ []) F ≤ c
   pub low : t < 4294967295
   pub some : 0 < n
   pub table : n * c ≤ len

@@ -21,7 +21,7 @@ use Rattle.cell_runs.specs.States.{taken-from}
 unfoldable pub Stands : Invariant
 Stands s cells flags =
     (F : Formula) (f : Figures) → body (s .body-bytes) ≡ accepted F → figures F ≡ accepted f
-    → InstancesHold (sized F (at-tick ∷ [])) (f .delay + 1) (4 + words (sized F (at-tick ∷ []))) flags (s .next) cells
+    → InstancesHold (sized F (at-tick ∷ [])) (f .delay + 1) (4 + words (at-tick ∷ []) (sized F (at-tick ∷ []))) flags (s .next) cells
 
 -- The node table holds the rule's formula with its sizes, and the rule is within the limits.
 pub record Prepares (F : Formula) (f : Figures) (ns : List ℕ) : Type 0 where

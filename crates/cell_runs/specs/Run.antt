@@ -42,7 +42,7 @@ RunHolds flags t env s (then-node F G) run =
 RunHolds flags t env s (beside-node f F G) run =
     CellHolds (own-tick env) 0 (out flags t env s F) (RunHolds flags t env s F (window 4 (4 + f) run)) run
     × CellHolds (own-tick env) 1 (out flags t env s G) (RunHolds flags t env s G (drop (4 + f) run)) run
-RunHolds flags t env s (range-node B₁ B₂ w z F) run =
+RunHolds flags t env s (range-node B₁ B₂ z F) run =
     ((q : ℕ) → In (range B₁ B₂ env) q → q ≤ t
     → (getD (slot z (q - first-of (range B₁ B₂ env)) (drop 4 run)) 1 0 % 256 ≡ flags q)
     × CellHolds (own-tick (bind env q)) 0 (out flags t (bind env q) (max s q) F)

@@ -2,7 +2,7 @@
 use Prim.Native.Nat.{_+_, _*_}
 use mathlib.Core.List.{List, [], _∷_, _++_}
 use Rattle.rule.specs.Formula.{Formula, flag, negate, then, beside, forall}
-use Rattle.rule.specs.Figures.{range-pair, width, cells}
+use Rattle.rule.specs.Figures.{range-pair, cells}
 use Rattle.rule.specs.declared.Pair.{Pair}
 use Rattle.cell_count.specs.Counts.{cap}
 use Rattle.cell_runs.specs.Tree.{Tree, flag-node, not-node, then-node, beside-node, range-node}
@@ -14,5 +14,5 @@ sized (negate F) ps = not-node (sized F ps)
 sized (then F G) ps = then-node (sized F ps) (sized G ps)
 sized (beside F G) ps = beside-node (4 * cap (cells F ps)) (sized F ps) (sized G ps)
 sized (forall B C F) ps =
-    range-node B C (cap (width (range-pair B C ps))) (4 * (1 + cap (cells F (ps ++ (range-pair B C ps ∷ [])))))
+    range-node B C (4 * (1 + cap (cells F (ps ++ (range-pair B C ps ∷ [])))))
     (sized F (ps ++ (range-pair B C ps ∷ [])))

@@ -11,20 +11,21 @@ use Rattle.rule.specs.Figures.{range-pair, width}
 use Rattle.rule.specs.declared.Pair.{Pair}
 use Rattle.rule.specs.Positions.{Within}
 use Rattle.nodes.specs.Table.{bound-at}
+use Rattle.cell_count.specs.Counts.{cap}
 
 pub data Tree : Type 0 where
   flag-node : ℕ → ℕ → Tree
   not-node : Tree → Tree
   then-node : Tree → Tree → Tree
   beside-node : ℕ → Tree → Tree → Tree  -- the words of the first part's run
-  range-node : Bound → Bound → ℕ → ℕ → Tree → Tree  -- W, and the words of one position's slot
+  range-node : Bound → Bound → ℕ → Tree → Tree  -- the words of one position's slot
 
 unfoldable pub formula-of : Tree → Formula
 formula-of (flag-node v k) = flag v k
 formula-of (not-node F) = negate (formula-of F)
 formula-of (then-node F G) = then (formula-of F) (formula-of G)
 formula-of (beside-node f F G) = beside (formula-of F) (formula-of G)
-formula-of (range-node B₁ B₂ w z F) = forall B₁ B₂ (formula-of F)
+formula-of (range-node B₁ B₂ z F) = forall B₁ B₂ (formula-of F)
 
 -- The tree at word i of a node table, read off with `left` formulas left (crates/nodes says the layout); a flag where none is left.
 unfoldable pub tree-at : ℕ → List ℕ → ℕ → Tree
@@ -32,29 +33,32 @@ tree-at zero ns i = flag-node (getD ns (i + 1) 0) (getD ns (i + 2) 0)
 tree-at (suc left) ns i =
     cond (eqb (getD ns (i + 0) 0) 2) (not-node (tree-at left ns (i + 12)))
     (cond (eqb (getD ns (i + 0) 0) 3) (then-node (tree-at left ns (i + 12)) (tree-at left ns (getD ns (i + 7) 0)))
-    (cond (eqb (getD ns (i + 0) 0) 4) (beside-node (getD ns (i + 10) 0) (tree-at left ns (i + 12)) (tree-at left ns (getD ns (i + 7) 0)))
-    (cond (eqb (getD ns (i + 0) 0) 5) (range-node (bound-at ns (i + 1)) (bound-at ns (i + 4)) (getD ns (i + 8) 0) (getD ns (i + 9) 0) (tree-at left ns (i + 12)))
+    (cond (eqb (getD ns (i + 0) 0) 4) (beside-node (getD ns (i + 9) 0) (tree-at left ns (i + 12)) (tree-at left ns (getD ns (i + 7) 0)))
+    (cond (eqb (getD ns (i + 0) 0) 5) (range-node (bound-at ns (i + 1)) (bound-at ns (i + 4)) (getD ns (i + 8) 0) (tree-at left ns (i + 12)))
     (flag-node (getD ns (i + 1) 0) (getD ns (i + 2) 0)))))
 
 -- It is no flag.
 abbrev pub HasParts : ℕ → List ℕ → ℕ → Type 0
 HasParts left ns i = (left ≡ 0 → ⊥) × ((2 ≤ getD ns (i + 0) 0) × (getD ns (i + 0) 0 ≤ 5))
 
--- The words of a formula's run: 01's cells, four words each.
-unfoldable pub words : Tree → ℕ
-words (flag-node v k) = 0
-words (not-node F) = words F
-words (then-node F G) = 4 + max (words F) (words G)
-words (beside-node f F G) = 4 + f + words G
-words (range-node B₁ B₂ w z F) = 4 + w * z
+-- The words of a formula's run, where the variables have the pairs `ps`: 01's cells, four words each. A range has a slot for each of its W
+-- positions, which are counted up to 4,097.
+unfoldable pub words : List Pair → Tree → ℕ
+words ps (flag-node v k) = 0
+words ps (not-node F) = words ps F
+words ps (then-node F G) = 4 + max (words ps F) (words ps G)
+words ps (beside-node f F G) = 4 + f + words ps G
+words ps (range-node B₁ B₂ z F) = 4 + cap (width (range-pair B₁ B₂ ps)) * z
 
--- Where the variables have the pairs `ps`, the sizes are enough, each flag's variable is bound and at most 4 quantifiers are nested. The body of
--- a range with no position is never looked at, and its sizes may be past every word: nothing is asked of it.
+-- Where the variables have the pairs `ps`, a range's W is its count, the sizes are enough, each flag's variable is bound and at most 4 quantifiers
+-- are nested. The body of a range with no position is never looked at, and its sizes may be past every word: nothing is asked of it.
 unfoldable pub Formed : List Pair → Tree → Type 0
 Formed ps (flag-node v k) = v < length ps
 Formed ps (not-node F) = Formed ps F
 Formed ps (then-node F G) = Formed ps F × Formed ps G
-Formed ps (beside-node f F G) = (words F ≤ f) × (Formed ps F × Formed ps G)
-Formed ps (range-node B₁ B₂ w z F) =
+Formed ps (beside-node f F G) = (words ps F ≤ f) × (Formed ps F × Formed ps G)
+Formed ps (range-node B₁ B₂ z F) =
     (length ps < 5)
-    × (Within (width (range-pair B₁ B₂ ps)) w × ((w ≡ 0) ⊎ ((4 + words F ≤ z) × Formed (ps ++ (range-pair B₁ B₂ ps ∷ [])) F)))
+    × (Within (width (range-pair B₁ B₂ ps)) (cap (width (range-pair B₁ B₂ ps)))
+    × ((cap (width (range-pair B₁ B₂ ps)) ≡ 0)
+    ⊎ ((4 + words (ps ++ (range-pair B₁ B₂ ps ∷ [])) F ≤ z) × Formed (ps ++ (range-pair B₁ B₂ ps ∷ [])) F)))

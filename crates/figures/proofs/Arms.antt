@@ -5,10 +5,10 @@ use mathlib.Core.Logic.{_⊎_, inl, inr}
 use mathlib.Core.Bool.{false}
 use mathlib.Core.List.{List, [], _∷_, _++_}
 use native.Mathlib.Omega.{arith}
-use lib.ListN.{length, getD, set, length-set}
+use lib.ListN.{length, getD, set}
 use lib.Seq.{getD-set-same, getD-set-other}
 use Rattle.rule.specs.Formula.{Bound, Formula, flag, negate, then, beside, forall}
-use Rattle.rule.specs.Figures.{larger, range-pair, N, width}
+use Rattle.rule.specs.Figures.{larger, range-pair, N}
 use Rattle.rule.specs.declared.Size.{Size}
 use Rattle.rule.specs.declared.Pair.{Pair}
 use Rattle.nodes.specs.Table.{bound-at, Holds}
@@ -16,7 +16,6 @@ use Rattle.nodes.specs.declared.operand.Operand.{Operand}
 use Rattle.nodes.specs.Nots.{past-nots}
 use Rattle.nodes.proofs.Nodes.{ends, Same, same-bound, frame}
 use Rattle.nodes.proofs.Nots.{over-nots}
-use Rattle.cell_count.specs.Counts.{cap}
 use Rattle.figures.specs.declared.scope.Scope.{Scope}
 use Rattle.figures.specs.declared.measure.Figure.{Figure}
 use Rattle.figures.specs.Distances.{inside, Near, farthest, Modest}
@@ -46,16 +45,13 @@ keep-sizes (then F G) old new ps m i e s h z =
     two-sizes F G old new ps m i e s (λ e′ x. keep-sizes F old new ps m (i + 12) e′ x) (λ j x. keep-sizes G old new ps m j e x) (h .1 .0) (h .1 .1) z
 keep-sizes (beside F G) old new ps m i e s h z =
     let a : i + 12 ≤ e = ends (beside F G) old m i e h in (
-      s (i + 10) (omega arith) (omega arith) ∙ z .0,
+      s (i + 9) (omega arith) (omega arith) ∙ z .0,
       two-sizes F G old new ps m i e s (λ e′ x. keep-sizes F old new ps m (i + 12) e′ x) (λ j x. keep-sizes G old new ps m j e x) (h .1 .0) (h .1 .1) (z .1),
     )
 keep-sizes (forall B C F) old new ps m i e s h z =
     let a : i + 12 ≤ e = ends (forall B C F) old m i e h in (
       s (i + 8) (omega arith) (omega arith) ∙ z .0,
-      (
-        s (i + 9) (omega arith) (omega arith) ∙ z .1 .0,
-        keep-sizes F old new (ps ++ (range-pair B C ps ∷ [])) (m + 1) (i + 12) e (λ k x y. s k (omega arith) y) (h .1 .1 .1 .1) (z .1 .1),
-      ),
+      keep-sizes F old new (ps ++ (range-pair B C ps ∷ [])) (m + 1) (i + 12) e (λ k x y. s k (omega arith) y) (h .1 .1 .1 .1) (z .1),
     )
 
 -- ---- the arms that write nothing
@@ -168,7 +164,7 @@ module _ (old : List ℕ) (left m i w : ℕ) (ps : List Pair) (start : Size) (q 
     then-arm k c ek p′ er (beside F G) e h l n = absurd (omega arith)
     then-arm k c ek p′ er (forall B C F) e h l n = absurd (omega arith)
 
-    pub beside-arm : (n₃ : List ℕ) → w ≡ 4 → Promise (left - 1) m j ps start n₁ n₂ g → length n₂ ≡ length n₁ → n₃ ≡ set n₂ (i + 10) (4 * f .cells) → r ≡ beside-figure f g
+    pub beside-arm : (n₃ : List ℕ) → w ≡ 4 → Promise (left - 1) m j ps start n₁ n₂ g → length n₂ ≡ length n₁ → n₃ ≡ set n₂ (i + 9) (4 * f .cells) → r ≡ beside-figure f g
         → Promise left m i ps start old n₃ r
     unfolding Holds SizesAt
     beside-arm n₃ c p′ len′ en er (beside F G) e h l n =
@@ -193,11 +189,11 @@ module _ (old : List ℕ) (left m i w : ℕ) (ps : List Pair) (start : Size) (q 
           outside = λ x o. either x t b o;
         }
       where
-        other : (x : ℕ) → (x ≡ i + 10 → ⊥) → getD n₃ x 0 ≡ getD n₂ x 0
-        other x d = ap (λ (ns : List ℕ). getD ns x 0) en ∙ getD-set-other n₂ (i + 10) x (4 * f .cells) 0 d
+        other : (x : ℕ) → (x ≡ i + 9 → ⊥) → getD n₃ x 0 ≡ getD n₂ x 0
+        other x d = ap (λ (ns : List ℕ). getD ns x 0) en ∙ getD-set-other n₂ (i + 9) x (4 * f .cells) 0 d
 
-        written : i + 10 < length n₂ → getD n₃ (i + 10) 0 ≡ 4 * f .cells
-        written d = ap (λ (ns : List ℕ). getD ns (i + 10) 0) en ∙ getD-set-same n₂ (i + 10) (4 * f .cells) 0 d
+        written : i + 9 < length n₂ → getD n₃ (i + 9) 0 ≡ 4 * f .cells
+        written d = ap (λ (ns : List ℕ). getD ns (i + 9) 0) en ∙ getD-set-same n₂ (i + 9) (4 * f .cells) 0 d
 
         either : (x : ℕ) → Both F G e start n₂ f g → getD old (i + 7) 0 + 12 ≤ e → (x < i) ⊎ (e ≤ x) → getD n₃ x 0 ≡ getD old x 0
         either x t b (inl a) = other x (λ d. omega arith) ∙ t .low x (omega arith)
@@ -210,21 +206,12 @@ module _ (old : List ℕ) (left m i w : ℕ) (ps : List Pair) (start : Size) (q 
   -- a quantifier: R its variable's pair
   module _ (R : Pair) (eR : R ≡ range-pair (bound-at old (i + 1)) (bound-at old (i + 4)) ps) (c : w ≡ 5) (k : Size) (ek : k ≡ larger start (N (R .upper)))
       (ps′ : List Pair) (ep : ps′ ≡ ps ++ (R ∷ [])) (n₁ n₃ : List ℕ) (f r : Figure) (len : length n₁ ≡ length old)
-      (en : n₃ ≡ set (set n₁ (i + 8) (cap (width R))) (i + 9) (4 * (1 + f .cells))) where
-    other : (x : ℕ) → (x ≡ i + 8 → ⊥) → (x ≡ i + 9 → ⊥) → getD n₃ x 0 ≡ getD n₁ x 0
-    other x a b =
-        ap (λ (ns : List ℕ). getD ns x 0) en ∙ getD-set-other (set n₁ (i + 8) (cap (width R))) (i + 9) x (4 * (1 + f .cells)) 0 b
-        ∙ getD-set-other n₁ (i + 8) x (cap (width R)) 0 a
+      (en : n₃ ≡ set n₁ (i + 8) (4 * (1 + f .cells))) where
+    other : (x : ℕ) → (x ≡ i + 8 → ⊥) → getD n₃ x 0 ≡ getD n₁ x 0
+    other x d = ap (λ (ns : List ℕ). getD ns x 0) en ∙ getD-set-other n₁ (i + 8) x (4 * (1 + f .cells)) 0 d
 
-    word-8 : i + 8 < length n₁ → getD n₃ (i + 8) 0 ≡ cap (width R)
-    word-8 h =
-        ap (λ (ns : List ℕ). getD ns (i + 8) 0) en ∙ getD-set-other (set n₁ (i + 8) (cap (width R))) (i + 9) (i + 8) (4 * (1 + f .cells)) 0 (λ d. omega arith)
-        ∙ getD-set-same n₁ (i + 8) (cap (width R)) 0 h
-
-    word-9 : i + 9 < length n₁ → getD n₃ (i + 9) 0 ≡ 4 * (1 + f .cells)
-    word-9 h =
-        let g : length (set n₁ (i + 8) (cap (width R))) ≡ length n₁ = length-set n₁ (i + 8) (cap (width R)) in
-        ap (λ (ns : List ℕ). getD ns (i + 9) 0) en ∙ getD-set-same (set n₁ (i + 8) (cap (width R))) (i + 9) (4 * (1 + f .cells)) 0 (omega arith)
+    written : i + 8 < length n₁ → getD n₃ (i + 8) 0 ≡ 4 * (1 + f .cells)
+    written d = ap (λ (ns : List ℕ). getD ns (i + 8) 0) en ∙ getD-set-same n₁ (i + 8) (4 * (1 + f .cells)) 0 d
 
     pub forall-arm : r ≡ range-figure R start f → Promise (left - 1) (m + 1) (i + 12) ps′ k old n₁ f → Promise left m i ps start old n₃ r
     unfolding Holds SizesAt
@@ -239,37 +226,34 @@ module _ (old : List ℕ) (left m i w : ℕ) (ps : List Pair) (start : Size) (q 
         record {
           figure = subst (λ (y : Figure). FigureOf (forall B C F) ps start y) (sym (er ∙ ap (λ (y : Pair). range-figure y start f) eQ)) (forall-of B C F ps start f fig);
           holds = (
-            same (i + 0) (omega arith) (λ d. omega arith) (λ d. omega arith) x ∙ h .0,
+            same (i + 0) (omega arith) (λ d. omega arith) x ∙ h .0,
             (
               h .1 .0,
               (
                 same-bounds (i + 1) (omega arith) x ∙ h .1 .1 .0,
                 (
                   same-bounds (i + 4) (omega arith) x ∙ h .1 .1 .1 .0,
-                  frame F n₁ n₃ (m + 1) (i + 12) e (λ t u v. other t (λ d. omega arith) (λ d. omega arith)) (x .holds),
+                  frame F n₁ n₃ (m + 1) (i + 12) e (λ t u v. other t (λ d. omega arith)) (x .holds),
                 ),
               ),
             ),
           );
           sizes = (
-            word-8 (omega arith) ∙ ap (λ (y : Pair). cap (width y)) eQ,
-            (
-              word-9 (omega arith) ∙ ap (λ (n : ℕ). 4 * (1 + n)) (fig .cells-is),
-              keep-sizes F n₁ n₃ (ps ++ (range-pair B C ps ∷ [])) (m + 1) (i + 12) e (λ t u v. other t (λ d. omega arith) (λ d. omega arith)) (x .holds) (subst (λ (y : List Pair). SizesAt F n₁ y (i + 12)) eP (x .sizes)),
-            ),
+            written (omega arith) ∙ ap (λ (n : ℕ). 4 * (1 + n)) (fig .cells-is),
+            keep-sizes F n₁ n₃ (ps ++ (range-pair B C ps ∷ [])) (m + 1) (i + 12) e (λ t u v. other t (λ d. omega arith)) (x .holds) (subst (λ (y : List Pair). SizesAt F n₁ y (i + 12)) eP (x .sizes)),
           );
           outside = λ t o. either t bound x o;
         }
       where
-        same : (t : ℕ) → t < i + 12 → (t ≡ i + 8 → ⊥) → (t ≡ i + 9 → ⊥) → Measured F ps′ k (m + 1) (i + 12) e old n₁ f → getD n₃ t 0 ≡ getD old t 0
-        same t u a b x = other t a b ∙ x .outside t (inl u)
+        same : (t : ℕ) → t < i + 12 → (t ≡ i + 8 → ⊥) → Measured F ps′ k (m + 1) (i + 12) e old n₁ f → getD n₃ t 0 ≡ getD old t 0
+        same t u d x = other t d ∙ x .outside t (inl u)
 
         same-bounds : (t : ℕ) → t + 2 < i + 8 → Measured F ps′ k (m + 1) (i + 12) e old n₁ f → bound-at n₃ t ≡ bound-at old t
-        same-bounds t u x = same-bound old n₃ t (t + 3) t (λ y a b. same y (omega arith) (λ d. omega arith) (λ d. omega arith) x) (omega arith) (omega arith)
+        same-bounds t u x = same-bound old n₃ t (t + 3) t (λ y a b. same y (omega arith) (λ d. omega arith) x) (omega arith) (omega arith)
 
         either : (t : ℕ) → i + 12 ≤ e → Measured F ps′ k (m + 1) (i + 12) e old n₁ f → (t < i) ⊎ (e ≤ t) → getD n₃ t 0 ≡ getD old t 0
-        either t b x (inl a) = same t (omega arith) (λ d. omega arith) (λ d. omega arith) x
-        either t b x (inr a) = other t (λ d. omega arith) (λ d. omega arith) ∙ x .outside t (inr a)
+        either t b x (inl a) = same t (omega arith) (λ d. omega arith) x
+        either t b x (inr a) = other t (λ d. omega arith) ∙ x .outside t (inr a)
     forall-arm er p (flag v b) e h l n = absurd (omega arith)
     forall-arm er p (negate F) e h l n = absurd (omega arith)
     forall-arm er p (then F G) e h l n = absurd (omega arith)

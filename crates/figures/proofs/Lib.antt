@@ -4,4 +4,3 @@ mod Distances
 mod Parts
 mod Arms
 pub mod Bodies
-pub mod Exact

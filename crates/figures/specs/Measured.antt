@@ -1,11 +1,11 @@
--- The sizes that the engine needs, in the words 8 to 10 of a node, and what measuring a formula answers and writes.
+-- The sizes that the engine needs, in the words 8 and 9 of a node, and what measuring a formula answers and writes.
 use Prim.Native.Nat.{ℕ, _+_, _*_, _≤_, _<_}
 use mathlib.Core.Path.{_≡_}
 use mathlib.Core.Logic.{_⊎_}
 use mathlib.Core.List.{List, [], _∷_, _++_}
 use lib.ListN.{length, getD}
 use Rattle.rule.specs.Formula.{Formula, flag, negate, then, beside, forall}
-use Rattle.rule.specs.Figures.{range-pair, width, cells}
+use Rattle.rule.specs.Figures.{range-pair, cells}
 use Rattle.rule.specs.declared.Size.{Size}
 use Rattle.rule.specs.declared.Pair.{Pair}
 use Rattle.nodes.specs.Table.{Holds}
@@ -15,18 +15,17 @@ use Rattle.figures.specs.declared.measure.Figure.{Figure}
 use Rattle.figures.specs.Distances.{inside, Modest}
 use Rattle.figures.specs.Parts.{FigureOf}
 
--- Beside: word 10 is the words of the first part's run. For all: word 8 is W, word 9 the words of one position's slot. All are made of
--- cells that are counted up to 4,097: within the limits these are 01's figures.
+-- Beside: word 9 is the words of the first part's run. For all: word 8 is the words of one position's slot. Both are made of cells that are
+-- counted up to 4,097: within the limits these are 01's figures.
 unfoldable pub SizesAt : Formula → List ℕ → List Pair → ℕ → Type 0
 SizesAt (flag v k) ns ps i = Unit {0}
 SizesAt (negate F) ns ps i = SizesAt F ns ps (i + 12)
 SizesAt (then F G) ns ps i = SizesAt F ns ps (i + 12) × SizesAt G ns ps (getD ns (i + 7) 0)
 SizesAt (beside F G) ns ps i =
-    (getD ns (i + 10) 0 ≡ 4 * cap (cells F ps)) × (SizesAt F ns ps (i + 12) × SizesAt G ns ps (getD ns (i + 7) 0))
+    (getD ns (i + 9) 0 ≡ 4 * cap (cells F ps)) × (SizesAt F ns ps (i + 12) × SizesAt G ns ps (getD ns (i + 7) 0))
 SizesAt (forall B C F) ns ps i =
-    (getD ns (i + 8) 0 ≡ cap (width (range-pair B C ps)))
-    × ((getD ns (i + 9) 0 ≡ 4 * (1 + cap (cells F (ps ++ (range-pair B C ps ∷ [])))))
-    × SizesAt F ns (ps ++ (range-pair B C ps ∷ [])) (i + 12))
+    (getD ns (i + 8) 0 ≡ 4 * (1 + cap (cells F (ps ++ (range-pair B C ps ∷ [])))))
+    × SizesAt F ns (ps ++ (range-pair B C ps ∷ [])) (i + 12)
 
 -- What measuring the formula F in the words from i to e answers and writes.
 pub record Measured (F : Formula) (ps : List Pair) (start : Size) (m i e : ℕ) (old new : List ℕ) (r : Figure) : Type 0 where

@@ -1,11 +1,10 @@
 // The figures of a formula from its parts', over the node table, and the sizes of its nodes.
 ghost use mathlib.Core.Path.{_≡_};
 ghost use mathlib.Core.List.{[], _∷_};
-ghost use Prim.Native.Nat.{_+_, _*_, _≤_};
+ghost use Prim.Native.Nat.{_+_};
 ghost use lib.ListN.{set};
-ghost use Rattle.rule.specs.Figures.{N, larger, width, at-tick};
+ghost use Rattle.rule.specs.Figures.{N, larger, at-tick};
 ghost use Rattle.rule.specs.declared.Size.the-variants.{Finite};
-ghost use Rattle.cell_count.specs.Counts.{cap};
 ghost use Rattle.figures.specs.Distances.{Near, farthest, Modest, Ready};
 ghost use Rattle.figures.specs.Parts.{flag-figure, then-figure, beside-figure, range-figure};
 ghost use Rattle.figures.specs.Measured.{Measures, Promise};
@@ -29,7 +28,6 @@ use nodes::NODE_WORDS;
 use nodes::SECOND_PART;
 use nodes::SLOT_WORDS;
 use nodes::THEN_CODE;
-use nodes::WIDTH;
 use nodes::node_word;
 use nodes::skip_nots;
 use rule::Limit;
@@ -118,17 +116,6 @@ fn store(nodes: &mut [u32], i: usize, k: usize, v: u16)
     nodes[i + k] = v as u32;
 }
 
-// Stores a range's W and the words of one position's slot: a cell and its body's c cells.
-fn store_range(nodes: &mut [u32], i: usize, r: Pair, c: u16)
-    requires { ⌜ Near farthest (r .lower) × (Near farthest (r .upper) × (c ≤ 4097)) ⌝ }
-    ensures { λ _. ⌜ now (nodes .exit) ≡ set (set (now (nodes .entry)) (i + 8) (cap (width r))) (i + 9) (4 * (1 + c)) ⌝ }
-{
-    let l = r.lower;
-    let u = r.upper;
-    store(nodes, i, WIDTH, range_width(l, u));
-    store(nodes, i, SLOT_WORDS, 4 * (1 + c));
-}
-
 // The figures of the formula at word i, inside m quantifiers and started at `start` at the latest, with the sizes of its nodes stored.
 // A not has its part's figures and no sizes: a run of nots is skipped.
 fn measure_at(
@@ -175,7 +162,7 @@ fn measure_at(
             with_pair(scope, m, r),
             k,
         );
-        store_range(nodes, u.i, r, f.cells);
+        store(nodes, u.i, SLOT_WORDS, 4 * (1 + f.cells));
         return range_figure(r, start, f);
     }
     flag_figure()

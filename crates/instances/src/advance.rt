@@ -34,13 +34,6 @@ fn wide(b: u8) -> u32
     b as u32
 }
 
-// The words of one position's slot, for the range whose node starts at word i. The range's width, as every word, is below 2^32.
-fn slot_words(nodes: &[u32], i: usize) -> u32
-    ensures { λ r. ⌜ (r ≡ getD (now (nodes .entry)) (i + 9) 0) × (getD (now (nodes .entry)) (i + 8) 0 < 4294967296) ⌝ }
-{
-    node_word(nodes, i, SLOT_WORDS)
-}
-
 // Whether the formula at word i is a flag: so is every code but 2 to 5, and whatever stands there with no formula left.
 fn is_flag(nodes: &[u32], left: usize, i: usize) -> bool
     ensures { λ r. ⌜ (r ≡ true → tree-at left (now (nodes .entry)) i ≡ flag-node (getD (now (nodes .entry)) (i + 1) 0) (getD (now (nodes .entry)) (i + 2) 0)) × (r ≡ false → HasParts left (now (nodes .entry)) i) ⌝ }
@@ -244,10 +237,10 @@ fn advance_range(
     s: u64,
     t: u64,
 ) -> Outcome
-    requires { ⌜ (i < 768) × Fit (range-node (bound-at (now nodes) (i + 1)) (bound-at (now nodes) (i + 4)) (getD (now nodes) (i + 8) 0) (getD (now nodes) (i + 9) 0) (tree-at left (now nodes) (i + 12))) (env-of m (now pos) (now byte)) t (length (now run)) ⌝ }
-    ensures { λ r. ⌜ Advanced (range-node (bound-at (now (nodes .entry)) (i + 1)) (bound-at (now (nodes .entry)) (i + 4)) (getD (now (nodes .entry)) (i + 8) 0) (getD (now (nodes .entry)) (i + 9) 0) (tree-at left (now (nodes .entry)) (i + 12))) (now (history .entry)) flag (env-of m (now (pos .entry)) (now (byte .entry))) s t (now (run .entry)) r (now (run .exit)) ⌝ }
+    requires { ⌜ (i < 768) × Fit (range-node (bound-at (now nodes) (i + 1)) (bound-at (now nodes) (i + 4)) (getD (now nodes) (i + 8) 0) (tree-at left (now nodes) (i + 12))) (env-of m (now pos) (now byte)) t (length (now run)) ⌝ }
+    ensures { λ r. ⌜ Advanced (range-node (bound-at (now (nodes .entry)) (i + 1)) (bound-at (now (nodes .entry)) (i + 4)) (getD (now (nodes .entry)) (i + 8) 0) (tree-at left (now (nodes .entry)) (i + 12))) (now (history .entry)) flag (env-of m (now (pos .entry)) (now (byte .entry))) s t (now (run .entry)) r (now (run .exit)) ⌝ }
 {
-    let z = slot_words(nodes, i) as usize;
+    let z = node_word(nodes, i, SLOT_WORDS) as usize;
     let span = ranges::range_at(nodes, i, pos);
     let plan = ranges::plan_up_to(span, t, s);
     let first = plan.first;
@@ -349,8 +342,8 @@ fn advance_beside(
     s: u64,
     t: u64,
 ) -> Outcome
-    requires { ⌜ (i < 768) × Fit (beside-node (getD (now nodes) (i + 10) 0) (tree-at left (now nodes) (i + 12)) (tree-at left (now nodes) (getD (now nodes) (i + 7) 0))) (env-of m (now pos) (now byte)) t (length (now run)) ⌝ }
-    ensures { λ r. ⌜ Advanced (beside-node (getD (now (nodes .entry)) (i + 10) 0) (tree-at left (now (nodes .entry)) (i + 12)) (tree-at left (now (nodes .entry)) (getD (now (nodes .entry)) (i + 7) 0))) (now (history .entry)) flag (env-of m (now (pos .entry)) (now (byte .entry))) s t (now (run .entry)) r (now (run .exit)) ⌝ }
+    requires { ⌜ (i < 768) × Fit (beside-node (getD (now nodes) (i + 9) 0) (tree-at left (now nodes) (i + 12)) (tree-at left (now nodes) (getD (now nodes) (i + 7) 0))) (env-of m (now pos) (now byte)) t (length (now run)) ⌝ }
+    ensures { λ r. ⌜ Advanced (beside-node (getD (now (nodes .entry)) (i + 9) 0) (tree-at left (now (nodes .entry)) (i + 12)) (tree-at left (now (nodes .entry)) (getD (now (nodes .entry)) (i + 7) 0))) (now (history .entry)) flag (env-of m (now (pos .entry)) (now (byte .entry))) s t (now (run .entry)) r (now (run .exit)) ⌝ }
 {
     let z = run.len();
     let mid = 4 + node_word(nodes, i, FIRST_WORDS) as usize;

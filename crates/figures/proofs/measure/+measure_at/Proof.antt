@@ -21,7 +21,6 @@ use Rattle.figures.proofs.measure.body_start.Reads as body-start-reads
 use Rattle.figures.proofs.measure.flag_figure.Reads as flag-figure-reads
 use Rattle.figures.proofs.measure.range_figure.Reads as range-figure-reads
 use Rattle.figures.proofs.measure.store.Reads as store-reads
-use Rattle.figures.proofs.measure.store_range.Reads as store-range-reads
 use Rattle.figures.proofs.measure.then_figure.Reads as then-figure-reads
 use Rattle.figures.proofs.scope.range_pair.Reads as range-pair-reads
 use Rattle.figures.proofs.scope.with_pair.Reads as with-pair-reads
@@ -42,7 +41,7 @@ measure-at-below t =
     and 1 measure-at-kinds.ps (falls 1 measure-at-kinds.ps _<_ μ-measure-at t) measure-at.Pre
 
 abbrev measure-at-claims : ℕ → measure-at-lts.Claims
-measure-at-claims t = (skip-nots-reads.Asked, skip-nots-reads.Learnt, flag-figure-reads.Asked, flag-figure-reads.Learnt, node-word-reads.Asked, node-word-reads.Learnt, measure-at-below t, measure-at.Post, larger-size-reads.Asked, larger-size-reads.Learnt, then-figure-reads.Asked, then-figure-reads.Learnt, store-reads.Asked, store-reads.Learnt, beside-figure-reads.Asked, beside-figure-reads.Learnt, range-pair-reads.Asked, range-pair-reads.Learnt, body-start-reads.Asked, body-start-reads.Learnt, with-pair-reads.Asked, with-pair-reads.Learnt, store-range-reads.Asked, store-range-reads.Learnt, range-figure-reads.Asked, range-figure-reads.Learnt)
+measure-at-claims t = (skip-nots-reads.Asked, skip-nots-reads.Learnt, flag-figure-reads.Asked, flag-figure-reads.Learnt, node-word-reads.Asked, node-word-reads.Learnt, measure-at-below t, measure-at.Post, larger-size-reads.Asked, larger-size-reads.Learnt, then-figure-reads.Asked, then-figure-reads.Learnt, store-reads.Asked, store-reads.Learnt, beside-figure-reads.Asked, beside-figure-reads.Learnt, range-pair-reads.Asked, range-pair-reads.Learnt, body-start-reads.Asked, body-start-reads.Learnt, with-pair-reads.Asked, with-pair-reads.Learnt, range-figure-reads.Asked, range-figure-reads.Learnt)
 
 -- what is known of a quantifier's pair
 abbrev Ranged : ℕ → Type 0
@@ -363,33 +362,39 @@ measure-at-measure-at-requires-5 measure c κs =
       },
     )
 
-measure-at-store-range-requires : (t : ℕ) → measure-at-lts.Need-store-range-requires (measure-at-claims t) (measure-at-at t) measure-at.Post
-measure-at-store-range-requires measure c κs =
-    let at-range-pair = c .before .before .before .before .before .before .before .before .before .range-pair in
-    let at-measure-at5 = c .before .before .before .measure-at5 in
-    (lower-ok measure (c .before .before .before .before .before .before .before .before .before), (upper-ok measure (c .before .before .before .before .before .before .before .before .before), at-measure-at5 .ensures .small))
+measure-at-add-store : (t : ℕ) → measure-at-lts.Need-add-store (measure-at-claims t) (measure-at-at t) measure-at.Post
+measure-at-add-store measure c =
+    let at-measure-at5 = c .before .before .before .before .measure-at5 in
+    omega (arith, at-measure-at5 .ensures .small)
+
+measure-at-mul-store-2 : (t : ℕ) → measure-at-lts.Need-mul-store-2 (measure-at-claims t) (measure-at-at t) measure-at.Post
+measure-at-mul-store-2 measure c =
+    let at-measure-at5 = c .before .before .before .before .measure-at5 in
+    omega (arith, at-measure-at5 .ensures .small)
+
+measure-at-store-requires-2 : (t : ℕ) → measure-at-lts.Need-store-requires-2 (measure-at-claims t) (measure-at-at t) measure-at.Post
+measure-at-store-requires-2 t c κs = tt
 
 measure-at-range-figure-requires : (t : ℕ) → measure-at-lts.Need-range-figure-requires (measure-at-claims t) (measure-at-at t) measure-at.Post
 measure-at-range-figure-requires measure c κs =
-    let s₀ = c .before .before .before .before .before .before .before .before .before .before .before .before .before .before .before .before .before .before .before .before .before .before .before .before .before in
-    let at-range-pair = c .before .before .before .before .before .before .before .before .before .before .before .before .range-pair in
-    (lower-ok measure (c .before .before .before .before .before .before .before .before .before .before .before .before), (upper-ok measure (c .before .before .before .before .before .before .before .before .before .before .before .before), s₀ .pre .1 .begun))
+    let s₀ = c .before .before .before .before .before .before .before .before .before .before .before .before .before .before .before .before .before .before .before .before .before .before .before .before .before .before in
+    (lower-ok measure (c .before .before .before .before .before .before .before .before .before .before .before .before .before), (upper-ok measure (c .before .before .before .before .before .before .before .before .before .before .before .before .before), s₀ .pre .1 .begun))
 
 measure-at-same-length-5 : (t : ℕ) → measure-at-lts.Need-same-length-5 (measure-at-claims t) (measure-at-at t) measure-at.Post
 measure-at-same-length-5 t c = search needs
 
 measure-at-returns-5 : (t : ℕ) → measure-at-lts.Need-returns-5 (measure-at-claims t) (measure-at-at t) measure-at.Post
 measure-at-returns-5 measure c =
-    let s₀ = c .before .before .before .before .before .before .before .before .before .before .before .before .before .before .before .before .before .before .before .before .before .before .before .before .before .before in
-    let at-skip-nots = c .before .before .before .before .before .before .before .before .before .before .before .before .before .before .before .before .before .before .before .before .before .before .before .skip-nots in
-    let at-if1 = c .before .before .before .before .before .before .before .before .before .before .before .before .before .before .before .before .before .before .before .before .before .if1 in
-    let at-node-word = c .before .before .before .before .before .before .before .before .before .before .before .before .before .before .before .before .before .before .before .node-word in
-    let at-if4 = c .before .before .before .before .before .before .before .before .before .before .before .before .before .before .before .before .if4 in
-    let at-range-pair = c .before .before .before .before .before .before .before .before .before .before .before .before .before .range-pair in
-    let at-body-start = c .before .before .before .before .before .before .before .before .before .before .before .before .body-start in
-    let at-with-pair = c .before .before .before .before .before .before .before .before .with-pair in
-    let at-measure-at5 = c .before .before .before .before .before .before .before .measure-at5 in
-    let at-store-range = c .before .before .before .store-range in
+    let s₀ = c .before .before .before .before .before .before .before .before .before .before .before .before .before .before .before .before .before .before .before .before .before .before .before .before .before .before .before in
+    let at-skip-nots = c .before .before .before .before .before .before .before .before .before .before .before .before .before .before .before .before .before .before .before .before .before .before .before .before .skip-nots in
+    let at-if1 = c .before .before .before .before .before .before .before .before .before .before .before .before .before .before .before .before .before .before .before .before .before .before .if1 in
+    let at-node-word = c .before .before .before .before .before .before .before .before .before .before .before .before .before .before .before .before .before .before .before .before .node-word in
+    let at-if4 = c .before .before .before .before .before .before .before .before .before .before .before .before .before .before .before .before .before .if4 in
+    let at-range-pair = c .before .before .before .before .before .before .before .before .before .before .before .before .before .before .range-pair in
+    let at-body-start = c .before .before .before .before .before .before .before .before .before .before .before .before .before .body-start in
+    let at-with-pair = c .before .before .before .before .before .before .before .before .before .with-pair in
+    let at-measure-at5 = c .before .before .before .before .before .before .before .before .measure-at5 in
+    let at-store = c .before .before .before .store2 in
     let at-range-figure = c .range-figure in
     let old = s₀ .args .nodes .now in
     let left = s₀ .args .left in
@@ -400,9 +405,9 @@ measure-at-returns-5 measure c =
     let start = s₀ .args .start in
     let u = at-skip-nots .result in
     let w = at-node-word .result in
-    let v = range-safe (at-range-pair .result) start (at-measure-at5 .result) (at-range-figure .result) (at-range-figure .ensures) (at-measure-at5 .ensures .modest) (upper-ok measure (c .before .before .before .before .before .before .before .before .before .before .before .before .before)) in
-    above-nots old (at-store-range .last .0) left m i sc start (at-range-figure .result) u (at-skip-nots .ensures)
-    (record { small = v .0; modest = v .1; promise = forall-arm old (u .left) m (u .i) w ps start (at-node-word .ensures) (at-if1 .left) (at-range-pair .result) (at-range-pair .ensures) (at-if4 .taken) (at-body-start .result) (at-body-start .ensures) (inside (at-with-pair .result) (m + 1)) (at-with-pair .ensures) (at-measure-at5 .last .0) (at-store-range .last .0) (at-measure-at5 .result) (at-range-figure .result) (at-measure-at5 .kept .0) (at-store-range .ensures) (at-range-figure .ensures) (at-measure-at5 .ensures .promise) })
+    let v = range-safe (at-range-pair .result) start (at-measure-at5 .result) (at-range-figure .result) (at-range-figure .ensures) (at-measure-at5 .ensures .modest) (upper-ok measure (c .before .before .before .before .before .before .before .before .before .before .before .before .before .before)) in
+    above-nots old (at-store .last .0) left m i sc start (at-range-figure .result) u (at-skip-nots .ensures)
+    (record { small = v .0; modest = v .1; promise = forall-arm old (u .left) m (u .i) w ps start (at-node-word .ensures) (at-if1 .left) (at-range-pair .result) (at-range-pair .ensures) (at-if4 .taken) (at-body-start .result) (at-body-start .ensures) (inside (at-with-pair .result) (m + 1)) (at-with-pair .ensures) (at-measure-at5 .last .0) (at-store .last .0) (at-measure-at5 .result) (at-range-figure .result) (at-measure-at5 .kept .0) (at-store .ensures) (at-range-figure .ensures) (at-measure-at5 .ensures .promise) })
 
 measure-at-flag-figure-requires-3 : (t : ℕ) → measure-at-lts.Need-flag-figure-requires-3 (measure-at-claims t) (measure-at-at t) measure-at.Post
 measure-at-flag-figure-requires-3 t c κs = tt
@@ -476,7 +481,9 @@ pub +measure-at-spec : {M : Type 1} → statement M
     (measure-at-add-measure-at-4 t)
     (measure-at-with-pair-requires t)
     (measure-at-measure-at-requires-5 t)
-    (measure-at-store-range-requires t)
+    (measure-at-add-store t)
+    (measure-at-mul-store-2 t)
+    (measure-at-store-requires-2 t)
     (measure-at-range-figure-requires t)
     (measure-at-same-length-5 t)
     (measure-at-returns-5 t)

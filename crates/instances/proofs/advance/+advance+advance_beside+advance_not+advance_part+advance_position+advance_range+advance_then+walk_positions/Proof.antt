@@ -25,7 +25,7 @@ use Rattle.cell_runs.proofs.Besides.{beside-of, beside-stopped}
 use Rattle.cell_runs.proofs.Foralls.{plan-here, range-of}
 use Rattle.cell_runs.proofs.Formulas.{flag-of, is-then, is-beside, is-range}
 use Rattle.cell_runs.proofs.Nots.{fit-nots, nots-of}
-use Rattle.cell_runs.proofs.Fits.{tail-length, window-length, slot-length, fit-entered, fit-head, fit-few, fit-long, fit-walk, fit-store, part-room, fit-first, fit-second, fit-beside, fit-left, fit-right, fit-flag, fit-come}
+use Rattle.cell_runs.proofs.Fits.{tail-length, window-length, slot-length, fit-entered, fit-head, fit-short, fit-long, fit-walk, fit-store, part-room, fit-first, fit-second, fit-beside, fit-left, fit-right, fit-flag, fit-come}
 use borrow.Fn.Kinds.{In}
 use borrow.Fn.PlainCycle.{Measures, is, falls, and}
 use Rattle.instances.proofs.advance.advance.Reads as advance
@@ -55,7 +55,6 @@ use Rattle.instances.proofs.advance.+advance+advance_beside+advance_not
 use Rattle.instances.proofs.advance.flag_in.Reads as flag-in-reads
 use Rattle.instances.proofs.advance.is_false.Reads as is-false-reads
 use Rattle.instances.proofs.advance.is_flag.Reads as is-flag-reads
-use Rattle.instances.proofs.advance.slot_words.Reads as slot-words-reads
 use Rattle.instances.proofs.advance.wide.Reads as wide-reads
 use Rattle.cells.proofs.load_outcome.Reads as load-outcome-reads
 use Rattle.cells.proofs.store_outcome.Reads as store-outcome-reads
@@ -215,7 +214,7 @@ abbrev advance-position-claims : ℕ → advance-position-lts.Claims
 advance-position-claims t = (later-reads.Asked, later-reads.Learnt, byte-of-reads.Asked, byte-of-reads.Learnt, wide-reads.Asked, wide-reads.Learnt, advance-part-below t, advance-part.Post)
 
 abbrev advance-range-claims : ℕ → advance-range-lts.Claims
-advance-range-claims t = (slot-words-reads.Asked, slot-words-reads.Learnt, range-at-reads.Asked, range-at-reads.Learnt, plan-up-to-reads.Asked, plan-up-to-reads.Learnt, own-tick-reads.Asked, own-tick-reads.Learnt, load-head-reads.Asked, load-head-reads.Learnt, walk-positions-below t, walk-positions.Post, move-head-reads.Asked, move-head-reads.Learnt, both-reads.Asked, both-reads.Learnt)
+advance-range-claims t = (node-word-reads.Asked, node-word-reads.Learnt, range-at-reads.Asked, range-at-reads.Learnt, plan-up-to-reads.Asked, plan-up-to-reads.Learnt, own-tick-reads.Asked, own-tick-reads.Learnt, load-head-reads.Asked, load-head-reads.Learnt, walk-positions-below t, walk-positions.Post, move-head-reads.Asked, move-head-reads.Learnt, both-reads.Asked, both-reads.Learnt)
 
 abbrev advance-then-claims : ℕ → advance-then-lts.Claims
 advance-then-claims t = (advance-part-below t, advance-part.Post, node-word-reads.Asked, node-word-reads.Learnt, advance-below t, advance.Post)
@@ -543,7 +542,7 @@ advance-beside-returns-2 measure c =
     let at-node-word = c .before .before .before .before .before .before .before .before .before .before .before .before .before .node-word in
     let at-node-word2 = c .before .before .before .before .before .node-word2 in
     let fit = fit-beside env t (length run) (tree-at left nodes (i + 12)) (tree-at left nodes) (at-node-word .ensures) (at-node-word2 .ensures) (s₀ .pre .1 .1) in
-    subst (λ (m : ℕ). Advanced (beside-node (getD nodes (i + 10) 0) (tree-at left nodes (i + 12)) (tree-at left nodes m)) hist b env s t run (at-both .result) (at-advance-part2 .last .1 .1 .1 .0)) (at-node-word2 .ensures)
+    subst (λ (m : ℕ). Advanced (beside-node (getD nodes (i + 9) 0) (tree-at left nodes (i + 12)) (tree-at left nodes m)) hist b env s t run (at-both .result) (at-advance-part2 .last .1 .1 .1 .0)) (at-node-word2 .ensures)
     (subst (λ (n : ℕ). Advanced (beside-node n (tree-at left nodes (i + 12)) (tree-at left nodes (at-node-word2 .result))) hist b env s t run (at-both .result) (at-advance-part2 .last .1 .1 .1 .0)) (at-node-word .ensures)
     (beside-of (at-advance-part .last .1 .1 .1 .0) (at-advance-part2 .last .1 .1 .1 .0) (at-advance-part .result) (at-advance-part2 .result) (at-both .result) (fit-left fit .end) (at-advance-part .ensures) (at-advance-part2 .ensures) (at-both .ensures)))
 
@@ -743,8 +742,8 @@ advance-position-returns measure c =
     (omega (arith, s₀ .pre .1 .room)) (omega (arith, s₀ .pre .1 .room))
     (⊎-elim (λ x. inl (x .2 .result, x .0 .taken, x .3, x .2 .ensures .0 ∙ x .1 .ensures, x .2 .ensures .1)) (λ x. inr (x .0 .left, x .1)) (at-if1 .came)) (at-advance-part .ensures)
 
-advance-range-slot-words-requires : (t : ℕ) → advance-range-lts.Need-slot-words-requires (advance-range-claims t) (advance-range-at t) advance-range.Post
-advance-range-slot-words-requires t c κs = search needs
+advance-range-node-word-requires : (t : ℕ) → advance-range-lts.Need-node-word-requires (advance-range-claims t) (advance-range-at t) advance-range.Post
+advance-range-node-word-requires t c κs = search needs
 
 advance-range-cast-z : (t : ℕ) → advance-range-lts.Need-cast-z (advance-range-claims t) (advance-range-at t) advance-range.Post
 advance-range-cast-z t c = search needs
@@ -789,15 +788,15 @@ advance-range-walk-positions-requires measure c κs =
     let env = env-of (s₀ .args .m) (s₀ .args .pos .now) (s₀ .args .byte .now) in
     let s = s₀ .args .s in
     let t = s₀ .args .t in
-    let at-slot-words = c .before .before .before .before .before .before .before .slot-words in
+    let at-node-word = c .before .before .before .before .before .before .before .node-word in
     let at-range-at = c .before .before .before .before .before .range-at in
     let at-plan-up-to = c .before .before .before .before .plan-up-to in
     let at-own-tick = c .before .before .before .own-tick in
     let at-load-head = c .before .load-head in
     let plan = plan-here (bound-at nodes (i + 1)) (bound-at nodes (i + 4)) env t s (at-plan-up-to .result .first) (at-plan-up-to .result .n) (at-plan-up-to .result .end) (positions-of (at-range-at .result)) (s₀ .pre .1 .1 .low) (s₀ .pre .1 .1 .past) (s₀ .pre .1 .1 .unbound) (at-range-at .ensures) (at-plan-up-to .ensures) in (
       omega (arith, s₀ .pre .0),
-      fit-walk (s₀ .pre .1 .1) s (at-plan-up-to .result .first) (at-load-head .result .leading) (at-plan-up-to .result .n) (at-slot-words .result) (length (take (length run - 4) (drop 4 run))) (at-plan-up-to .result .end)
-          (subst (λ (x : ℕ). x ≤ at-plan-up-to .result .n) (sym (at-load-head .ensures .0)) (leading-in-least s t (at-plan-up-to .result .n) run)) (at-slot-words .ensures .0) (tail-length run) plan,
+      fit-walk (s₀ .pre .1 .1) s (at-plan-up-to .result .first) (at-load-head .result .leading) (at-plan-up-to .result .n) (at-node-word .result) (length (take (length run - 4) (drop 4 run))) (at-plan-up-to .result .end)
+          (subst (λ (x : ℕ). x ≤ at-plan-up-to .result .n) (sym (at-load-head .ensures .0)) (leading-in-least s t (at-plan-up-to .result .n) run)) (at-node-word .ensures) (tail-length run) plan,
     )
 
 advance-range-move-head-requires : (t : ℕ) → advance-range-lts.Need-move-head-requires (advance-range-claims t) (advance-range-at t) advance-range.Post
@@ -809,15 +808,15 @@ advance-range-move-head-requires measure c κs =
     let env = env-of (s₀ .args .m) (s₀ .args .pos .now) (s₀ .args .byte .now) in
     let s = s₀ .args .s in
     let t = s₀ .args .t in
-    let at-slot-words = c .before .before .before .before .before .before .before .before .before .before .before .slot-words in
+    let at-node-word = c .before .before .before .before .before .before .before .before .before .before .before .node-word in
     let at-range-at = c .before .before .before .before .before .before .before .before .before .range-at in
     let at-plan-up-to = c .before .before .before .before .before .before .before .before .plan-up-to in
     let at-own-tick = c .before .before .before .before .before .before .before .own-tick in
     let at-load-head = c .before .before .before .before .before .load-head in
     let at-walk-positions = c .before .before .before .walk-positions in
     let plan = plan-here (bound-at nodes (i + 1)) (bound-at nodes (i + 4)) env t s (at-plan-up-to .result .first) (at-plan-up-to .result .n) (at-plan-up-to .result .end) (positions-of (at-range-at .result)) (s₀ .pre .1 .1 .low) (s₀ .pre .1 .1 .past) (s₀ .pre .1 .1 .unbound) (at-range-at .ensures) (at-plan-up-to .ensures) in
-    fit-store (s₀ .pre .1 .1) s (at-plan-up-to .result .first) (at-load-head .result .leading) (at-plan-up-to .result .n) (at-slot-words .result) (length (putMid 4 (length run - 4) run (at-walk-positions .last .1 .1 .1 .0))) (at-plan-up-to .result .end)
-    (subst (λ (x : ℕ). x ≤ at-plan-up-to .result .n) (sym (at-load-head .ensures .0)) (leading-in-least s t (at-plan-up-to .result .n) run)) (at-slot-words .ensures .0) (same-len-mid 4 (length run - 4) run (at-walk-positions .last .1 .1 .1 .0) (at-walk-positions .kept .1 .1 .1 .0)) plan
+    fit-store (s₀ .pre .1 .1) s (at-plan-up-to .result .first) (at-load-head .result .leading) (at-plan-up-to .result .n) (at-node-word .result) (length (putMid 4 (length run - 4) run (at-walk-positions .last .1 .1 .1 .0))) (at-plan-up-to .result .end)
+    (subst (λ (x : ℕ). x ≤ at-plan-up-to .result .n) (sym (at-load-head .ensures .0)) (leading-in-least s t (at-plan-up-to .result .n) run)) (at-node-word .ensures) (same-len-mid 4 (length run - 4) run (at-walk-positions .last .1 .1 .1 .0) (at-walk-positions .kept .1 .1 .1 .0)) plan
 
 advance-range-both-requires : (t : ℕ) → advance-range-lts.Need-both-requires (advance-range-claims t) (advance-range-at t) advance-range.Post
 advance-range-both-requires t c κs = search needs
@@ -839,7 +838,7 @@ advance-range-returns measure c =
     let env = env-of (s₀ .args .m) (s₀ .args .pos .now) (s₀ .args .byte .now) in
     let s = s₀ .args .s in
     let t = s₀ .args .t in
-    let at-slot-words = c .before .before .before .before .before .before .before .before .before .before .before .before .before .before .before .slot-words in
+    let at-node-word = c .before .before .before .before .before .before .before .before .before .before .before .before .before .before .before .node-word in
     let at-range-at = c .before .before .before .before .before .before .before .before .before .before .before .before .before .range-at in
     let at-plan-up-to = c .before .before .before .before .before .before .before .before .before .before .before .before .plan-up-to in
     let at-own-tick = c .before .before .before .before .before .before .before .before .before .before .before .own-tick in
@@ -848,9 +847,9 @@ advance-range-returns measure c =
     let at-move-head = c .before .before .before .move-head in
     let at-both = c .both in
     let plan = plan-here (bound-at nodes (i + 1)) (bound-at nodes (i + 4)) env t s (at-plan-up-to .result .first) (at-plan-up-to .result .n) (at-plan-up-to .result .end) (positions-of (at-range-at .result)) (s₀ .pre .1 .1 .low) (s₀ .pre .1 .1 .past) (s₀ .pre .1 .1 .unbound) (at-range-at .ensures) (at-plan-up-to .ensures) in
-    range-of (at-plan-up-to .result .first) (at-plan-up-to .result .n) (at-load-head .result .leading) (at-load-head .result .latest) (at-own-tick .result) (at-slot-words .result) (at-plan-up-to .result .end) (at-walk-positions .result) (at-both .result) (at-walk-positions .last .1 .1 .1 .0) (putMid 4 (length run - 4) run (at-walk-positions .last .1 .1 .1 .0)) (at-move-head .last .0)
-    (at-slot-words .ensures .0) (fit-head (s₀ .pre .1 .1)) plan (at-own-tick .ensures ∙ tick-is env (s₀ .pre .1 .1 .some)) (omega (arith, fit-long (s₀ .pre .1 .1), s₀ .pre .1 .1 .some)) (s₀ .pre .1 .1 .near)
-    (omega (arith, fit-few (s₀ .pre .1 .1) s (at-plan-up-to .result .first) (at-plan-up-to .result .n) (at-plan-up-to .result .end) plan, at-slot-words .ensures .1))
+    range-of (at-plan-up-to .result .first) (at-plan-up-to .result .n) (at-load-head .result .leading) (at-load-head .result .latest) (at-own-tick .result) (at-node-word .result) (at-plan-up-to .result .end) (at-walk-positions .result) (at-both .result) (at-walk-positions .last .1 .1 .1 .0) (putMid 4 (length run - 4) run (at-walk-positions .last .1 .1 .1 .0)) (at-move-head .last .0)
+    (at-node-word .ensures) (fit-head (s₀ .pre .1 .1)) plan (at-own-tick .ensures ∙ tick-is env (s₀ .pre .1 .1 .some)) (omega (arith, fit-long (s₀ .pre .1 .1), s₀ .pre .1 .1 .some)) (s₀ .pre .1 .1 .near)
+    (fit-short (s₀ .pre .1 .1) s (at-plan-up-to .result .first) (at-plan-up-to .result .n) (at-plan-up-to .result .end) plan)
     (at-load-head .ensures .0 ∙ leading-there s t (at-plan-up-to .result .n) run (omega (arith, fit-head (s₀ .pre .1 .1)))) (at-load-head .ensures .1) (at-walk-positions .ensures) refl (at-move-head .ensures) (at-both .ensures)
 
 advance-then-add-advance-part : (t : ℕ) → advance-then-lts.Need-add-advance-part (advance-then-claims t) (advance-then-at t) advance-then.Post
@@ -1229,7 +1228,7 @@ pub +advance+advance-beside+advance-not+advance-part+advance-position+advance-ra
     (λ t. advance-range-lts.spec (advance-range-claims t)
     (advance-range-at t)
     advance-range.Post
-    (advance-range-slot-words-requires t)
+    (advance-range-node-word-requires t)
     (advance-range-cast-z t)
     (advance-range-range-at-requires t)
     (advance-range-plan-up-to-requires t)
