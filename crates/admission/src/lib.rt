@@ -8,7 +8,7 @@ ghost use Rattle.admission.specs.Admitted.{Small, Admitted};
 use figures::FigureAnswer;
 use figures::clear_if_refused;
 use nodes::TABLE_WORDS;
-use nodes::fill;
+use nodes::clear;
 use refusal::Refusal;
 use rule::Figures;
 
@@ -105,7 +105,7 @@ pub fn admit_step(
     ensures { λ r. ⌜ Admitted (now (body .entry)) opened tick history cells report r (now (nodes .exit)) ⌝ }
 {
     if 4096 < opened {
-        fill(nodes, 0);
+        clear(nodes);
         return FigureAnswer::Refused(Refusal::StateNotOpened);
     }
     let a = figures::prepare(body, nodes);

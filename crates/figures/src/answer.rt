@@ -9,7 +9,7 @@ ghost use Rattle.figures.specs.Prepared.{told, Kept};
 use cell_count::rule_cells;
 use cell_count::within_limit;
 use nodes::TABLE_WORDS;
-use nodes::fill;
+use nodes::clear;
 use refusal::Refusal;
 use rule::Figures;
 use rule::Size;
@@ -25,7 +25,7 @@ pub fn clear_if_refused(a: FigureAnswer, nodes: &mut [u32; TABLE_WORDS])
     ensures { λ _. ⌜ Kept (told a) (now (nodes .entry)) (now (nodes .exit)) ⌝ }
 {
     match a {
-        FigureAnswer::Refused(_) => fill(nodes, 0),
+        FigureAnswer::Refused(_) => clear(nodes),
         FigureAnswer::Sized(_) => {}
     }
 }

@@ -11,7 +11,7 @@ use Rattle.rule.specs.Body.{Head, refuse, flag-head, negate-head, then-head, be
 use Rattle.rule.proofs.Order.{by-order}
 use Rattle.rule.proofs.Reading.{require-holds, bound-holds, formula-step, Advances, advances}
 use Rattle.rule.proofs.Heads.{Only, Accepts, accepts-reads, Positive, head-positive}
-use Rattle.reader.specs.Checks.{head-number}
+use Rattle.formula_bytes.specs.Checks.{head-number}
 use Rattle.reader.specs.Filled.{End, ending, end-of}
 
 pub head-accepts : (s : List ℕ) (at m left : ℕ) → head-number (head s at m left) ≡ 0 → Accepts (head s at m left)

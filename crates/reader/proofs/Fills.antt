@@ -20,7 +20,7 @@ use Rattle.nodes.specs.Table.{bound-of, bound-at, Holds}
 use Rattle.nodes.proofs.Nodes.{frame}
 use Rattle.reader.specs.declared.Part.{Part}
 use Rattle.reader.specs.declared.Part.the-variants.{Refused, Ended}
-use Rattle.reader.specs.Checks.{head-number}
+use Rattle.formula_bytes.specs.Checks.{head-number}
 use Rattle.reader.specs.Written.{place, head-word, Headed}
 use Rattle.reader.specs.Filled.{ending, end-of, ended, Placed, Filled}
 use Rattle.reader.proofs.Ends.{refused-end, flag-end, negate-end, forall-end, first-refused, second-end, second-below}

@@ -1,4 +1,3 @@
-mod Refusals
 mod Nodes
 mod Ends
 mod Fills

@@ -1,4 +1,3 @@
-pub mod Checks
 pub mod Written
 pub mod Filled
 pub mod Decoded

@@ -1,21 +1,18 @@
 // The body reader: a body's formula into the node table, or its refusal: 4 to 10, 23 or 24.
-mod bounds;
-mod checks;
-mod codes;
 mod writer;
 
 ghost use Prim.Native.Nat.{_≤_};
 ghost use lib.ListN.{length};
 ghost use Rattle.reader.specs.Filled.{Filled};
 ghost use Rattle.reader.specs.Decoded.{Decoded};
-use checks::Check;
-use checks::head_check;
-use codes::FLAG;
-use codes::FORALL;
-use codes::NOT;
+use formula_bytes::Check;
+use formula_bytes::FLAG_CODE_BYTE;
+use formula_bytes::FORALL_CODE_BYTE;
+use formula_bytes::NOT_CODE_BYTE;
+use formula_bytes::head_check;
 use nodes::FORMULAS;
 use nodes::TABLE_WORDS;
-use nodes::fill;
+use nodes::clear;
 use refusal::Refusal;
 use writer::node_place;
 use writer::write_head;
@@ -45,13 +42,13 @@ fn read_formula(s: &[u8], nodes: &mut [u32], at: usize, m: usize, left: usize) -
     let i = node_place(left);
     write_head(s, at, nodes, i);
     let code = s[at];
-    if code == FLAG {
+    if code == FLAG_CODE_BYTE {
         return Part::Ended(at + 3, left - 1);
     }
-    if code == NOT {
+    if code == NOT_CODE_BYTE {
         return read_formula(s, nodes, at + 1, m, left - 1);
     }
-    if code == FORALL {
+    if code == FORALL_CODE_BYTE {
         return read_formula(s, nodes, at + 9, m + 1, left - 1);
     }
     let first = read_formula(s, nodes, at + 1, m, left - 1);
@@ -72,14 +69,14 @@ pub fn read_body(body: &[u8], nodes: &mut [u32; TABLE_WORDS]) -> Reading
     let part = read_formula(body, nodes, 0, 0, FORMULAS);
     match part {
         Part::Refused(x) => {
-            fill(nodes, 0);
+            clear(nodes);
             Reading::Refused(x)
         }
         Part::Ended(next, _) => {
             if next == body.len() {
                 Reading::Stored
             } else {
-                fill(nodes, 0);
+                clear(nodes);
                 Reading::Refused(Refusal::BytesLeftOver)
             }
         }

@@ -1,18 +1,16 @@
 -- `admission::admit_step` meets its contract.
 -- Assumes nothing.
-use Rattle.nodes.proofs.Nodes.{cleared}
 use Rattle.admission.proofs.Admits.{sized-small, step-above, step-no-rule, step-fits}
 use borrow.Author.Needs.{needs}
 use Rattle.admission.proofs.admit_step.Statement.{statement}
 use Rattle.admission.proofs.admit_step.Tie as tie
 
-fill-requires : tie.Need-fill-requires
-fill-requires c κs = search needs
+clear-requires : tie.Need-clear-requires
+clear-requires c κs = search needs
 
 returns : tie.Need-returns
 returns c =
-    step-above _ _ _ _ _ _ _ (c .before .before .if1 .taken)
-    (cleared (c .before .before .before .before .args .nodes .now) (search needs) (c .fill .ensures))
+    step-above _ _ _ _ _ _ _ (c .before .before .if1 .taken) (c .clear .ensures)
 
 prepare-requires : tie.Need-prepare-requires
 prepare-requires c κs = search needs
@@ -42,7 +40,7 @@ pub admit-step-spec : {M : Type 1} → statement M
 admit-step-spec =
     tie.close
     (tie.spec
-    fill-requires
+    clear-requires
     returns
     prepare-requires
     enum-told

@@ -6,7 +6,7 @@ use native.Mathlib.Omega.{arith}
 use lib.ListN.{length, set}
 use Rattle.words.specs.Words.{byte}
 use Rattle.rule.specs.Body.{head}
-use Rattle.reader.specs.Checks.{check-number}
+use Rattle.formula_bytes.specs.Checks.{check-number}
 use Rattle.reader.specs.Written.{Headed, place}
 use Rattle.rule.proofs.Heads.{Accepts, Tested, accepts-tested, flag-room, forall-room}
 use Rattle.reader.specs.Filled.{Filled}
@@ -18,7 +18,7 @@ use borrow.Fn.PlainCycle.{Measures, is, falls, and}
 use Rattle.reader.proofs.read_formula.Reads as read-formula
 use Rattle.reader.proofs.read_formula.Kinds as read-formula-kinds
 use Rattle.reader.proofs.+read_formula.Lts-read_formula as read-formula-lts
-use Rattle.reader.proofs.checks.head_check.Reads as head-check-reads
+use Rattle.formula_bytes.proofs.head_check.Reads as head-check-reads
 use Rattle.reader.proofs.writer.node_place.Reads as node-place-reads
 use Rattle.reader.proofs.writer.write_head.Reads as write-head-reads
 use Rattle.reader.proofs.writer.write_second.Reads as write-second-reads

@@ -1,5 +1,4 @@
 -- `reader::read_body` meets its contract.
-use Rattle.nodes.proofs.Nodes.{cleared}
 use Rattle.reader.proofs.Bodies.{body-refused, body-whole, body-longer}
 use borrow.Author.Needs.{needs}
 use Rattle.reader.proofs.read_body.Statement.{statement}
@@ -11,19 +10,19 @@ read-formula-requires c κs = search needs
 enum-known-part : tie.Need-enum-known-part
 enum-known-part c = search needs
 
-fill-requires : tie.Need-fill-requires
-fill-requires c κs = search needs
+clear-requires : tie.Need-clear-requires
+clear-requires c κs = search needs
 
 enum-known-part-2 : tie.Need-enum-known-part-2
 enum-known-part-2 c = search needs
 
-fill-requires-2 : tie.Need-fill-requires-2
-fill-requires-2 c κs = search needs
+clear-requires-2 : tie.Need-clear-requires-2
+clear-requires-2 c κs = search needs
 
 returns : tie.Need-returns
 returns c =
     let p = c .before .before .before .before .before in
-    body-refused _ _ _ _ (p .read-formula .ensures) _ _ (c .before .before .before .part .given .1) (cleared (p .read-formula .last .1 .0) (search needs) (c .fill .ensures))
+    body-refused _ _ _ _ (p .read-formula .ensures) _ _ (c .before .before .before .part .given .1) (c .clear .ensures)
 
 returns-2 : tie.Need-returns-2
 returns-2 c =
@@ -34,7 +33,7 @@ returns-3 : tie.Need-returns-3
 returns-3 c =
     let p = c .before .before .before .before .before .before in
     body-longer _ _ _ _ (p .read-formula .ensures) _ _ (c .before .before .before .before .part2 .given .1) _ (c .before .before .if1 .left)
-    (cleared (p .read-formula .last .1 .0) (search needs) (c .fill2 .ensures))
+    (c .clear2 .ensures)
 
 pub read-body-spec : {M : Type 1} → statement M
 read-body-spec =
@@ -42,9 +41,9 @@ read-body-spec =
     (tie.spec
     read-formula-requires
     enum-known-part
-    fill-requires
+    clear-requires
     enum-known-part-2
-    fill-requires-2
+    clear-requires-2
     returns
     returns-2
     returns-3)

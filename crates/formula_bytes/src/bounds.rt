@@ -1,0 +1,89 @@
+// The refusals of one bound, in the order 5, 6, 23, 24, 8 of document 02, point 1. The tests of 6 to 8 are functions of their own, each equal to the
+// definition's.
+ghost use mathlib.Core.Path.{_≡_};
+ghost use mathlib.Core.Bool.{not, _||_};
+ghost use Prim.Native.Nat.{_+_, _≤_};
+ghost use lib.Dec.{leb, eqb};
+ghost use lib.ListN.{length};
+ghost use lib.IntN.{natAbs};
+ghost use Rattle.rule.specs.Body.{signed, require-bound, negate-head};
+ghost use Rattle.formula_bytes.specs.Checks.{check-number, head-number};
+use crate::INFINITY_KIND_BYTE;
+use crate::VARIABLE_KIND_BYTE;
+use crate::checks::Check;
+use refusal::Refusal;
+use words::byte_after;
+use words::word_at;
+
+// Kind 2 names a variable that is bound here, inside m quantifiers; the other kinds name none.
+fn variable_is_bound(kind: u8, v: usize, m: usize) -> bool
+    ensures { λ r. ⌜ r ≡ (not (eqb kind 2) || leb v m) ⌝ }
+{
+    if kind == VARIABLE_KIND_BYTE {
+        v <= m
+    } else {
+        true
+    }
+}
+
+// The variable byte of position 0 and infinity is 0.
+fn variable_byte_fits(kind: u8, v: usize) -> bool
+    ensures { λ r. ⌜ r ≡ (eqb kind 2 || eqb v 0) ⌝ }
+{
+    if kind == VARIABLE_KIND_BYTE {
+        true
+    } else {
+        v == 0
+    }
+}
+
+// Infinity has no offset: its 16 bits w are 0.
+fn offset_allowed(kind: u8, w: usize) -> bool
+    ensures { λ r. ⌜ r ≡ (not (eqb kind 1) || eqb w 0) ⌝ }
+{
+    if kind == INFINITY_KIND_BYTE {
+        w == 0
+    } else {
+        true
+    }
+}
+
+// An offset of 16 bits w lies from -4,095 to 4,095.
+fn offset_in_range(w: usize) -> bool
+    ensures { λ r. ⌜ r ≡ leb (natAbs (signed w)) 4095 ⌝ }
+{
+    if w <= 4095 {
+        return true;
+    }
+    61441 <= w
+}
+
+// The bound whose 4 bytes start at a position, inside m quantifiers.
+pub(crate) fn bound_check(s: &[u8], at: usize, m: usize) -> Check
+    requires { ⌜ at + 4 ≤ length (now s) ⌝ }
+    ensures { λ r. ⌜ check-number r ≡ head-number (require-bound (now (s .entry)) at m negate-head) ⌝ }
+{
+    let kind = s[at];
+    let v = byte_after(s, at, 1);
+    let w = word_at(s, at + 2);
+    let is_bound = variable_is_bound(kind, v, m);
+    let byte_fits = variable_byte_fits(kind, v);
+    let allowed = offset_allowed(kind, w);
+    let in_range = offset_in_range(w);
+    if VARIABLE_KIND_BYTE < kind {
+        return Check::Refused(Refusal::UnknownCode);
+    }
+    if !is_bound {
+        return Check::Refused(Refusal::UnboundVariable);
+    }
+    if !byte_fits {
+        return Check::Refused(Refusal::VariableByteNotZero);
+    }
+    if !allowed {
+        return Check::Refused(Refusal::OffsetOnInfinity);
+    }
+    if !in_range {
+        return Check::Refused(Refusal::OffsetOutOfRange);
+    }
+    Check::Fine
+}
