@@ -15,7 +15,7 @@ use Rattle.nodes.proofs.Nots.{over-nots}
 use Rattle.recording.specs.declared.env.Env.{Env}
 use Rattle.recording.specs.Evaluating.{Ready}
 use Rattle.recording.proofs.Environment.{ready-part}
-use Rattle.recording.proofs.Nodes.{negate-next}
+use Rattle.naming.proofs.Nodes.{negate-next}
 
 module _ (ns : List ℕ) (left i : ℕ) (u : Operand) (e : u ≡ past-nots left ns i false) where
   pub ready-nots : {t : ℕ} {env : Env} → Ready left i t env → Ready (u .left) (u .i) t env

@@ -24,8 +24,9 @@ use Rattle.ranges.proofs.Held.{held-at-same, getD-held}
 use Rattle.ranges.proofs.Bounds.{range-same}
 use Rattle.ranges.proofs.Planning.{plans-same}
 use Rattle.rule.proofs.Conjunction.{both-comm, both-exchange}
+use Rattle.naming.specs.Ranges.{forall-in}
 use Rattle.recording.specs.declared.env.Env.{Env}
-use Rattle.recording.specs.Evaluating.{places, entered, settled, forall-in, Ready}
+use Rattle.recording.specs.Evaluating.{places, entered, settled, Ready}
 use Rattle.recording.proofs.Environment.{place-at, places-more}
 use Rattle.recording.proofs.Parts.{settled-both}
 

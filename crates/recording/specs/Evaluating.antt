@@ -1,15 +1,13 @@
 -- What the formula evaluator and the range walker require and answer.
 use Prim.Native.Nat.{ℕ, suc, _+_, _*_, _≤_, _<_}
 use mathlib.Core.Path.{_≡_}
-use mathlib.Core.Bool.{Bool, false, cond}
+use mathlib.Core.Bool.{Bool, false}
 use mathlib.Core.List.{List, [], _∷_}
-use lib.Dec.{leb, ltb}
+use lib.Dec.{leb}
 use lib.ListN.{length, getD, take, set}
 use Rattle.rule.specs.declared.Verdict.the-variants.{True, False}
 use Rattle.rule.specs.declared.Outcome.{Outcome}
 use Rattle.rule.specs.declared.Outcome.the-variants.{Decided, Open}
-use Rattle.rule.specs.Formula.{Formula, flag, forall}
-use Rattle.nodes.specs.Table.{bound-at, formula-in}
 use Rattle.recording.specs.declared.env.Env.{Env}
 
 -- The positions of the variables that are bound.
@@ -29,10 +27,6 @@ abbrev pub settled : Outcome → ℕ → Bool
 settled (Decided True d) start = false
 settled (Decided False d) start = leb d start
 settled Open start = false
-
--- The "for all" whose node is at word i, inside m quantifiers, its body read off with `left` formulas left: what formula-in makes of code 5.
-abbrev pub forall-in : ℕ → List ℕ → ℕ → ℕ → Formula
-forall-in left ns m i = cond (ltb m 4) (forall (bound-at ns (i + 1)) (bound-at ns (i + 4)) (formula-in left ns (m + 1) (i + 12))) (flag 0 0)
 
 -- Before a formula is evaluated at word i, with `left` formulas left: no word's number is past 64 bits, and no sum of a position and an
 -- offset; the variables stand at positions up to t, and those that are not bound at 0.

@@ -7,14 +7,21 @@ ghost use Rattle.rule.specs.Meaning.{verdict, up, outcome};
 ghost use Rattle.rule.specs.Recording.{recorded};
 ghost use Rattle.rule.specs.Started.{raise};
 ghost use Rattle.nodes.specs.Table.{formula-in};
-ghost use Rattle.recording.specs.Evaluating.{places, settled, forall-in, Ready};
+ghost use Rattle.naming.specs.Ranges.{forall-in};
+ghost use Rattle.recording.specs.Evaluating.{places, settled, Ready};
+use crate::alike::alike;
 use crate::env::Env;
 use crate::env::enter;
 use crate::env::position;
-use crate::naming::alike;
+use nodes::BESIDE_CODE;
 use nodes::CODE;
 use nodes::FLAG;
+use nodes::FORALL_CODE;
+use nodes::NESTED;
+use nodes::NODE_WORDS;
+use nodes::NOT_CODE;
 use nodes::SECOND_PART;
+use nodes::THEN_CODE;
 use nodes::VARIABLE;
 use nodes::node_word;
 use nodes::skip_nots;
@@ -78,13 +85,13 @@ pub(crate) fn evaluate(
         return flag_at(recording, env, 0, 0, s);
     }
     let code = node_word(nodes, i, CODE);
-    if code == 2 {
+    if code == NOT_CODE {
         let u = skip_nots(nodes, left as usize, i);
         let o = evaluate(nodes, u.left as u64, u.i, recording, t, env, s);
         return outcomes::opposite_if(u.odd, o);
     }
-    if code == 3 {
-        let first = evaluate(nodes, left - 1, i + 12, recording, t, env, s);
+    if code == THEN_CODE {
+        let first = evaluate(nodes, left - 1, i + NODE_WORDS, recording, t, env, s);
         let second = node_word(nodes, i, SECOND_PART) as usize;
         return match first {
             Outcome::Decided(v, d) => match v {
@@ -94,8 +101,8 @@ pub(crate) fn evaluate(
             Outcome::Open => Outcome::Open,
         };
     }
-    if code == 4 {
-        let first = evaluate(nodes, left - 1, i + 12, recording, t, env, s);
+    if code == BESIDE_CODE {
+        let first = evaluate(nodes, left - 1, i + NODE_WORDS, recording, t, env, s);
         if settled(first, s) {
             return first;
         }
@@ -103,7 +110,7 @@ pub(crate) fn evaluate(
         let other = evaluate(nodes, left - 1, second, recording, t, env, s);
         return outcomes::both(first, other);
     }
-    if code == 5 {
+    if code == FORALL_CODE {
         return walk_range(nodes, left - 1, i, recording, t, env, s);
     }
     let v = node_word(nodes, i, VARIABLE);
@@ -126,7 +133,7 @@ fn walk_range(
     requires { ⌜ Ready (suc left) i t env ⌝ }
     ensures { λ r. ⌜ r ≡ outcome (forall-in left (now (nodes .entry)) (env .nested) i) (recorded (now (recording .entry))) t (places env) s ⌝ }
 {
-    if 4 <= env.nested {
+    if NESTED <= env.nested {
         return flag_at(recording, env, 0, 0, s);
     }
     let pos = env.pos;
@@ -140,7 +147,15 @@ fn walk_range(
         if settled(acc, start) {
             return acc;
         }
-        let o = evaluate(nodes, left, i + 12, recording, t, enter(env, q), start);
+        let o = evaluate(
+            nodes,
+            left,
+            i + NODE_WORDS,
+            recording,
+            t,
+            enter(env, q),
+            start,
+        );
         acc = outcomes::both(o, acc);
         if alike {
             return outcomes::both(raise(q + (n - 1), o), acc);

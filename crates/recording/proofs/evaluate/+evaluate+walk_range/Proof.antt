@@ -13,9 +13,10 @@ use Rattle.rule.specs.Recording.{recorded}
 use Rattle.rule.proofs.Every.{walk-none}
 use Rattle.nodes.specs.Table.{formula-in}
 use Rattle.nodes.proofs.Nots.{nots-less}
-use Rattle.recording.specs.Evaluating.{places, forall-in, Ready}
+use Rattle.naming.specs.Ranges.{forall-in}
+use Rattle.recording.specs.Evaluating.{places, Ready}
 use Rattle.recording.proofs.Environment.{place-at, ready-part, ready-range, ready-body}
-use Rattle.recording.proofs.Nodes.{none-in, then-in, beside-in, range-in, flag-in}
+use Rattle.naming.proofs.Nodes.{none-in, then-in, beside-in, range-in, flag-in}
 use Rattle.recording.proofs.Parts.{by-same, by-flag, by-beside, beside-settled, then-true, then-false, then-open}
 use Rattle.recording.proofs.Nots.{ready-nots, by-nots}
 use Rattle.recording.proofs.Walking.{body-at, walk-step, body-settled, body-here, body-alike, plan-here, by-forall, no-forall}
@@ -39,7 +40,7 @@ use Rattle.recording.proofs.env.enter.Reads as enter-reads
 use Rattle.recording.proofs.evaluate.flag_at.Reads as flag-at-reads
 use Rattle.recording.proofs.evaluate.raise.Reads as raise-reads
 use Rattle.recording.proofs.evaluate.settled.Reads as settled-reads
-use Rattle.recording.proofs.naming.alike.Reads as alike-reads
+use Rattle.recording.proofs.alike.alike.Reads as alike-reads
 use Rattle.recording.proofs.evaluate.+evaluate+walk_range.{statement}
 use Rattle.recording.proofs.evaluate.+evaluate+walk_range.Tie.{close}
 
@@ -283,7 +284,7 @@ walk-range-plan-up-to-requires t c κs = search needs
 walk-range-alike-requires : (t : ℕ) → walk-range-lts.Need-alike-requires (walk-range-claims t) (walk-range-at t) walk-range.Post walk-range-Inv-loop walk-range-μ-loop
 walk-range-alike-requires t c κs =
     let p = c .before .before .before .before .before .before .before .before .pre .1 in
-    (omega (arith, p .few), (omega (arith, p .near), omega (arith, c .before .before .before .before .if1 .left)))
+    (omega (arith, p .near), omega (arith, c .before .before .before .before .if1 .left))
 
 walk-range-loop-holds : (t : ℕ) → walk-range-lts.Need-loop-holds (walk-range-claims t) (walk-range-at t) walk-range.Post walk-range-Inv-loop walk-range-μ-loop
 walk-range-loop-holds t c =

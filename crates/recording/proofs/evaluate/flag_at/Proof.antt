@@ -14,7 +14,7 @@ flag-outcome-requires : tie.Need-flag-outcome-requires
 flag-outcome-requires c κs = search needs
 
 returns : tie.Need-returns
-returns c = cc
+returns c = rw (c .flag-outcome .ensures, c .before .flag-byte .ensures, c .before .before .position .ensures)
 
 pub flag-at-spec : {M : Type 1} → statement M
 flag-at-spec =

@@ -1,25 +1,26 @@
--- `recording::naming::names` meets its contract: the test is the definition's, for any table. The formulas left fall from call to call.
+-- `naming::names` meets its contract: the test is the definition's, for any table. The formulas left fall from call to call.
 -- Assumes nothing.
-use Prim.Native.Nat.{ℕ, _+_, _*_, _-_, _≤_, _<_}
+use Prim.Native.Nat.{ℕ, suc, _+_, _-_, _<_}
 use mathlib.Core.Path.{_≡_, refl, sym, _∙_}
 use mathlib.Core.List.{List}
 use native.Mathlib.Omega.{arith}
 use borrow.Author.Needs.{needs}
-use lib.ListN.{getD}
+use lib.ListN.{length, getD}
 use Rattle.nodes.specs.Table.{formula-in}
-use Rattle.recording.specs.Evaluating.{forall-in}
-use Rattle.recording.proofs.Nodes.{none-in, negate-in, range-in}
-use Rattle.recording.proofs.Named.{named-none, named-negate, named-two, named-here, named-range, named-rest, named-deep}
+use Rattle.nodes.proofs.Nodes.{word-in}
+use Rattle.naming.specs.Ranges.{forall-in}
+use Rattle.naming.proofs.Nodes.{none-in, negate-in, range-in}
+use Rattle.naming.proofs.Named.{named-none, named-negate, two-inside, named-two, named-here, named-range, named-rest, named-deep}
 use borrow.Fn.Kinds.{In}
 use borrow.Fn.PlainCycle.{Measures, is, falls, and}
-use Rattle.recording.proofs.naming.names.Reads as names
-use Rattle.recording.proofs.naming.names.Kinds as names-kinds
-use Rattle.recording.proofs.naming.+names.Lts-names as names-lts
+use Rattle.naming.proofs.names.Reads as names
+use Rattle.naming.proofs.names.Kinds as names-kinds
+use Rattle.naming.proofs.+names.Lts-names as names-lts
 use Rattle.nodes.proofs.node_word.Reads as node-word-reads
-use Rattle.recording.proofs.naming.bound_names.Reads as bound-names-reads
-use Rattle.recording.proofs.naming.has_second_part.Reads as has-second-part-reads
-use Rattle.recording.proofs.naming.+names.{statement}
-use Rattle.recording.proofs.naming.+names.Tie.{close}
+use Rattle.naming.proofs.bound_names.Reads as bound-names-reads
+use Rattle.naming.proofs.has_second_part.Reads as has-second-part-reads
+use Rattle.naming.proofs.+names.{statement}
+use Rattle.naming.proofs.+names.Tie.{close}
 
 abbrev μ-names : Measures 1 names-kinds.ps ℕ
 μ-names κs a = a .1 .0
@@ -48,17 +49,15 @@ module _ (t : ℕ) (n : Coded t) where
   some : start .args .left ≡ 0 → ⊥
   some = n .before .if1 .left
 
-  near : start .args .i + 12 * start .args .left ≤ 4294968064
-  near = start .pre .1 .1
+  -- a node with a code stands in the table
+  inside : (k : ℕ) → n .node-word .result ≡ suc k → start .args .i < length ns
+  inside k e = word-in ns (start .args .i) k (sym (n .node-word .ensures) ∙ e)
 
   is-range : n .node-word .result ≡ 5 → formula-in (start .args .left) ns (start .args .m) (start .args .i) ≡ forall-in (start .args .left - 1) ns (start .args .m) (start .args .i)
   is-range e = range-in (start .args .left) ns (start .args .m) (start .args .i) some (sym (n .node-word .ensures) ∙ e)
 
-  first-ready : (start .args .left - 1 < t) × ((start .args .left - 1 ≤ 64) × (start .args .i + 12 + 12 * (start .args .left - 1) ≤ 4294968064))
-  first-ready = (omega (arith, some, start .pre .0), (omega (arith, start .pre .1 .0), omega (arith, some, near)))
-
-  second-ready : (j : ℕ) → j < 4294967296 → (start .args .left - 1 < t) × ((start .args .left - 1 ≤ 64) × (j + 12 * (start .args .left - 1) ≤ 4294968064))
-  second-ready j h = (omega (arith, some, start .pre .0), (omega (arith, start .pre .1 .0), omega (arith, some, start .pre .1 .0)))
+  less : start .args .left - 1 < t
+  less = omega (arith, some, start .pre .0)
 
 names-returns : (t : ℕ) → names-lts.Need-returns (names-claims t) (names-at t) names.Post
 names-returns t c =
@@ -72,10 +71,10 @@ names-sub-names : (t : ℕ) → names-lts.Need-sub-names (names-claims t) (names
 names-sub-names t c = omega (arith, some t (c .before))
 
 names-add-names : (t : ℕ) → names-lts.Need-add-names (names-claims t) (names-at t) names.Post
-names-add-names t c = omega (arith, near t (c .before))
+names-add-names t c = omega (arith, inside t (c .before) 1 (c .if2 .taken), start t (c .before) .good .0)
 
 names-names-requires : (t : ℕ) → names-lts.Need-names-requires (names-claims t) (names-at t) names.Post
-names-names-requires t c κs = first-ready t (c .before)
+names-names-requires t c κs = (less t (c .before), tt)
 
 names-returns-2 : (t : ℕ) → names-lts.Need-returns-2 (names-claims t) (names-at t) names.Post
 names-returns-2 t c =
@@ -90,10 +89,13 @@ names-sub-names-2 : (t : ℕ) → names-lts.Need-sub-names-2 (names-claims t) (n
 names-sub-names-2 t c = omega (arith, some t (c .before .before .before))
 
 names-add-names-2 : (t : ℕ) → names-lts.Need-add-names-2 (names-claims t) (names-at t) names.Post
-names-add-names-2 t c = omega (arith, near t (c .before .before .before))
+names-add-names-2 t c =
+    let n = c .before .before .before in
+    let s = start t n in
+    omega (arith, two-inside (s .args .left) (ns t n) (s .args .m) (s .args .i) (some t n) (n .node-word .ensures) (c .before .has-second-part .ensures) (c .if3 .taken), s .good .0)
 
 names-names-requires-2 : (t : ℕ) → names-lts.Need-names-requires-2 (names-claims t) (names-at t) names.Post
-names-names-requires-2 t c κs = first-ready t (c .before .before .before)
+names-names-requires-2 t c κs = (less t (c .before .before .before), tt)
 
 names-returns-3 : (t : ℕ) → names-lts.Need-returns-3 (names-claims t) (names-at t) names.Post
 names-returns-3 t c =
@@ -111,7 +113,7 @@ names-sub-names-3 : (t : ℕ) → names-lts.Need-sub-names-3 (names-claims t) (n
 names-sub-names-3 t c = omega (arith, some t (c .before .before .before .before .before .before))
 
 names-names-requires-3 : (t : ℕ) → names-lts.Need-names-requires-3 (names-claims t) (names-at t) names.Post
-names-names-requires-3 t c κs = second-ready t (c .before .before .before .before .before .before) (c .node-word2 .result) (omega (arith, c .node-word2 .ok))
+names-names-requires-3 t c κs = (less t (c .before .before .before .before .before .before), tt)
 
 names-returns-4 : (t : ℕ) → names-lts.Need-returns-4 (names-claims t) (names-at t) names.Post
 names-returns-4 t c =
@@ -127,7 +129,8 @@ names-returns-5 t c =
     named-deep (s .args .left - 1) (ns t n) (s .args .m) (s .args .i) (s .args .v) (is-range t n (c .before .if5 .taken)) (c .if6 .taken)
 
 names-add-bound-names : (t : ℕ) → names-lts.Need-add-bound-names (names-claims t) (names-at t) names.Post
-names-add-bound-names t c = omega (arith, near t (c .before .before .before .before .before))
+names-add-bound-names t c =
+    let n = c .before .before .before .before .before in omega (arith, inside t n 4 (c .before .if5 .taken), start t n .good .0)
 
 names-bound-names-requires : (t : ℕ) → names-lts.Need-bound-names-requires (names-claims t) (names-at t) names.Post
 names-bound-names-requires t c κs = search needs
@@ -139,7 +142,8 @@ names-returns-6 t c =
     named-range (s .args .left - 1) (ns t n) (s .args .m) (s .args .i) (s .args .v) (is-range t n (c .before .before .before .if5 .taken)) (omega (arith, c .before .before .if6 .left)) .0 (sym (c .before .bound-names .ensures) ∙ c .if7 .taken)
 
 names-add-bound-names-2 : (t : ℕ) → names-lts.Need-add-bound-names-2 (names-claims t) (names-at t) names.Post
-names-add-bound-names-2 t c = omega (arith, near t (c .before .before .before .before .before .before .before))
+names-add-bound-names-2 t c =
+    let n = c .before .before .before .before .before .before .before in omega (arith, inside t n 4 (c .before .before .before .if5 .taken), start t n .good .0)
 
 names-bound-names-requires-2 : (t : ℕ) → names-lts.Need-bound-names-requires-2 (names-claims t) (names-at t) names.Post
 names-bound-names-requires-2 t c κs = search needs
@@ -158,10 +162,11 @@ names-add-names-3 : (t : ℕ) → names-lts.Need-add-names-3 (names-claims t) (n
 names-add-names-3 t c = omega (arith, c .before .before .before .before .if6 .left)
 
 names-add-names-4 : (t : ℕ) → names-lts.Need-add-names-4 (names-claims t) (names-at t) names.Post
-names-add-names-4 t c = omega (arith, near t (c .before .before .before .before .before .before .before .before .before))
+names-add-names-4 t c =
+    let n = c .before .before .before .before .before .before .before .before .before in omega (arith, inside t n 4 (c .before .before .before .before .before .if5 .taken), start t n .good .0)
 
 names-names-requires-4 : (t : ℕ) → names-lts.Need-names-requires-4 (names-claims t) (names-at t) names.Post
-names-names-requires-4 t c κs = first-ready t (c .before .before .before .before .before .before .before .before .before)
+names-names-requires-4 t c κs = (less t (c .before .before .before .before .before .before .before .before .before), tt)
 
 names-returns-8 : (t : ℕ) → names-lts.Need-returns-8 (names-claims t) (names-at t) names.Post
 names-returns-8 t c =

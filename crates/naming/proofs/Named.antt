@@ -6,14 +6,15 @@ use mathlib.Core.List.{List}
 use mathlib.Core.Logic.{_⊎_, inl, inr}
 use native.Mathlib.Omega.{arith}
 use lib.Dec.{eqb}
-use lib.ListN.{getD}
+use lib.ListN.{length, getD}
 use borrow.Author.Tests.{lt-ltb, le-ltb, eq-eqb, ne-eqb, eqb-true, eqb-false}
 use Rattle.rule.specs.Formula.{Formula, flag, negate, then, beside}
 use Rattle.rule.specs.Naming.{bound-names, names}
 use Rattle.rule.proofs.Order.{by-order}
 use Rattle.nodes.specs.Table.{bound-of, bound-at, formula-in}
-use Rattle.recording.specs.Evaluating.{forall-in}
-use Rattle.recording.proofs.Nodes.{then-in, beside-in, flag-in}
+use Rattle.nodes.proofs.Nodes.{word-in}
+use Rattle.naming.specs.Ranges.{forall-in}
+use Rattle.naming.proofs.Nodes.{then-in, beside-in, flag-in}
 
 -- ---- one of two
 
@@ -69,6 +70,14 @@ unfolding names
 named-beside v {F} G H e = either (names v F) (names v G) (names v H) (ap (names v) e)
 
 module _ (left : ℕ) (ns : List ℕ) (m i : ℕ) (some : left ≡ 0 → ⊥) {code : ℕ} (c : code ≡ getD ns (i + 0) 0) {two : Bool} (t : two ≡ (eqb code 3 || eqb code 4)) where
+  pub two-inside : two ≡ true → i < length ns
+  two-inside e = go (eqb code 3) (eqb code 4) refl refl (sym t ∙ e)
+    where
+      go : (x y : Bool) → eqb code 3 ≡ x → eqb code 4 ≡ y → (x || y) ≡ true → i < length ns
+      go true y p q r = word-in ns i 2 (sym c ∙ eqb-true code 3 p)
+      go false true p q r = word-in ns i 3 (sym c ∙ eqb-true code 4 q)
+      go false false p q r = absurd (false≢true r)
+
   -- "then" or "beside"
   pub named-two : (v j : ℕ) → two ≡ true → j ≡ getD ns (i + 7) 0
       → Either (names v (formula-in left ns m i)) (names v (formula-in (left - 1) ns m (i + 12))) (names v (formula-in (left - 1) ns m j))

@@ -8,7 +8,7 @@ use borrow.Author.Tests.{ne-eqb}
 use Rattle.rule.specs.Formula.{flag, negate, then, beside}
 use Rattle.nodes.specs.Table.{formula-in}
 use Rattle.nodes.proofs.Nodes.{some-left}
-use Rattle.recording.specs.Evaluating.{forall-in}
+use Rattle.naming.specs.Ranges.{forall-in}
 
 pub none-in : (left : ℕ) (ns : List ℕ) (m i : ℕ) → left ≡ 0 → formula-in left ns m i ≡ flag 0 0
 unfolding formula-in

@@ -1,9 +1,8 @@
--- `recording::naming::bound_names` meets its contract.
--- Assumes nothing.
-use Rattle.recording.proofs.Named.{no-variable-at, variable-at}
+-- `naming::bound_names` meets its contract. Assumes nothing.
+use Rattle.naming.proofs.Named.{no-variable-at, variable-at}
 use borrow.Author.Needs.{needs}
-use Rattle.recording.proofs.naming.bound_names.Statement.{statement}
-use Rattle.recording.proofs.naming.bound_names.Tie as tie
+use Rattle.naming.proofs.bound_names.Statement.{statement}
+use Rattle.naming.proofs.bound_names.Tie as tie
 
 node-word-requires : tie.Need-node-word-requires
 node-word-requires c κs = search needs

@@ -1,11 +1,10 @@
--- `recording::naming::alike` meets its contract.
--- Assumes nothing.
+-- `recording::alike::alike` meets its contract. Assumes nothing.
 use mathlib.Core.Path.{ap}
 use mathlib.Core.Bool.{not}
 use borrow.Author.Tests.{lt-ltb, le-ltb}
 use borrow.Author.Needs.{needs}
-use Rattle.recording.proofs.naming.alike.Statement.{statement}
-use Rattle.recording.proofs.naming.alike.Tie as tie
+use Rattle.recording.proofs.alike.alike.Statement.{statement}
+use Rattle.recording.proofs.alike.alike.Tie as tie
 
 returns : tie.Need-returns
 returns c = simp (le-ltb 1 (c .before .before .args .n) (c .if1 .taken))
