@@ -2,9 +2,12 @@
 use Prim.Native.Nat.{ℕ, _+_}
 use mathlib.Core.Path.{_≡_, refl, sym, ap, subst, _∙_}
 use mathlib.Core.List.{List, [], _++_, append-assoc}
+use native.Mathlib.Omega.{arith}
 use native.Mathlib.Nat.{add-assoc}
 use lib.ListN.{length, take, drop, length-append}
 use lib.Seq.{take-at, drop-append-add, drop-drop}
+use Rattle.io.specs.Counts.{Counts}
+use Rattle.io.proofs.Counting.{counts}
 use Rattle.watch_lines.specs.Lines.{numeral, with-field}
 
 -- The buffer holds a line of a bytes in front, and after it what it held there before.
@@ -33,3 +36,9 @@ laid-field line word n before between after a r h e w =
     let long : r ≡ a + length part = e ∙ add-assoc a (length word) (length (numeral n)) ∙ ap (λ (k : ℕ). a + k) (sym (length-append word (numeral n))) in
     let whole : after ≡ (take a between ++ part) ++ drop r between = w ∙ ap (λ (l : List ℕ). l ++ drop r between) (append-assoc (take a between) word (numeral n)) in
     subst (λ (l : List ℕ). Laid l r before after) (sym (append-assoc line word (numeral n))) (laid-more line part before between after a r h long whole)
+
+-- The line's length counts bytes at the front.
+pub laid-counts : (line before after : List ℕ) (a : ℕ) → Laid line a before after → Counts a after
+laid-counts line before after a h =
+    let whole : length after ≡ length line + length (drop a before) = ap length (h .1) ∙ length-append line (drop a before) in
+    counts a after (omega (arith, whole, h .0))

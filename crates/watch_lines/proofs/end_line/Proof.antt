@@ -1,12 +1,9 @@
 -- `watch_lines::end_line` meets its contract. Assumes nothing.
-use Prim.Native.Nat.{_≤_}
 use denote.Ref.{now}
-use mathlib.Core.Path.{_≡_, sym}
-use mathlib.Core.List.{[]}
-use native.Mathlib.Omega.{arith}
-use lib.Seq.{length-take-le}
+use mathlib.Core.Path.{sym}
+use mathlib.Core.List.{[], _++_}
 use Rattle.watch_lines.specs.Lines.{with-field, end-word, steps-word, violations-word, live-word, end-line}
-use Rattle.watch_lines.proofs.Laying.{laid-none, laid-field, laid-more}
+use Rattle.watch_lines.proofs.Laying.{laid-none, laid-field, laid-more, laid-counts}
 use borrow.Author.Needs.{needs}
 use Rattle.watch_lines.proofs.end_line.Statement.{statement}
 use Rattle.watch_lines.proofs.end_line.Tie as tie
@@ -51,8 +48,7 @@ returns c =
     let third-laid = laid-field second-line violations-word (start .args .live) bytes (second .last .0) (third .last .0) (second .result) (third .result) second-laid (third .ensures .1 .0) (third .ensures .1 .1) in
     let p = c .put-text in
     let laid = laid-more third-line live-word bytes (third .last .0) (p .last .0) (third .result) (p .result) third-laid (p .ensures .0) (p .ensures .1) in
-    let room : p .result ≤ 128 = search needs in
-    ((omega arith, sym (length-take-le (p .result) (p .last .0) (omega arith))), (sym (laid .0), laid .1))
+    (laid-counts (third-line ++ live-word) bytes (p .last .0) (p .result) laid, (sym (laid .0), laid .1))
 
 pub end-line-spec : {M : Type 1} → statement M
 end-line-spec =

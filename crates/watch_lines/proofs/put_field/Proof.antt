@@ -33,7 +33,9 @@ returns c =
     let long : length (front ++ word) ≡ a .result =
     length-append front word ∙ ap (λ (k : ℕ). k + length word) (length-take-le (start .args .at) bytes (omega (arith, start .pre))) ∙ sym (a .ensures .0) in
     let laid = laid-more (front ++ word) (numeral (start .args .n)) bytes (a .last .0) (n .last .0) (a .result) (n .result) (long, a .ensures .1) (n .ensures .1 .0) (n .ensures .1 .1) in
-    (omega (arith, a .ensures .0, n .ensures .0), (cc (a .ensures .0, n .ensures .1 .0), laid .1))
+    let sum : n .result ≡ (start .args .at + length word) + length (numeral (start .args .n)) =
+    n .ensures .1 .0 ∙ ap (λ (k : ℕ). k + length (numeral (start .args .n))) (a .ensures .0) in
+    (omega (arith, a .ensures .0, n .ensures .0), (sum, laid .1))
 
 pub put-field-spec : {M : Type 1} → statement M
 put-field-spec = tie.close (tie.spec put-text-requires put-number-requires same-length returns)

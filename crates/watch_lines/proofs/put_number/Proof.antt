@@ -1,9 +1,11 @@
 -- `watch_lines::put_number` meets its contract. Assumes nothing.
-use Prim.Native.Nat.{_+_, _≤_, _<_}
+use Prim.Native.Nat.{ℕ, _+_, _≤_, _<_}
 use denote.Ref.{now}
-use lib.ListN.{length}
-use mathlib.Core.Path.{_≡_}
+use lib.ListN.{length, take, drop}
+use mathlib.Core.Path.{_≡_, ap, _∙_}
+use mathlib.Core.List.{List, _++_}
 use native.Mathlib.Omega.{arith}
+use Rattle.watch_lines.specs.Lines.{numeral}
 use Rattle.watch_lines.proofs.Numerals.{most-digits, numeral-of}
 use borrow.Author.Needs.{needs}
 use Rattle.watch_lines.proofs.put_number.Statement.{statement}
@@ -38,7 +40,12 @@ returns c =
     let small : n < 18446744073709551616 = omega (arith, start .fits .n) in
     let k : d .result ≤ 20 = most-digits (d .result) n small (d .ensures .1 .0) in
     let is = numeral-of (d .result) n small (d .ensures .1 .0) in
-    (omega (arith, p .ensures .0, d .ensures .0 .1), (cc (p .ensures .0, d .ensures .1 .1, is), cc (p .ensures .1, d .ensures .1 .1, is)))
+    let shown = d .ensures .1 .1 ∙ is in
+    let at = start .args .at in
+    let bytes = now (start .args .out) in
+    let long : p .result ≡ at + length (numeral n) = p .ensures .0 ∙ ap (λ (l : List ℕ). at + length l) shown in
+    let whole = p .ensures .1 ∙ ap (λ (l : List ℕ). (take at bytes ++ l) ++ drop (p .result) bytes) shown in
+    (omega (arith, p .ensures .0, d .ensures .0 .1), (long, whole))
 
 pub put-number-spec : {M : Type 1} → statement M
 put-number-spec =

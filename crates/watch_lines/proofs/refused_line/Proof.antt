@@ -1,12 +1,9 @@
 -- `watch_lines::refused_line` meets its contract. Assumes nothing.
-use Prim.Native.Nat.{_≤_}
 use denote.Ref.{now}
-use mathlib.Core.Path.{_≡_, sym}
-use mathlib.Core.List.{[]}
-use native.Mathlib.Omega.{arith}
-use lib.Seq.{length-take-le}
+use mathlib.Core.Path.{sym}
+use mathlib.Core.List.{[], _++_}
 use Rattle.watch_lines.specs.Lines.{with-field, refused-word, line-end, refused-line}
-use Rattle.watch_lines.proofs.Laying.{laid-none, laid-field, laid-more}
+use Rattle.watch_lines.proofs.Laying.{laid-none, laid-field, laid-more, laid-counts}
 use borrow.Author.Needs.{needs}
 use Rattle.watch_lines.proofs.refused_line.Statement.{statement}
 use Rattle.watch_lines.proofs.refused_line.Tie as tie
@@ -33,8 +30,7 @@ returns c =
     let first-laid = laid-field [] refused-word (start .args .number) bytes bytes (first .last .0) 0 (first .result) (laid-none bytes) (first .ensures .1 .0) (first .ensures .1 .1) in
     let p = c .put-text in
     let laid = laid-more first-line line-end bytes (first .last .0) (p .last .0) (first .result) (p .result) first-laid (p .ensures .0) (p .ensures .1) in
-    let room : p .result ≤ 128 = search needs in
-    ((omega arith, sym (length-take-le (p .result) (p .last .0) (omega arith))), (sym (laid .0), laid .1))
+    (laid-counts (first-line ++ line-end) bytes (p .last .0) (p .result) laid, (sym (laid .0), laid .1))
 
 pub refused-line-spec : {M : Type 1} → statement M
 refused-line-spec =

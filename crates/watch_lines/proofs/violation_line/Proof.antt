@@ -1,12 +1,9 @@
 -- `watch_lines::violation_line` meets its contract. Assumes nothing.
-use Prim.Native.Nat.{_≤_}
 use denote.Ref.{now}
-use mathlib.Core.Path.{_≡_, sym}
-use mathlib.Core.List.{[]}
-use native.Mathlib.Omega.{arith}
-use lib.Seq.{length-take-le}
+use mathlib.Core.Path.{sym}
+use mathlib.Core.List.{[], _++_}
 use Rattle.watch_lines.specs.Lines.{with-field, violation-word, at-word, line-end, violation-line}
-use Rattle.watch_lines.proofs.Laying.{laid-none, laid-field, laid-more}
+use Rattle.watch_lines.proofs.Laying.{laid-none, laid-field, laid-more, laid-counts}
 use borrow.Author.Needs.{needs}
 use Rattle.watch_lines.proofs.violation_line.Statement.{statement}
 use Rattle.watch_lines.proofs.violation_line.Tie as tie
@@ -42,8 +39,7 @@ returns c =
     let second-laid = laid-field first-line at-word (start .args .step) bytes (first .last .0) (second .last .0) (first .result) (second .result) first-laid (second .ensures .1 .0) (second .ensures .1 .1) in
     let p = c .put-text in
     let laid = laid-more second-line line-end bytes (second .last .0) (p .last .0) (second .result) (p .result) second-laid (p .ensures .0) (p .ensures .1) in
-    let room : p .result ≤ 128 = search needs in
-    ((omega arith, sym (length-take-le (p .result) (p .last .0) (omega arith))), (sym (laid .0), laid .1))
+    (laid-counts (second-line ++ line-end) bytes (p .last .0) (p .result) laid, (sym (laid .0), laid .1))
 
 pub violation-line-spec : {M : Type 1} → statement M
 violation-line-spec =
