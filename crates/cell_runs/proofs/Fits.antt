@@ -165,10 +165,6 @@ module _ {F : Tree} {B₁ B₂ : Bound} {z : ℕ} {e : Env} {t len : ℕ} (f : F
 
 -- ---- the other formulas
 
--- a part's cell lies in front of it
-pub part-room : {F : Tree} {e : Env} {t k a z len : ℕ} → PartFit F e t k a z len → k + 2 < len
-part-room f = omega (arith, f .cell, f .after-cell, f .start, f .end)
-
 -- another formula of the same variables
 fit-as : (F : Tree) {G : Tree} {e : Env} {t len : ℕ} (len′ : ℕ) (f : Fit G e t len) → Formed (f .pairs) F → words (f .pairs) F ≤ len′ → Fit F e t len′
 fit-as F len′ f h r = record {

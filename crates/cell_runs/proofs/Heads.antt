@@ -1,5 +1,5 @@
 -- The head of a range: that it is moved on and written, and what the leading true positions mean for the walk.
-use Prim.Native.Nat.{ℕ, zero, suc, _+_, _*_, _-_, _≤_, _<_, max}
+use Prim.Native.Nat.{ℕ, zero, suc, _+_, _*_, _-_, _%_, _≤_, _<_, max}
 use mathlib.Core.Path.{_≡_, refl, sym, ap, subst, _∙_}
 use mathlib.Core.Logic.{inl, inr}
 use mathlib.Core.List.{List}
@@ -7,7 +7,7 @@ use native.Mathlib.Omega.{arith}
 use native.Mathlib.Numerals.{add-one}
 use native.Mathlib.Nat.{add-zero, add-suc, suc-add}
 use native.Mathlib.Decide.{decLt}
-use lib.ListN.{length, getD, take, drop, length-drop}
+use lib.ListN.{length, getD, take, drop, set, length-drop}
 use lib.Seq.{getD-take, getD-drop, length-take-le}
 use Rattle.rule.specs.Meaning.{both, walk}
 use Rattle.rule.proofs.Horizon.{from-both}
@@ -15,8 +15,8 @@ use Rattle.rule.specs.declared.Verdict.the-variants.{True, False}
 use Rattle.rule.specs.declared.Outcome.{Outcome}
 use Rattle.rule.specs.declared.Outcome.the-variants.{Decided, Open}
 use Rattle.rule.specs.Started.{From}
-use Rattle.cells.specs.Heads.{head-stored}
-use Rattle.cells.proofs.Heads.{stored-leading, stored-latest, stored-drop}
+use Rattle.cells.specs.Cells.{since}
+use Rattle.cells.proofs.Marks.{two-drop, two-first, two-second}
 use Rattle.cell_runs.specs.Slots.{slot}
 use Rattle.cell_runs.specs.Leading.{Leading, MovedOn, HeadMoved, HeadFit}
 
@@ -43,15 +43,15 @@ module _ (p z n : ℕ) (slots : List ℕ) (leading latest : ℕ) where
         true-so-far = λ f first s k i. rw (add-one l) (m, x, c .true-so-far f first s k i, k l low h e0 ∙ ap (Decided True) e2, ey);
       }
 
-pub head-moved : (p z n : ℕ) (run rest : List ℕ) (leading latest leading′ latest′ : ℕ) → 4 ≤ length run → rest ≡ drop 4 run → MovedOn p z n rest leading latest leading′ latest′
-    → HeadMoved p z n run leading latest (head-stored p leading′ latest′ run)
-head-moved p z n run rest leading latest leading′ latest′ h er c = record {
+pub head-moved : (p z n : ℕ) (run rest : List ℕ) (leading latest leading′ latest′ x : ℕ) → 4 ≤ length run → rest ≡ drop 4 run → x ≡ since p latest′ → MovedOn p z n rest leading latest leading′ latest′
+    → HeadMoved p z n run leading latest (set (set run 2 x) 0 (leading′ % 4294967296))
+head-moved p z n run rest leading latest leading′ latest′ x h er ex c = record {
   leading′ = leading′;
   latest′ = latest′;
   moved = subst (λ (l : List ℕ). MovedOn p z n l leading latest leading′ latest′) er c;
-  slots-kept = stored-drop p leading′ latest′ run (omega arith) 4 (omega arith);
-  leading-word = stored-leading p leading′ latest′ run (omega arith);
-  latest-word = stored-latest p leading′ latest′ run (omega arith);
+  slots-kept = two-drop run 0 x (leading′ % 4294967296) 4 (omega arith);
+  leading-word = two-first run 0 x (leading′ % 4294967296) (omega arith);
+  latest-word = two-second run 0 x (leading′ % 4294967296) (omega arith) ∙ ex;
 }
 
 -- ---- what it means

@@ -5,14 +5,13 @@ use mathlib.Core.Logic.{_≢_}
 use mathlib.Core.List.{List}
 use native.Mathlib.Omega.{arith}
 use native.Mathlib.Nat.{mod-eq-of-lt}
-use borrow.Author.Tests.{lt-leb}
 use lib.ListN.{length, drop, set, getD, length-set}
 use lib.Seq.{getD-set-same, getD-set-other, drop-set-lt}
 use Rattle.rule.specs.declared.Verdict.{Verdict}
 use Rattle.rule.specs.declared.Verdict.the-variants.{True, False}
 use Rattle.rule.specs.declared.Outcome.{Outcome}
 use Rattle.rule.specs.declared.Outcome.the-variants.{Decided, Open}
-use Rattle.cells.specs.Cells.{held, mark, since, loaded, stored}
+use Rattle.cells.specs.Cells.{held, mark, since}
 
 -- the steps that fit a word, counted from p
 pub record Small (p : ℕ) (o : Outcome) : Type 0 where
@@ -67,13 +66,3 @@ mark-held p k (Decided True d) l h f =
 mark-held p k (Decided False d) l h f =
     simp (two-first l k (since p d) 2 (omega arith), two-second l k (since p d) 2 h)
     (ap (λ (n : ℕ). Decided False n) (sym (since-back p d (f .from False d refl) (f .small False d refl))))
-
--- ---- a cell that has the words k and k + 2
-
-pub loaded-there : (p k : ℕ) (cell : List ℕ) → k + 2 < length cell → loaded p k cell ≡ held p (getD cell k 0) (getD cell (k + 2) 0)
-unfolding loaded
-loaded-there p k cell h = simp (lt-leb (length cell) (k + 2) h)
-
-pub stored-there : (p k : ℕ) (o : Outcome) (cell : List ℕ) → k + 2 < length cell → stored p k o cell ≡ mark p k o cell
-unfolding stored
-stored-there p k o cell h = simp (lt-leb (length cell) (k + 2) h)

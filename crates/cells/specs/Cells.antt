@@ -3,8 +3,8 @@ use Prim.Native.Nat.{ℕ, _+_, _%_, _-_}
 use mathlib.Core.Path.{_≡_}
 use mathlib.Core.Bool.{cond}
 use mathlib.Core.List.{List}
-use lib.ListN.{length, getD, set}
-use lib.Dec.{eqb, leb}
+use lib.ListN.{getD, set}
+use lib.Dec.{eqb}
 use Rattle.rule.specs.declared.Verdict.the-variants.{True, False}
 use Rattle.rule.specs.declared.Outcome.{Outcome}
 use Rattle.rule.specs.declared.Outcome.the-variants.{Decided, Open}
@@ -26,11 +26,3 @@ unfoldable pub mark : ℕ → ℕ → Outcome → List ℕ → List ℕ
 mark p k Open cell = set cell k 0
 mark p k (Decided True d) cell = set (set cell (k + 2) (since p d)) k 1
 mark p k (Decided False d) cell = set (set cell (k + 2) (since p d)) k 2
-
--- The outcome in the words k and k + 2 of a cell of any length: open where the cell ends before them.
-unfoldable pub loaded : ℕ → ℕ → List ℕ → Outcome
-loaded p k cell = cond (leb (length cell) (k + 2)) Open (held p (getD cell k 0) (getD cell (k + 2) 0))
-
--- A cell of any length with an outcome written: as it was where it ends before these words.
-unfoldable pub stored : ℕ → ℕ → Outcome → List ℕ → List ℕ
-stored p k o cell = cond (leb (length cell) (k + 2)) cell (mark p k o cell)

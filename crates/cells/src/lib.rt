@@ -1,16 +1,15 @@
-// A cell, four words of a rule's table: an outcome in two of its words, or what the head cell of a range says.
+// What the words of a cell say, four words of a rule's table: an outcome in two of them, or the head of a range.
 mod head;
 mod outcome;
 
 pub use head::Head;
-pub use head::load_head;
-pub use head::store_head;
-pub use outcome::load_outcome;
+pub use head::head_of;
+pub use outcome::elapsed;
+pub use outcome::outcome_of;
 pub use outcome::step_after;
-pub use outcome::store_outcome;
 
 // The words of a cell.
 pub const CELL_WORDS: usize = 4;
 
 // How many numbers a word can hold.
-pub(crate) const WORD_VALUES: u64 = 4294967296;
+pub const WORD_VALUES: u64 = 4294967296;

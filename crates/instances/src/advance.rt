@@ -6,11 +6,11 @@ ghost use lib.ListN.{length, getD};
 ghost use Rattle.nodes.specs.Table.{bound-at};
 ghost use Rattle.cell_runs.specs.Tree.{flag-node, then-node, beside-node, range-node, tree-at, HasParts};
 ghost use Rattle.cell_runs.specs.Calls.{env-of, flagged, Fit, SlotFit, WalkFit, PartFit, Advanced, PositionAdvanced, PositionsWalked, PartAdvanced};
+use crate::head::load_head;
 use crate::head::move_head;
+use crate::marks::load_outcome;
+use crate::marks::store_outcome;
 use cells::CELL_WORDS;
-use cells::load_head;
-use cells::load_outcome;
-use cells::store_outcome;
 use nodes::BESIDE_CODE;
 use nodes::CODE;
 use nodes::FIRST_WORDS;
@@ -20,6 +20,7 @@ use nodes::NODE_WORDS;
 use nodes::NOT_CODE;
 use nodes::SECOND_PART;
 use nodes::SLOT_WORDS;
+use nodes::TABLE_WORDS;
 use nodes::THEN_CODE;
 use nodes::VARIABLE;
 use nodes::node_word;
@@ -27,6 +28,9 @@ use nodes::skip_nots;
 use ring::byte_of;
 use rule::Outcome;
 use rule::Verdict;
+
+// How many numbers a byte can hold.
+const BYTE_VALUES: u32 = 256;
 
 fn wide(b: u8) -> u32
     ensures { λ r. ⌜ (r ≡ b) × (r < 256) ⌝ }
@@ -71,11 +75,11 @@ fn own_tick(pos: &[u64; 5]) -> u32
 
 // Moves the formula whose run is the words from a to z, and whose outcome the words k and k + 2 hold.
 fn advance_part(
-    nodes: &[u32; 768],
+    nodes: &[u32; TABLE_WORDS],
     left: usize,
     i: usize,
     run: &mut [u32],
-    k: u32,
+    k: usize,
     a: usize,
     z: usize,
     history: &[u8],
@@ -115,7 +119,7 @@ fn advance_part(
 
 // One position q of a range, in its slot: the position's cell, then the body's run. The byte at q is saved when the body starts.
 pub(crate) fn advance_position(
-    nodes: &[u32; 768],
+    nodes: &[u32; TABLE_WORDS],
     left: usize,
     i: usize,
     slot: &mut [u32],
@@ -135,7 +139,7 @@ pub(crate) fn advance_position(
     if t == start {
         slot[1] = wide(byte_of(history, flag, t, q));
     }
-    let c = (slot[1] % 256) as u8;
+    let c = (slot[1] % BYTE_VALUES) as u8;
     let mut places = *pos;
     places[m] = q;
     let mut bytes = *byte;
@@ -175,7 +179,7 @@ fn is_false(o: Outcome) -> bool
 // Of n positions from `first` on, each in its slot of z words, those after the leading ones, all side by side, and `end` beside them. It goes no
 // further once one is false: the range is then false at this step, and its cells are not looked at again.
 fn walk_positions(
-    nodes: &[u32; 768],
+    nodes: &[u32; TABLE_WORDS],
     left: usize,
     i: usize,
     run: &mut [u32],
@@ -225,7 +229,7 @@ fn walk_positions(
 
 // The range whose node starts at word i.
 fn advance_range(
-    nodes: &[u32; 768],
+    nodes: &[u32; TABLE_WORDS],
     left: usize,
     i: usize,
     run: &mut [u32],
@@ -272,7 +276,7 @@ fn advance_range(
 
 // "Then" at word i: its first part, then the second, which is started at the first one's step.
 fn advance_then(
-    nodes: &[u32; 768],
+    nodes: &[u32; TABLE_WORDS],
     left: usize,
     i: usize,
     run: &mut [u32],
@@ -330,7 +334,7 @@ fn advance_then(
 
 // "Beside" at word i: its first part, in the words that the node says, and the second, which is left out where the first is false.
 fn advance_beside(
-    nodes: &[u32; 768],
+    nodes: &[u32; TABLE_WORDS],
     left: usize,
     i: usize,
     run: &mut [u32],
@@ -388,7 +392,7 @@ fn advance_beside(
 
 // A run of nots from word i on: what stands under it has the same run of cells, and is moved in one call.
 fn advance_not(
-    nodes: &[u32; 768],
+    nodes: &[u32; TABLE_WORDS],
     left: usize,
     i: usize,
     run: &mut [u32],
@@ -410,7 +414,7 @@ fn advance_not(
 
 // Moves the formula at word i, started at s, to tick t. Flags come most often, and are looked for first.
 fn advance(
-    nodes: &[u32; 768],
+    nodes: &[u32; TABLE_WORDS],
     left: usize,
     i: usize,
     run: &mut [u32],

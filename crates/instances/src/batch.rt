@@ -9,8 +9,15 @@ ghost use Rattle.cell_runs.specs.Batches.{FlagsFit, FlagsTaken, PairsFit, Pairs
 use crate::instances::Moved;
 use crate::instances::move_tick;
 use figures::FigureAnswer;
+use nodes::TABLE_WORDS;
 use refusal::Refusal;
 use rule::Figures;
+
+// How many ticks have a number.
+const TICKS: u32 = 4294967295;
+
+// The words that one step of any rule can report.
+const REPORT_WORDS: usize = 256;
 
 // How many flags were taken, how many pairs of a tick and its deciding step were written and how many ticks are live, or why the batch was refused.
 pub enum BatchAnswer {
@@ -29,7 +36,7 @@ pub(crate) struct Progress {
 fn flags_left(n: usize, tick: u32) -> usize
     ensures { λ r. ⌜ r ≡ min n (4294967295 - tick) ⌝ }
 {
-    let left = (4294967295 - tick) as usize;
+    let left = (TICKS - tick) as usize;
     if n < left { n } else { left }
 }
 
@@ -49,7 +56,7 @@ fn spread(report: &mut [u32], n: usize, step: u32)
 
 // Takes tick t, whose report has `half` words for its ticks and as many again for their steps, and makes pairs of them.
 fn move_pairs(
-    nodes: &[u32; 768],
+    nodes: &[u32; TABLE_WORDS],
     figures: Figures,
     t: u64,
     history: &mut [u8],
@@ -68,7 +75,7 @@ fn move_pairs(
 
 // Takes flags from tick `tick` on, until they or the tick numbers end, or the report has no room for another step.
 fn take_flags(
-    nodes: &[u32; 768],
+    nodes: &[u32; TABLE_WORDS],
     figures: Figures,
     tick: u32,
     live: usize,
@@ -129,14 +136,14 @@ pub fn take_batch(
 ) -> BatchAnswer
     ensures { λ r. ⌜ BatchOf (now (body .entry)) opened tick live (now (flags .entry)) (now (history .entry)) (now (cells .entry)) (now (report .entry)) r (now (history .exit)) (now (cells .exit)) (now (report .exit)) ⌝ }
 {
-    let mut nodes = [0u32; 768];
+    let mut nodes = [0u32; TABLE_WORDS];
     let admitted = admission::admit_step(
         body,
         opened,
         tick,
         history.len(),
         cells.len(),
-        256,
+        REPORT_WORDS,
         &mut nodes,
     );
     match admitted {

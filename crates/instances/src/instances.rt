@@ -9,9 +9,10 @@ ghost use Rattle.cell_runs.specs.Tree.{tree-at};
 ghost use Rattle.cell_runs.specs.Instances.{InstanceMoved, InstanceFit, tick-if-false, open-count, TicksFit, TicksMoved, Spared};
 ghost use Rattle.cell_runs.specs.Moves.{TickFit, TickMoved};
 use crate::advance::advance_position;
+use crate::marks::load_outcome;
 use cells::CELL_WORDS;
-use cells::load_outcome;
 use nodes::FORMULAS;
+use nodes::TABLE_WORDS;
 use ring::remember;
 use rule::Figures;
 use rule::Outcome;
@@ -26,7 +27,7 @@ pub(crate) struct Moved {
 // The instance of tick p, moved to tick t: a range's position with no variable before it. One that was decided before is answered from its
 // cell.
 fn move_instance(
-    nodes: &[u32; 768],
+    nodes: &[u32; TABLE_WORDS],
     left: usize,
     run: &mut [u32],
     history: &[u8],
@@ -101,7 +102,7 @@ fn next_slot(j: u64, n: u64) -> u64
 
 // Moves the ticks from `low` to t, each in its slot of c words.
 fn move_ticks(
-    nodes: &[u32; 768],
+    nodes: &[u32; TABLE_WORDS],
     left: usize,
     table: &mut [u32],
     history: &[u8],
@@ -136,7 +137,7 @@ fn move_ticks(
 // Takes tick t, whose flag byte is given, of the rule whose node table is `nodes`: starts its instance, moves all live ones, writes the ticks that are
 // false at this step into the report, and stores the byte in the history, last.
 pub(crate) fn move_tick(
-    nodes: &[u32; 768],
+    nodes: &[u32; TABLE_WORDS],
     figures: Figures,
     t: u64,
     history: &mut [u8],
@@ -148,7 +149,7 @@ pub(crate) fn move_tick(
     ensures { λ r. ⌜ TickMoved (now (nodes .entry)) figures t (now (history .entry)) flag (now (cells .entry)) (now (report .entry)) (r .reported) (r .live) (now (history .exit)) (now (cells .exit)) (now (report .exit)) ⌝ }
 {
     let n = figures.delay + 1;
-    let c = (figures.cells / n * 4) as usize;
+    let c = (figures.cells / n) as usize * CELL_WORDS;
     let low = oldest_tick(t, n);
     let moved = move_ticks(nodes, FORMULAS, cells, history, flag, report, t, low, n, c);
     remember(history, t, flag);

@@ -3,6 +3,7 @@ mod advance;
 mod batch;
 mod head;
 mod instances;
+mod marks;
 mod stepping;
 
 pub use batch::BatchAnswer;

@@ -2,6 +2,7 @@
 ghost use Rattle.instances.specs.Answers.{StepOf};
 use crate::instances::move_tick;
 use figures::FigureAnswer;
+use nodes::TABLE_WORDS;
 use refusal::Refusal;
 
 // How many ticks were reported and how many are live, or why the step was refused.
@@ -22,7 +23,7 @@ pub fn take_step(
 ) -> StepAnswer
     ensures { λ r. ⌜ StepOf (now (body .entry)) opened tick flag (now (history .entry)) (now (cells .entry)) (now (report .entry)) r (now (history .exit)) (now (cells .exit)) (now (report .exit)) ⌝ }
 {
-    let mut nodes = [0u32; 768];
+    let mut nodes = [0u32; TABLE_WORDS];
     let admitted = admission::admit_step(
         body,
         opened,

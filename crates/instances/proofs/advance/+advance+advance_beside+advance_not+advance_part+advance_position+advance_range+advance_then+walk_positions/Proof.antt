@@ -14,9 +14,8 @@ use Rattle.ranges.specs.Spans.{positions-of}
 use Rattle.cell_runs.specs.Tree.{Tree, then-node, beside-node, tree-at}
 use Rattle.cell_runs.specs.Calls.{env-of, places, Fit, SlotFit, Advanced}
 use Rattle.cell_runs.proofs.Slots.{slot-before}
-use Rattle.cells.proofs.Marks.{loaded-there, stored-there}
 use Rattle.cell_runs.proofs.PutBack.{tail-take}
-use Rattle.cells.proofs.Heads.{leading-in-least, leading-there}
+use Rattle.cells.proofs.Heads.{leading-least}
 use Rattle.cell_runs.proofs.Walks.{WalkedTo, walk-begun, walk-done, walk-more, walk-stopped}
 use Rattle.cell_runs.proofs.Parts.{tick-is, part-stays, part-moved}
 use Rattle.cell_runs.proofs.Positions.{position-of}
@@ -25,7 +24,7 @@ use Rattle.cell_runs.proofs.Besides.{beside-of, beside-stopped}
 use Rattle.cell_runs.proofs.Foralls.{plan-here, range-of}
 use Rattle.cell_runs.proofs.Formulas.{flag-of, is-then, is-beside, is-range}
 use Rattle.cell_runs.proofs.Nots.{fit-nots, nots-of}
-use Rattle.cell_runs.proofs.Fits.{tail-length, window-length, slot-length, fit-entered, fit-head, fit-short, fit-long, fit-walk, fit-store, part-room, fit-first, fit-second, fit-beside, fit-left, fit-right, fit-flag, fit-come}
+use Rattle.cell_runs.proofs.Fits.{tail-length, window-length, slot-length, fit-entered, fit-head, fit-short, fit-long, fit-walk, fit-store, fit-first, fit-second, fit-beside, fit-left, fit-right, fit-flag, fit-come}
 use borrow.Fn.Kinds.{In}
 use borrow.Fn.PlainCycle.{Measures, is, falls, and}
 use Rattle.instances.proofs.advance.advance.Reads as advance
@@ -56,10 +55,10 @@ use Rattle.instances.proofs.advance.flag_in.Reads as flag-in-reads
 use Rattle.instances.proofs.advance.is_false.Reads as is-false-reads
 use Rattle.instances.proofs.advance.is_flag.Reads as is-flag-reads
 use Rattle.instances.proofs.advance.wide.Reads as wide-reads
-use Rattle.cells.proofs.load_outcome.Reads as load-outcome-reads
-use Rattle.cells.proofs.store_outcome.Reads as store-outcome-reads
+use Rattle.instances.proofs.marks.load_outcome.Reads as load-outcome-reads
+use Rattle.instances.proofs.marks.store_outcome.Reads as store-outcome-reads
 use Rattle.instances.proofs.advance.own_tick.Reads as own-tick-reads
-use Rattle.cells.proofs.load_head.Reads as load-head-reads
+use Rattle.instances.proofs.head.load_head.Reads as load-head-reads
 use Rattle.instances.proofs.head.move_head.Reads as move-head-reads
 use Rattle.ring.proofs.byte_of.Reads as byte-of-reads
 use Rattle.nodes.proofs.node_word.Reads as node-word-reads
@@ -577,7 +576,9 @@ advance-part-own-tick-requires : (t : ℕ) → advance-part-lts.Need-own-tick-re
 advance-part-own-tick-requires measure c κs = let s₀ = c .before .before in omega (arith, s₀ .pre .1 .fit .past 0, s₀ .pre .1 .fit .low)
 
 advance-part-load-outcome-requires : (t : ℕ) → advance-part-lts.Need-load-outcome-requires (advance-part-claims t) (advance-part-at t) advance-part.Post
-advance-part-load-outcome-requires t c κs = search needs
+advance-part-load-outcome-requires measure c κs =
+    let s₀ = c .before .before .before .before .before in
+    (omega (arith, s₀ .pre .1 .after-cell, s₀ .pre .1 .start, s₀ .pre .1 .end), s₀ .pre .1 .cell)
 
 advance-part-enum-told : (t : ℕ) → advance-part-lts.Need-enum-told (advance-part-claims t) (advance-part-at t) advance-part.Post
 advance-part-enum-told t c = search needs
@@ -604,7 +605,7 @@ advance-part-returns measure c =
     let at-if1 = c .before .before .before .before .if1 in
     let at-load-outcome = c .before .before .load-outcome in
     let at-enum-told = c .enum-told in
-    part-stays (tree-at left nodes i) hist b env s t k a z run (at-own-tick .result) (at-load-outcome .result) _ _ (at-own-tick .ensures ∙ tick-is env (s₀ .pre .1 .fit .some)) (at-if1 .taken) (at-load-outcome .ensures ∙ loaded-there (at-own-tick .result) k run (omega (arith, part-room (s₀ .pre .1)))) (at-enum-told .given .1)
+    part-stays (tree-at left nodes i) hist b env s t k a z run (at-own-tick .result) (at-load-outcome .result) _ _ (at-own-tick .ensures ∙ tick-is env (s₀ .pre .1 .fit .some)) (at-if1 .taken) (at-load-outcome .ensures) (at-enum-told .given .1)
 
 advance-part-enum-told-2 : (t : ℕ) → advance-part-lts.Need-enum-told-2 (advance-part-claims t) (advance-part-at t) advance-part.Post
 advance-part-enum-told-2 t c = search needs
@@ -660,8 +661,8 @@ advance-part-returns-2 measure c =
     let at-advance = c .before .before .before .before .before .before .advance in
     let at-store-outcome = c .before .before .store-outcome in
     part-moved (tree-at left nodes i) hist b env s t k a z run (at-own-tick .result) (at-own-tick .ensures ∙ tick-is env (s₀ .pre .1 .fit .some)) (s₀ .pre .1) (fit-come (s₀ .pre .1 .fit))
-    (⊎-elim (λ x. inr (sym (x .4 .given .1) ∙ x .2 .ensures ∙ loaded-there (at-own-tick .result) k run (omega (arith, part-room (s₀ .pre .1))))) (λ x. inl (x .left)) (at-if1 .came))
-    (at-advance .result) (at-advance .last .1 .1 .1 .0) (at-store-outcome .last .0) (at-advance .ensures) (at-advance .kept .1 .1 .1 .0) (at-store-outcome .ensures ∙ stored-there (at-own-tick .result) k (at-advance .result) (putMid a (z - a) run (at-advance .last .1 .1 .1 .0)) (omega (arith, part-room (s₀ .pre .1), same-len-mid a (z - a) run (at-advance .last .1 .1 .1 .0) (at-advance .kept .1 .1 .1 .0))))
+    (⊎-elim (λ x. inr (sym (x .4 .given .1) ∙ x .2 .ensures)) (λ x. inl (x .left)) (at-if1 .came))
+    (at-advance .result) (at-advance .last .1 .1 .1 .0) (at-store-outcome .last .0) (at-advance .ensures) (at-advance .kept .1 .1 .1 .0) (at-store-outcome .ensures)
 
 advance-position-later-requires : (t : ℕ) → advance-position-lts.Need-later-requires (advance-position-claims t) (advance-position-at t) advance-position.Post
 advance-position-later-requires t c κs = search needs
@@ -758,7 +759,9 @@ advance-range-own-tick-requires : (t : ℕ) → advance-range-lts.Need-own-tick-
 advance-range-own-tick-requires measure c κs = let s₀ = c .before .before .before .before .before .before .before in omega (arith, s₀ .pre .1 .1 .past 0, s₀ .pre .1 .1 .low)
 
 advance-range-load-head-requires : (t : ℕ) → advance-range-lts.Need-load-head-requires (advance-range-claims t) (advance-range-at t) advance-range.Post
-advance-range-load-head-requires t c κs = search needs
+advance-range-load-head-requires measure c κs =
+    let s₀ = c .before .before .before .before .before .before .before .before .before in
+    fit-head (s₀ .pre .1 .1)
 
 advance-range-add-walk-positions : (t : ℕ) → advance-range-lts.Need-add-walk-positions (advance-range-claims t) (advance-range-at t) advance-range.Post
 advance-range-add-walk-positions measure c =
@@ -796,7 +799,7 @@ advance-range-walk-positions-requires measure c κs =
     let plan = plan-here (bound-at nodes (i + 1)) (bound-at nodes (i + 4)) env t s (at-plan-up-to .result .first) (at-plan-up-to .result .n) (at-plan-up-to .result .end) (positions-of (at-range-at .result)) (s₀ .pre .1 .1 .low) (s₀ .pre .1 .1 .past) (s₀ .pre .1 .1 .unbound) (at-range-at .ensures) (at-plan-up-to .ensures) in (
       omega (arith, s₀ .pre .0),
       fit-walk (s₀ .pre .1 .1) s (at-plan-up-to .result .first) (at-load-head .result .leading) (at-plan-up-to .result .n) (at-node-word .result) (length (take (length run - 4) (drop 4 run))) (at-plan-up-to .result .end)
-          (subst (λ (x : ℕ). x ≤ at-plan-up-to .result .n) (sym (at-load-head .ensures .0)) (leading-in-least s t (at-plan-up-to .result .n) run)) (at-node-word .ensures) (tail-length run) plan,
+          (subst (λ (x : ℕ). x ≤ at-plan-up-to .result .n) (sym (at-load-head .ensures .0)) (leading-least s t (at-plan-up-to .result .n) (getD run 0 0))) (at-node-word .ensures) (tail-length run) plan,
     )
 
 advance-range-move-head-requires : (t : ℕ) → advance-range-lts.Need-move-head-requires (advance-range-claims t) (advance-range-at t) advance-range.Post
@@ -816,7 +819,7 @@ advance-range-move-head-requires measure c κs =
     let at-walk-positions = c .before .before .before .walk-positions in
     let plan = plan-here (bound-at nodes (i + 1)) (bound-at nodes (i + 4)) env t s (at-plan-up-to .result .first) (at-plan-up-to .result .n) (at-plan-up-to .result .end) (positions-of (at-range-at .result)) (s₀ .pre .1 .1 .low) (s₀ .pre .1 .1 .past) (s₀ .pre .1 .1 .unbound) (at-range-at .ensures) (at-plan-up-to .ensures) in
     fit-store (s₀ .pre .1 .1) s (at-plan-up-to .result .first) (at-load-head .result .leading) (at-plan-up-to .result .n) (at-node-word .result) (length (putMid 4 (length run - 4) run (at-walk-positions .last .1 .1 .1 .0))) (at-plan-up-to .result .end)
-    (subst (λ (x : ℕ). x ≤ at-plan-up-to .result .n) (sym (at-load-head .ensures .0)) (leading-in-least s t (at-plan-up-to .result .n) run)) (at-node-word .ensures) (same-len-mid 4 (length run - 4) run (at-walk-positions .last .1 .1 .1 .0) (at-walk-positions .kept .1 .1 .1 .0)) plan
+    (subst (λ (x : ℕ). x ≤ at-plan-up-to .result .n) (sym (at-load-head .ensures .0)) (leading-least s t (at-plan-up-to .result .n) (getD run 0 0))) (at-node-word .ensures) (same-len-mid 4 (length run - 4) run (at-walk-positions .last .1 .1 .1 .0) (at-walk-positions .kept .1 .1 .1 .0)) plan
 
 advance-range-both-requires : (t : ℕ) → advance-range-lts.Need-both-requires (advance-range-claims t) (advance-range-at t) advance-range.Post
 advance-range-both-requires t c κs = search needs
@@ -850,7 +853,7 @@ advance-range-returns measure c =
     range-of (at-plan-up-to .result .first) (at-plan-up-to .result .n) (at-load-head .result .leading) (at-load-head .result .latest) (at-own-tick .result) (at-node-word .result) (at-plan-up-to .result .end) (at-walk-positions .result) (at-both .result) (at-walk-positions .last .1 .1 .1 .0) (putMid 4 (length run - 4) run (at-walk-positions .last .1 .1 .1 .0)) (at-move-head .last .0)
     (at-node-word .ensures) (fit-head (s₀ .pre .1 .1)) plan (at-own-tick .ensures ∙ tick-is env (s₀ .pre .1 .1 .some)) (omega (arith, fit-long (s₀ .pre .1 .1), s₀ .pre .1 .1 .some)) (s₀ .pre .1 .1 .near)
     (fit-short (s₀ .pre .1 .1) s (at-plan-up-to .result .first) (at-plan-up-to .result .n) (at-plan-up-to .result .end) plan)
-    (at-load-head .ensures .0 ∙ leading-there s t (at-plan-up-to .result .n) run (omega (arith, fit-head (s₀ .pre .1 .1)))) (at-load-head .ensures .1) (at-walk-positions .ensures) refl (at-move-head .ensures) (at-both .ensures)
+    (at-load-head .ensures .0) (at-load-head .ensures .1) (at-walk-positions .ensures) refl (at-move-head .ensures) (at-both .ensures)
 
 advance-then-add-advance-part : (t : ℕ) → advance-then-lts.Need-add-advance-part (advance-then-claims t) (advance-then-at t) advance-then.Post
 advance-then-add-advance-part measure c =

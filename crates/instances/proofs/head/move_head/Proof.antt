@@ -1,9 +1,8 @@
--- `head::move_head` meets its contract: the head is moved on over the slots, and its cell written.
+-- `head::move_head` meets its contract: the head is moved on over the slots, and two words of its cell are written.
 use Prim.Native.Nat.{_-_}
-use mathlib.Core.Path.{sym, subst}
+use mathlib.Core.Path.{_≡_}
 use native.Mathlib.Omega.{arith}
-use lib.ListN.{length, take, drop}
-use Rattle.cell_runs.specs.Leading.{HeadMoved}
+use lib.ListN.{length, take, drop, set, length-set}
 use Rattle.cell_runs.proofs.PutBack.{tail-take}
 use Rattle.cell_runs.proofs.Heads.{head-rest, head-moved}
 use borrow.Author.Needs.{needs}
@@ -24,20 +23,31 @@ leading-true-requires c κs =
     let s₀ = c .before .before .before in
     head-rest (s₀ .args .z) (s₀ .args .n) (s₀ .args .leading) (s₀ .args .run .now) (s₀ .pre)
 
-store-head-requires : tie.Need-store-head-requires
-store-head-requires c κs = search needs
+elapsed-requires : tie.Need-elapsed-requires
+elapsed-requires c κs = search needs
+
+slice-write-run : tie.Need-slice-write-run
+slice-write-run c = search needs
+
+cast-run : tie.Need-cast-run
+cast-run c = search needs
+
+slice-write-run-2 : tie.Need-slice-write-run-2
+slice-write-run-2 c =
+    let s₀ = c .before .before .before .before .before .before in
+    let l : length (set (s₀ .args .run .now) 2 (c .before .elapsed .result)) ≡ length (s₀ .args .run .now) = length-set (s₀ .args .run .now) 2 (c .before .elapsed .result) in
+    omega (arith, s₀ .pre .room)
 
 same-length : tie.Need-same-length
 same-length c = search needs
 
 returns : tie.Need-returns
 returns c =
-    let s₀ = c .before .before .before .before .before .before .before .before in
+    let s₀ = c .before .before .before .before .before .before in
     let run = s₀ .args .run .now in
-    let head = c .before .before .before .before .leading-true in
-    subst (HeadMoved (s₀ .args .p) (s₀ .args .z) (s₀ .args .n) run (s₀ .args .leading) (s₀ .args .latest)) (sym (c .before .before .store-head .ensures))
-    (head-moved (s₀ .args .p) (s₀ .args .z) (s₀ .args .n) run (take (length run - 4) (drop 4 run)) (s₀ .args .leading) (s₀ .args .latest) (head .result .leading) (head .result .latest)
-    (omega (arith, s₀ .pre .room)) (tail-take run) (head .ensures))
+    let head = c .before .before .leading-true in
+    head-moved (s₀ .args .p) (s₀ .args .z) (s₀ .args .n) run (take (length run - 4) (drop 4 run)) (s₀ .args .leading) (s₀ .args .latest) (head .result .leading) (head .result .latest) (c .before .elapsed .result)
+    (omega (arith, s₀ .pre .room)) (tail-take run) (c .before .elapsed .ensures) (head .ensures)
 
 pub move-head-spec : {M : Type 1} → statement M
 move-head-spec =
@@ -47,6 +57,9 @@ move-head-spec =
     part-leading-true-start
     part-leading-true-end
     leading-true-requires
-    store-head-requires
+    elapsed-requires
+    slice-write-run
+    cast-run
+    slice-write-run-2
     same-length
     returns)

@@ -1,8 +1,6 @@
 -- `instances::move_instance` meets its contract: an instance is a position of no range, or was decided before.
-use mathlib.Core.Path.{_∙_}
 use native.Mathlib.Omega.{arith}
 use lib.ListN.{length}
-use Rattle.cells.proofs.Marks.{loaded-there}
 use Rattle.cell_runs.specs.Tree.{tree-at}
 use Rattle.cell_runs.proofs.OneInstance.{moved-of, slot-fit, stood-of}
 use borrow.Author.Needs.{needs}
@@ -15,7 +13,9 @@ cast-load-outcome c =
     omega (arith, fits .low, fits .come)
 
 load-outcome-requires : tie.Need-load-outcome-requires
-load-outcome-requires c κs = search needs
+load-outcome-requires c κs =
+    let fits = c .before .before .before .before .pre in
+    (omega (arith, fits .room), omega arith)
 
 enum-told : tie.Need-enum-told
 enum-told c = search needs
@@ -27,7 +27,7 @@ returns : tie.Need-returns
 returns c =
     let s₀ = c .before .before .before .before .before .before .before in
     let held = c .before .before .load-outcome in
-    stood-of (tree-at (s₀ .args .left) (s₀ .args .nodes .now) 0) (s₀ .args .history .now) (s₀ .args .flag) (s₀ .args .t) (s₀ .args .p) (s₀ .args .run .now) (held .result) _ _ (c .before .before .before .before .if1 .taken) (held .ensures ∙ loaded-there (s₀ .args .p) 0 (s₀ .args .run .now) (omega (arith, s₀ .pre .room))) (c .enum-told .given .1)
+    stood-of (tree-at (s₀ .args .left) (s₀ .args .nodes .now) 0) (s₀ .args .history .now) (s₀ .args .flag) (s₀ .args .t) (s₀ .args .p) (s₀ .args .run .now) (held .result) _ _ (c .before .before .before .before .if1 .taken) (held .ensures) (c .enum-told .given .1)
 
 enum-told-2 : tie.Need-enum-told-2
 enum-told-2 c = search needs
