@@ -15,6 +15,11 @@ use refusal::Refusal;
 use words::byte_after;
 use words::word_at;
 
+// The largest offset, and the least of the 16-bit words that stand for its opposite and what is nearer to 0.
+const LARGEST_OFFSET: usize = 4095;
+
+const LEAST_NEGATIVE: usize = 65536 - LARGEST_OFFSET;
+
 // Kind 2 names a variable that is bound here, inside m quantifiers; the other kinds name none.
 fn variable_is_bound(kind: u8, v: usize, m: usize) -> bool
     ensures { λ r. ⌜ r ≡ (not (eqb kind 2) || leb v m) ⌝ }
@@ -52,10 +57,10 @@ fn offset_allowed(kind: u8, w: usize) -> bool
 fn offset_in_range(w: usize) -> bool
     ensures { λ r. ⌜ r ≡ leb (natAbs (signed w)) 4095 ⌝ }
 {
-    if w <= 4095 {
+    if w <= LARGEST_OFFSET {
         return true;
     }
-    61441 <= w
+    LEAST_NEGATIVE <= w
 }
 
 // The bound whose 4 bytes start at a position, inside m quantifiers.
