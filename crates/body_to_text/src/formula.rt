@@ -11,9 +11,14 @@ use crate::pieces::put_flag;
 use crate::pieces::put_name;
 use crate::store::put;
 use crate::store::put_word;
+use nodes::BESIDE_CODE;
 use nodes::CODE;
 use nodes::FLAG;
+use nodes::FORALL_CODE;
+use nodes::NODE_WORDS;
+use nodes::NOT_CODE;
 use nodes::SECOND_PART;
+use nodes::THEN_CODE;
 use nodes::VARIABLE;
 use nodes::node_word;
 
@@ -40,17 +45,17 @@ fn part_at(p: Place, m: u32, i: usize) -> Place
 fn has_two_parts(code: u32) -> bool
     ensures { λ r. ⌜ r ≡ (eqb code 3 || eqb code 4) ⌝ }
 {
-    if code == 3 {
+    if code == THEN_CODE {
         return true;
     }
-    code == 4
+    code == BESIDE_CODE
 }
 
 // Stores the sign between two parts.
 fn put_sign(out: &mut [u8], at: usize, code: u32) -> usize
     ensures { λ r. ⌜ Wrote (sign-text code) (now (out .entry)) at (now (out .exit)) r ⌝ }
 {
-    if code == 3 {
+    if code == THEN_CODE {
         return put_word(out, at, b" && ");
     }
     put_word(out, at, b" /\\ ")
@@ -78,24 +83,24 @@ pub(crate) fn put_formula(out: &mut [u8], at: usize, nodes: &[u32], p: Place) ->
         return put_flag(out, at, 0, 0);
     }
     let code = node_word(nodes, p.i, CODE);
-    if code == 2 {
+    if code == NOT_CODE {
         let part = put(out, at, b'~');
-        return put_formula(out, part, nodes, part_at(p, p.m, p.i + 12));
+        return put_formula(out, part, nodes, part_at(p, p.m, p.i + NODE_WORDS));
     }
     if has_two_parts(code) {
         let first = put(out, at, b'(');
-        let sign = put_formula(out, first, nodes, part_at(p, p.m, p.i + 12));
+        let sign = put_formula(out, first, nodes, part_at(p, p.m, p.i + NODE_WORDS));
         let second = put_sign(out, sign, code);
         let j = node_word(nodes, p.i, SECOND_PART) as usize;
         let end = put_formula(out, second, nodes, part_at(p, p.m, j));
         return put(out, end, b')');
     }
-    if code == 5 {
+    if code == FORALL_CODE {
         if 4 <= p.m {
             return put_flag(out, at, 0, 0);
         }
         let part = put_range(out, at, nodes, p.i, p.m + 1);
-        return put_formula(out, part, nodes, part_at(p, p.m + 1, p.i + 12));
+        return put_formula(out, part, nodes, part_at(p, p.m + 1, p.i + NODE_WORDS));
     }
     let v = node_word(nodes, p.i, VARIABLE);
     let k = node_word(nodes, p.i, FLAG);

@@ -13,6 +13,8 @@ ghost use Rattle.body_to_text.specs.Parts.{rule-text};
 ghost use Rattle.body_to_text.specs.Writable.{FlagsFit, Writable};
 use formula::Place;
 use formula::put_formula;
+use nodes::FORMULAS;
+use nodes::TABLE_WORDS;
 use reader::Reading;
 use sheet::Written;
 use store::put_word;
@@ -28,7 +30,7 @@ fn put_rule(work: &mut [u8], nodes: &[u32]) -> usize
         next,
         nodes,
         Place {
-            left: 64,
+            left: FORMULAS,
             m: 0,
             i: 0,
         },
@@ -36,7 +38,7 @@ fn put_rule(work: &mut [u8], nodes: &[u32]) -> usize
 }
 
 // Writes the text of the rule whose table is filled.
-fn write_rule(nodes: &[u32; 768], out: &mut [u8]) -> Written
+fn write_rule(nodes: &[u32; TABLE_WORDS], out: &mut [u8]) -> Written
     requires { ⌜ Writable (formula-in 64 (now nodes) 0 0) ⌝ }
     ensures { λ r. ⌜ Writes (fitted (length (now (out .entry))) (rule-text (now (nodes .entry)))) (written r) (now (out .entry)) (now (out .exit)) ⌝ }
 {
@@ -50,7 +52,7 @@ fn write_rule(nodes: &[u32; 768], out: &mut [u8]) -> Written
 pub fn write_text(body: &[u8], out: &mut [u8]) -> Written
     ensures { λ r. ⌜ Writes (text-of-body (now (body .entry)) (length (now (out .entry)))) (written r) (now (out .entry)) (now (out .exit)) ⌝ }
 {
-    let mut nodes = [0u32; 768];
+    let mut nodes = [0u32; TABLE_WORDS];
     let reading = reader::read_body(body, &mut nodes);
     match reading {
         Reading::Stored => write_rule(&nodes, out),

@@ -9,6 +9,8 @@ ghost use Rattle.notation.specs.Printing.{variable-name, digit-of, digits, offs
 ghost use Rattle.body_to_text.specs.Storing.{Wrote};
 use crate::store::put;
 use crate::store::put_word;
+use nodes::INFINITY_KIND;
+use nodes::ORIGIN_KIND;
 use nodes::node_word;
 
 // A variable's letter.
@@ -106,11 +108,11 @@ pub(crate) fn put_bound(out: &mut [u8], at: usize, nodes: &[u32], j: usize) -> u
     ensures { λ r. ⌜ Wrote (end-text (end-named (bound-at (now (nodes .entry)) j)) []) (now (out .entry)) at (now (out .exit)) r ⌝ }
 {
     let kind = node_word(nodes, j, 0);
-    if kind == 0 {
+    if kind == ORIGIN_KIND {
         let next = put(out, at, b'0');
         return put_offset(out, next, node_word(nodes, j, 2));
     }
-    if kind == 1 {
+    if kind == INFINITY_KIND {
         return put_word(out, at, b"infinity");
     }
     let next = put_name(out, at, node_word(nodes, j, 1));

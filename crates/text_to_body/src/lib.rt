@@ -12,6 +12,7 @@ ghost use lib.ListN.{length};
 ghost use Rattle.refusal.specs.Answer.{and-then};
 ghost use Rattle.sheet.specs.Writing.{written};
 ghost use Rattle.notation.specs.Bodies.{checked, fitted, body-of-text, Writes};
+use nodes::TABLE_WORDS;
 use notation::deliver;
 use reader::Reading;
 use reader::read_body;
@@ -22,7 +23,7 @@ use translate::translate;
 fn write_if_legal(body: &[u8], out: &mut [u8]) -> Written
     ensures { λ r. ⌜ Writes (and-then (checked (now (body .entry))) (fitted (length (now (out .entry))))) (written r) (now (out .entry)) (now (out .exit)) ⌝ }
 {
-    let mut nodes = [0u32; 768];
+    let mut nodes = [0u32; TABLE_WORDS];
     let reading = read_body(body, &mut nodes);
     match reading {
         Reading::Refused(x) => Written::Refused(x),
