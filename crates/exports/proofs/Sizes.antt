@@ -3,9 +3,9 @@ use Prim.Native.Nat.{ℕ}
 use mathlib.Core.Path.{_≡_, refl}
 use mathlib.Core.List.{List}
 use lib.ListN.{length}
-use Rattle.refusal.specs.Answer.{Answer, refused, accepted}
+use Rattle.refusal.specs.Answer.{Answer, refused, accepted, or-kept}
 use Rattle.notation.specs.Bodies.{length-of}
-use Rattle.exports.specs.Answers.{number, or-kept}
+use Rattle.exports.specs.Answers.{number}
 
 pub length-number : (x : Answer (List ℕ)) → number (length-of x) ≡ number x
 length-number (refused n) = refl

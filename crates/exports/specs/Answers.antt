@@ -1,5 +1,5 @@
 -- How an answer crosses to C: "every function answers 0 or 01's refusal number", and what it found goes into lent numbers, which "on a refusal" keep
--- their content.
+-- their content (`or-kept`, crate refusal).
 use Prim.Native.Nat.{ℕ, zero, suc}
 use mathlib.Core.Path.{_≡_}
 use Rattle.refusal.specs.Answer.{Answer, refused, accepted}
@@ -11,11 +11,6 @@ use Rattle.rule.specs.declared.Outcome.the-variants.{Decided, Open}
 abbrev pub number : {A : Type 0} → Answer A → ℕ
 number (refused n) = n
 number (accepted a) = 0
-
--- What a lent number holds after an answer: a part of what was found, or what it held before.
-abbrev pub or-kept : {A : Type 0} → (A → ℕ) → Answer A → ℕ → ℕ
-or-kept part (refused n) old = old
-or-kept part (accepted a) old = part a
 
 -- The other way round: the answer that the number n and what was found make up.
 abbrev pub answered : {A : Type 0} → ℕ → A → Answer A

@@ -1,8 +1,9 @@
 // A body's figures, and its outcome at a tick of a recording.
 ghost use mathlib.Core.Path.{_≡_};
+ghost use Rattle.refusal.specs.Answer.{or-kept};
 ghost use Rattle.rule.specs.Figures.{body-figures};
 ghost use Rattle.rule.specs.Recording.{recording-outcome};
-ghost use Rattle.exports.specs.Answers.{number, or-kept, verdict-number, step-number};
+ghost use Rattle.exports.specs.Answers.{number, verdict-number, step-number};
 use figures::FigureAnswer;
 use recording::Evaluated;
 use rule::Outcome;

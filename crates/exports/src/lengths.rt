@@ -1,7 +1,8 @@
 // How long what was written is, as C hears it.
 ghost use mathlib.Core.Path.{_≡_};
+ghost use Rattle.refusal.specs.Answer.{or-kept};
 ghost use Rattle.sheet.specs.Writing as sheets;
-ghost use Rattle.exports.specs.Answers.{number, or-kept};
+ghost use Rattle.exports.specs.Answers.{number};
 use sheet::Written;
 
 // Answers 0 and sets the length, or answers the refusal's number and leaves the length as it is.

@@ -1,9 +1,10 @@
 // Rules as text: a body from the text that a seismologist typed, and a body as such a text.
 ghost use mathlib.Core.Path.{_≡_};
 ghost use lib.ListN.{length};
+ghost use Rattle.refusal.specs.Answer.{or-kept};
 ghost use Rattle.notation.specs.Bodies.{body-of-text, buffer-with};
 ghost use Rattle.notation.specs.Printing.{text-of-body};
-ghost use Rattle.exports.specs.Answers.{number, or-kept};
+ghost use Rattle.exports.specs.Answers.{number};
 use crate::lengths::answer_length;
 
 // Writes the body of a rule's text at the start of the buffer and answers its length: refusals 25, 26, 4 to 10, 23, 24, 22.

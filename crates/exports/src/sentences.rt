@@ -1,7 +1,8 @@
 // A refusal in words.
 ghost use mathlib.Core.Path.{_≡_};
 ghost use lib.ListN.{length};
-ghost use Rattle.exports.specs.Answers.{number, or-kept};
+ghost use Rattle.refusal.specs.Answer.{or-kept};
+ghost use Rattle.exports.specs.Answers.{number};
 ghost use Rattle.exports.specs.Sentences.{sentence-length, with-sentence};
 use refusal::Refusal;
 

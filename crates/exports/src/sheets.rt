@@ -1,9 +1,10 @@
 // Reading and writing sheets.
 ghost use mathlib.Core.Path.{_≡_};
 ghost use lib.ListN.{length};
+ghost use Rattle.refusal.specs.Answer.{or-kept};
 ghost use Rattle.sheet.specs.Sheet.{rule-place};
 ghost use Rattle.sheet.specs.Writing.{sheet-length, buffer-after};
-ghost use Rattle.exports.specs.Answers.{number, or-kept};
+ghost use Rattle.exports.specs.Answers.{number};
 use crate::lengths::answer_length;
 use sheet::Found;
 

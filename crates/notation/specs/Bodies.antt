@@ -6,7 +6,7 @@ use mathlib.Core.Bool.{Bool, true, false, cond, _&&_}
 use mathlib.Core.List.{List, [], _∷_, _++_}
 use lib.Dec.{leb}
 use lib.ListN.{length, drop}
-use Rattle.refusal.specs.Answer.{Answer, refused, accepted, and-then}
+use Rattle.refusal.specs.Answer.{Answer, refused, accepted, and-then, or-kept}
 use Rattle.rule.specs.Body.{body}
 use Rattle.notation.specs.Notation.{Base, origin, infinity, position, Offset, nothing, plus, minus, End, end, Named, flag, negate, then, beside, forall, Rule, monitor, same, Reads}
 use Rattle.notation.specs.Reading.{Joint, then-joint, beside-joint, reading}
@@ -125,8 +125,7 @@ length-of (refused n) = refused n
 length-of (accepted b) = accepted (length b)
 
 abbrev pub buffer-with : Answer (List ℕ) → List ℕ → List ℕ
-buffer-with (refused n) out = out
-buffer-with (accepted b) out = b ++ drop (length b) out
+buffer-with answer out = or-kept (λ b. b ++ drop (length b) out) answer out
 
 -- The promise of whoever writes x into a lent buffer `out` and answers r.
 abbrev pub Writes : Answer (List ℕ) → Answer ℕ → List ℕ → List ℕ → Type 0

@@ -2,10 +2,10 @@
 -- Assumes nothing.
 use mathlib.Core.Path.{_≡_, sym, ap, _∙_}
 use denote.Ref.{now}
-use Rattle.refusal.specs.Answer.{Answer}
+use Rattle.refusal.specs.Answer.{Answer, or-kept}
 use Rattle.rule.specs.declared.Figures.{Figures}
 use Rattle.figures.specs.Prepared.{told}
-use Rattle.exports.specs.Answers.{number, or-kept}
+use Rattle.exports.specs.Answers.{number}
 use borrow.Author.Needs.{needs}
 use Rattle.exports.proofs.bodies.sw_figures.Statement.{statement}
 use Rattle.exports.proofs.bodies.sw_figures.Tie as tie

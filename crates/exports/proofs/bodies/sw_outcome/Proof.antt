@@ -2,10 +2,10 @@
 -- Assumes nothing.
 use mathlib.Core.Path.{_≡_, sym, ap, _∙_}
 use denote.Ref.{now}
-use Rattle.refusal.specs.Answer.{Answer}
+use Rattle.refusal.specs.Answer.{Answer, or-kept}
 use Rattle.rule.specs.declared.Outcome.{Outcome}
 use Rattle.recording.specs.Answers.{told}
-use Rattle.exports.specs.Answers.{number, or-kept, verdict-number, step-number}
+use Rattle.exports.specs.Answers.{number, verdict-number, step-number}
 use borrow.Author.Needs.{needs}
 use Rattle.exports.proofs.bodies.sw_outcome.Statement.{statement}
 use Rattle.exports.proofs.bodies.sw_outcome.Tie as tie

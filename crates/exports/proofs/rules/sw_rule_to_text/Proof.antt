@@ -3,9 +3,9 @@
 use Prim.Native.Nat.{ℕ}
 use mathlib.Core.Path.{ap, _∙_}
 use denote.Ref.{now}
-use Rattle.refusal.specs.Answer.{Answer}
+use Rattle.refusal.specs.Answer.{Answer, or-kept}
 use Rattle.sheet.specs.Writing.{written}
-use Rattle.exports.specs.Answers.{number, or-kept}
+use Rattle.exports.specs.Answers.{number}
 use lib.ListN.{length}
 use Rattle.notation.specs.Printing.{text-of-body}
 use Rattle.exports.proofs.Sizes.{length-number, length-kept}

@@ -5,9 +5,9 @@ use native.Mathlib.Omega.{arith}
 use denote.Ref.{now}
 use lib.ListN.{length}
 use lib.Seq.{length-take-le}
-use Rattle.refusal.specs.Answer.{Answer}
+use Rattle.refusal.specs.Answer.{Answer, or-kept}
 use Rattle.refusal_text.specs.Sentences.{sentence-of}
-use Rattle.exports.specs.Answers.{number, or-kept}
+use Rattle.exports.specs.Answers.{number}
 use Rattle.exports.proofs.Texts.{no-room, text-length, there, put-there}
 use borrow.Author.Needs.{needs}
 use Rattle.exports.proofs.sentences.sw_sentence.Statement.{statement}

@@ -2,9 +2,9 @@
 -- Assumes nothing.
 use mathlib.Core.Path.{_≡_, sym, ap, _∙_}
 use denote.Ref.{now}
-use Rattle.refusal.specs.Answer.{Answer}
+use Rattle.refusal.specs.Answer.{Answer, or-kept}
 use Rattle.sheet.specs.Sheet.{Place, found}
-use Rattle.exports.specs.Answers.{number, or-kept}
+use Rattle.exports.specs.Answers.{number}
 use borrow.Author.Needs.{needs}
 use Rattle.exports.proofs.sheets.sw_rule_place.Statement.{statement}
 use Rattle.exports.proofs.sheets.sw_rule_place.Tie as tie
