@@ -18,7 +18,7 @@ use Rattle.rule.proofs.Limits.{within-limits}
 use Rattle.nodes.specs.Table.{Cleared}
 use Rattle.figures.specs.declared.answer.FigureAnswer.{FigureAnswer}
 use Rattle.figures.specs.declared.answer.FigureAnswer.the-variants.{Sized, Refused}
-use Rattle.figures.specs.Prepared.{told, Leaves, Prepared, Kept}
+use Rattle.figures.specs.Prepared.{figures-answer, Leaves, Prepared, KeptOrCleared}
 use Rattle.figures.proofs.Bodies.{kept-leaves}
 use Rattle.demand.specs.Contract.{must, room, as-21, fit-opened, admit-lengths}
 use Rattle.admission.specs.Admitted.{Small, Admitted}
@@ -31,9 +31,9 @@ small b f e =
     let w = within-limits (a .0) f (a .2) in
     record { short = w .short; old = w .old; few = w .few }
 
-module _ (b : List ℕ) (a : FigureAnswer) (told-is : told a ≡ body-figures b) where
+module _ (b : List ℕ) (a : FigureAnswer) (told-is : figures-answer a ≡ body-figures b) where
   pub sized-small : {f : Figures} → a ≡ Sized f → Small f
-  sized-small {f} e = small b f (sym told-is ∙ ap told e)
+  sized-small {f} e = small b f (sym told-is ∙ ap figures-answer e)
 
   pub opening-refused : (h c : ℕ) {x : Refusal} → a ≡ Refused x → refused (number-of x) ≡ and-then (body-figures b) (room h c)
   unfolding and-then
@@ -55,13 +55,13 @@ module _ (b : List ℕ) (L t h c n : ℕ) (ns : List ℕ) where
     pub step-no-rule : {x : Refusal} → a ≡ Refused x → Admitted b L t h c n (Refused StateNotOpened) ns
     unfolding admit-lengths must and-then as-21
     step-no-rule e =
-        record { answer = simp (le-leb L 4096 low, timely, ← p .answer, e); leaves = subst (Leaves b ns) (ap told e) (p .leaves) }
+        record { answer = simp (le-leb L 4096 low, timely, ← p .answer, e); leaves = subst (Leaves b ns) (ap figures-answer e) (p .leaves) }
 
-    pub step-fits : {f : Figures} (r : FigureAnswer) (last : List ℕ) → a ≡ Sized f → told r ≡ fit-opened f L t h c n → Kept (told r) ns last
+    pub step-fits : {f : Figures} (r : FigureAnswer) (last : List ℕ) → a ≡ Sized f → figures-answer r ≡ fit-opened f L t h c n → KeptOrCleared (figures-answer r) ns last
         → Admitted b L t h c n r last
     unfolding admit-lengths must and-then as-21 fit-opened
     step-fits r last e i k =
         record {
           answer = i ∙ simp (le-leb L 4096 low, timely, ← p .answer, e);
-          leaves = kept-leaves b ns last (told r) (subst (Leaves b ns) (ap told e) (p .leaves)) k;
+          leaves = kept-leaves b ns last (figures-answer r) (subst (Leaves b ns) (ap figures-answer e) (p .leaves)) k;
         }

@@ -4,7 +4,7 @@ use mathlib.Core.Path.{_≡_}
 use mathlib.Core.List.{List}
 use Rattle.rule.specs.declared.Figures.{Figures}
 use Rattle.figures.specs.declared.answer.FigureAnswer.{FigureAnswer}
-use Rattle.figures.specs.Prepared.{told, Leaves}
+use Rattle.figures.specs.Prepared.{figures-answer, Leaves}
 use Rattle.demand.specs.Contract.{admit-lengths}
 
 -- Figures within the limits.
@@ -14,5 +14,5 @@ pub record Small (f : Figures) : Type 0 where
   pub few : f .cells ≤ 4096
 
 pub record Admitted (b : List ℕ) (L t history cells report : ℕ) (r : FigureAnswer) (ns : List ℕ) : Type 0 where
-  pub answer : told r ≡ admit-lengths b L t history cells report
-  pub leaves : Leaves b ns (told r)
+  pub answer : figures-answer r ≡ admit-lengths b L t history cells report
+  pub leaves : Leaves b ns (figures-answer r)

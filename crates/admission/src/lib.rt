@@ -2,7 +2,7 @@
 ghost use mathlib.Core.Path.{_≡_};
 ghost use Rattle.refusal.specs.Answer.{and-then};
 ghost use Rattle.rule.specs.Figures.{body-figures};
-ghost use Rattle.figures.specs.Prepared.{told};
+ghost use Rattle.figures.specs.Prepared.{figures-answer};
 ghost use Rattle.demand.specs.Contract.{room, fit-lengths, fit-opened};
 ghost use Rattle.admission.specs.Admitted.{Small, Admitted};
 use figures::FigureAnswer;
@@ -15,7 +15,7 @@ use rule::Figures;
 // The opening of a rule with these figures: its history must have from the figure's bytes up to 4,096, and its table the needed cells.
 fn fit_opening(f: Figures, history: usize, table: usize) -> FigureAnswer
     requires { ⌜ Small f ⌝ }
-    ensures { λ r. ⌜ told r ≡ room history table f ⌝ }
+    ensures { λ r. ⌜ figures-answer r ≡ room history table f ⌝ }
 {
     let least = f.history as usize;
     if history < least {
@@ -34,7 +34,7 @@ fn fit_opening(f: Figures, history: usize, table: usize) -> FigureAnswer
 // The figures with which a rule's body is opened over a history and a cell table of these lengths, or a refusal: 4 to 15, 23, 24,
 // 17, 18.
 pub fn admit_opening(body: &[u8], history: usize, table: usize) -> FigureAnswer
-    ensures { λ r. ⌜ told r ≡ and-then (body-figures (now (body .entry))) (room history table) ⌝ }
+    ensures { λ r. ⌜ figures-answer r ≡ and-then (body-figures (now (body .entry))) (room history table) ⌝ }
 {
     let a = figures::figures(body);
     match a {
@@ -53,7 +53,7 @@ fn fit_step(
     report: usize,
 ) -> FigureAnswer
     requires { ⌜ Small f ⌝ }
-    ensures { λ r. ⌜ told r ≡ fit-lengths f opened tick history cells report ⌝ }
+    ensures { λ r. ⌜ figures-answer r ≡ fit-lengths f opened tick history cells report ⌝ }
 {
     if history != opened {
         return FigureAnswer::Refused(Refusal::HistoryLength);
@@ -82,7 +82,7 @@ fn fit_state(
     report: usize,
 ) -> FigureAnswer
     requires { ⌜ Small f ⌝ }
-    ensures { λ r. ⌜ told r ≡ fit-opened f opened tick history cells report ⌝ }
+    ensures { λ r. ⌜ figures-answer r ≡ fit-opened f opened tick history cells report ⌝ }
 {
     let least = f.history as usize;
     if opened < least {

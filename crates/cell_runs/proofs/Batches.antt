@@ -17,7 +17,7 @@ use Rattle.demand.proofs.Admission.{step-admits}
 use Rattle.rule.proofs.Order.{by-order}
 use Rattle.cell_runs.specs.States.{state-at, taken-from}
 use Rattle.cell_runs.specs.Moves.{Stands, TableOf, TickMoved}
-use Rattle.cell_runs.specs.Batches.{PairsFit, PairsMoved, FlagsFit, FlagsTaken}
+use Rattle.cell_runs.specs.Batches.{PairsFit, PairsMoved, BatchFit, FlagsTaken}
 
 -- ---- ticks become pairs
 
@@ -214,7 +214,7 @@ module _ (ns : List ℕ) (f : Figures) (tick live₀ : ℕ) (flags history₀ ce
             next = ap (λ (x : ℕ). x + i) (at .next);
           }
 
-      pub next-fits : FlagsFit ns f (length history₀) tick (length cells₀) → PairsFit ns f (length history) (tick + i) (length cells) (length part) (f .delay + 1)
+      pub next-fits : BatchFit ns f (length history₀) tick (length cells₀) → PairsFit ns f (length history) (tick + i) (length cells) (length part) (f .delay + 1)
       next-fits fit =
           record {
             fit =
@@ -228,7 +228,7 @@ module _ (ns : List ℕ) (f : Figures) (tick live₀ : ℕ) (flags history₀ ce
             twice = let l = part-long in omega arith;
           }
 
-      module _ (fit : FlagsFit ns f (length history₀) tick (length cells₀)) (n live′ : ℕ) (history′ cells′ ys : List ℕ)
+      module _ (fit : BatchFit ns f (length history₀) tick (length cells₀)) (n live′ : ℕ) (history′ cells′ ys : List ℕ)
           (p : PairsMoved ns f (tick + i) history (getD flags i 0) cells part (f .delay + 1) n live′ history′ cells′ ys) where
         half-part : length (take (f .delay + 1) part) ≡ f .delay + 1
         half-part = length-take-le (f .delay + 1) part (let l = part-long in omega arith)

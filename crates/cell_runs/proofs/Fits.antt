@@ -21,8 +21,8 @@ use Rattle.cell_count.proofs.Saturation.{cap-most}
 use Rattle.ranges.specs.Plans.{Plans}
 use Rattle.cell_runs.specs.Tree.{Tree, flag-node, not-node, then-node, beside-node, range-node, words, Formed}
 use Rattle.cell_runs.specs.Leading.{HeadFit}
-use Rattle.cell_runs.specs.Run.{bind, own-tick}
-use Rattle.cell_runs.specs.Calls.{Env, places, entered, Fit, SlotFit, WalkFit, PartFit}
+use Rattle.cell_runs.specs.Run.{with-position, own-tick}
+use Rattle.cell_runs.specs.Calls.{Env, places, with-byte, Fit, SlotFit, WalkFit, PartFit}
 use Rattle.cell_runs.proofs.Slots.{slot-before}
 use Rattle.cell_runs.proofs.Parts.{tick-is}
 use Rattle.cell_runs.proofs.Positions.{places-entered}
@@ -56,13 +56,13 @@ past-set t ps n q h g s v = elim (decLt v n) [
   ]
 ]
 
-pub fit-entered : (F : Tree) (e : Env) (t q b len n : ℕ) → SlotFit F e t q len → n ≡ len → PartFit F (entered e q b) t 0 4 n n
+pub fit-entered : (F : Tree) (e : Env) (t q b len n : ℕ) → SlotFit F e t q len → n ≡ len → PartFit F (with-byte e q b) t 0 4 n n
 fit-entered F e t q b len n f en =
     let room : 4 + words (f .pairs) F ≤ len = f .room in
     let le : 4 ≤ len = omega arith in
     let deep : e .n < 5 = f .depth in
     let w : length (e .pos) ≡ 5 = f .five-places in
-    let pe : places (entered e q b) ≡ bind (places e) q = places-entered e q b deep (f .five-places) (f .five-bytes) in
+    let pe : places (with-byte e q b) ≡ with-position (places e) q = places-entered e q b deep (f .five-places) (f .five-bytes) in
     rw en (record {
       fit = record {
         pairs = f .pairs;
@@ -130,10 +130,10 @@ module _ {F : Tree} {B₁ B₂ : Bound} {z : ℕ} {e : Env} {t len : ℕ} (f : F
       let few : n ≤ suc t - first = p .few in
       let most : n ≤ w = fit-few s first n end p in
       let inner = body (omega arith) in
-      let eb : own-tick (bind (places e) (first + j)) ≡ own-tick (places e) = let l : length (places e) ≡ e .n = fit-long in let so : 0 < e .n = f .some in List·getD-append (places e) ((first + j) ∷ []) 0 0 (omega arith) in
+      let eb : own-tick (with-position (places e) (first + j)) ≡ own-tick (places e) = let l : length (places e) ≡ e .n = fit-long in let so : 0 < e .n = f .some in List·getD-append (places e) ((first + j) ∷ []) 0 0 (omega arith) in
       record {
         pairs = f .pairs ++ (range-pair B₁ B₂ (f .pairs) ∷ []);
-        fits = subst (λ (b : ℕ). Fits b (f .pairs ++ (range-pair B₁ B₂ (f .pairs) ∷ [])) (bind (places e) (first + j))) (sym eb) (fits-more (f .fits) (range-lies B₁ B₂ (f .fits) (first + j) (p .inside j h)));
+        fits = subst (λ (b : ℕ). Fits b (f .pairs ++ (range-pair B₁ B₂ (f .pairs) ∷ [])) (with-position (places e) (first + j))) (sym eb) (fits-more (f .fits) (range-lies B₁ B₂ (f .fits) (first + j) (p .inside j h)));
         size = length-append (f .pairs) (range-pair B₁ B₂ (f .pairs) ∷ []) ∙ ap (λ (n : ℕ). n + 1) (f .size) ∙ add-one (e .n);
         formed = inner .1;
         room = inner .0;

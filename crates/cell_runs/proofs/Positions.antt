@@ -15,16 +15,16 @@ use Rattle.rule.specs.Started.{Before, Reach}
 use Rattle.cell_runs.specs.Tree.{Tree, formula-of}
 use Rattle.cells.specs.Cells.{CellHolds}
 use Rattle.cell_runs.specs.Slots.{window}
-use Rattle.cell_runs.specs.Run.{out, bind, own-tick, RunHolds, SlotHolds, SlotReady}
+use Rattle.cell_runs.specs.Run.{out, with-position, own-tick, RunHolds, SlotHolds, SlotReady}
 use Rattle.ring.specs.Ring.{byte-of}
-use Rattle.cell_runs.specs.Calls.{Env, places, entered, AtHand, PositionAdvanced, PartAdvanced}
+use Rattle.cell_runs.specs.Calls.{Env, places, with-byte, AtHand, PositionAdvanced, PartAdvanced}
 use Rattle.cell_runs.proofs.PutBack.{tail-take, rest-take}
 
 module _ (e : Env) (q b : ℕ) (deep : e .n < 5) (five : length (e .pos) ≡ 5) (five₂ : length (e .byte) ≡ 5) where
-  pub places-entered : places (entered e q b) ≡ bind (places e) q
+  pub places-entered : places (with-byte e q b) ≡ with-position (places e) q
   places-entered = rw (add-one (e .n)) (take-suc-set (e .pos) (e .n) q (omega arith))
 
-  at-hand-entered : (flags : ℕ → ℕ) (H : ℕ) (hist : List ℕ) (c t : ℕ) → AtHand flags H hist c e t → b ≡ flags q → AtHand flags H hist c (entered e q b) t
+  at-hand-entered : (flags : ℕ → ℕ) (H : ℕ) (hist : List ℕ) (c t : ℕ) → AtHand flags H hist c e t → b ≡ flags q → AtHand flags H hist c (with-byte e q b) t
   at-hand-entered flags H hist c t h eb = record {
     history = h .history;
     current = h .current;
@@ -63,7 +63,7 @@ module _ (F : Tree) (hist : List ℕ) (b : ℕ) (e : Env) (s t q : ℕ) where
         → (((c : ℕ) × (t ≡ start) × (mid ≡ set cell 1 c) × (c ≡ byte-of hist b t q) × (c < 256)) ⊎ ((t ≡ start → ⊥) × (mid ≡ cell)))
         → SlotReady flags t (places e) s F q cell
         → (getD mid 1 0 % 256 ≡ flags q)
-        × Before (max s q) t (λ j. CellHolds (own-tick (bind (places e) q)) 0 (out flags j (bind (places e) q) (max s q) F) (RunHolds flags j (bind (places e) q) (max s q) F (window 4 (length mid) mid)) mid)
+        × Before (max s q) t (λ j. CellHolds (own-tick (with-position (places e) q)) 0 (out flags j (with-position (places e) q) (max s q) F) (RunHolds flags j (with-position (places e) q) (max s q) F (window 4 (length mid) mid)) mid)
     unfolding SlotHolds
     position-was flags H hon near start cell mid es room x ready = ⊎-elim
         (λ n. (
@@ -78,25 +78,25 @@ module _ (F : Tree) (hist : List ℕ) (b : ℕ) (e : Env) (s t q : ℕ) where
 
     pub position-of : (start : ℕ) (r : Outcome) (cell mid cell′ : List ℕ) → start ≡ max s q → 4 ≤ length cell → 4 ≤ length mid
         → (((c : ℕ) × (t ≡ start) × (mid ≡ set cell 1 c) × (c ≡ byte-of hist b t q) × (c < 256)) ⊎ ((t ≡ start → ⊥) × (mid ≡ cell)))
-        → PartAdvanced F hist b (entered e q (getD mid 1 0 % 256)) start t 0 4 (length mid) mid r cell′
+        → PartAdvanced F hist b (with-byte e q (getD mid 1 0 % 256)) start t 0 4 (length mid) mid r cell′
         → PositionAdvanced F hist b e s t q cell r cell′
     unfolding SlotHolds
     position-of start r cell mid cell′ es room room2 x st = record {
       gives = λ flags H hon reach ready.
           let c : ℕ = getD mid 1 0 % 256 in
-          let st′ : PartAdvanced F hist b (entered e q c) (max s q) t 0 4 (length mid) mid r cell′ = rw es at st in
+          let st′ : PartAdvanced F hist b (with-byte e q c) (max s q) t 0 4 (length mid) mid r cell′ = rw es at st in
           let was = position-was flags H hon (reach .0) start cell mid es room x ready in
-          let pe : places (entered e q c) ≡ bind (places e) q = places-entered e q c deep five five₂ in
+          let pe : places (with-byte e q c) ≡ with-position (places e) q = places-entered e q c deep five five₂ in
           let y = st′ .gives .1 flags H (at-hand-entered e q c deep five five₂ flags H hist b t hon (was .0)) (subst (λ (env : List ℕ). Reach H flags env (max s q) (formula-of F)) (sym pe) (reach .1))
           (subst (λ (env : List ℕ). Before (max s q) t (λ j. CellHolds (own-tick env) 0 (out flags j env (max s q) F) (RunHolds flags j env (max s q) F (window 4 (length mid) mid)) mid)) (sym pe) (was .1)) in
-          let r0 : r ≡ out flags t (bind (places e) q) (max s q) F = y .0 ∙ ap (λ (env : List ℕ). out flags t env (max s q) F) pe in
-          let h0 : CellHolds (own-tick (bind (places e) q)) 0 (out flags t (bind (places e) q) (max s q) F) (RunHolds flags t (bind (places e) q) (max s q) F (window 4 (length mid) cell′)) cell′
+          let r0 : r ≡ out flags t (with-position (places e) q) (max s q) F = y .0 ∙ ap (λ (env : List ℕ). out flags t env (max s q) F) pe in
+          let h0 : CellHolds (own-tick (with-position (places e) q)) 0 (out flags t (with-position (places e) q) (max s q) F) (RunHolds flags t (with-position (places e) q) (max s q) F (window 4 (length mid) cell′)) cell′
           = subst (λ (env : List ℕ). CellHolds (own-tick env) 0 (out flags t env (max s q) F) (RunHolds flags t env (max s q) F (window 4 (length mid) cell′)) cell′) pe (y .1 .0) in
           let w : window 4 (length mid) cell′ ≡ drop 4 cell′ = rest-take 4 (length mid) cell′ (sym (st′ .gives .0 .long)) in (
             r0,
             (
               ap (λ (m : ℕ). m % 256) (st′ .gives .0 .other 1 (omega arith) (omega arith) (omega arith)) ∙ was .0,
-              (h0 .0, λ o. subst (RunHolds flags t (bind (places e) q) (max s q) F) w (h0 .1 o)),
+              (h0 .0, λ o. subst (RunHolds flags t (with-position (places e) q) (max s q) F) w (h0 .1 o)),
             ),
           );
     }

@@ -13,20 +13,20 @@ use Rattle.reader.specs.Decoded as decoded
 use Rattle.figures.specs.declared.answer.FigureAnswer.{FigureAnswer}
 use Rattle.figures.specs.declared.answer.FigureAnswer.the-variants.{Sized, Refused}
 use Rattle.figures.specs.Measured.{SizesAt}
-use Rattle.figures.specs.Prepared.{told, Laid, Leaves}
+use Rattle.figures.specs.Prepared.{figures-answer, SizedTable, Leaves}
 use Rattle.demand.specs.Contract.{admit-lengths}
 use Rattle.demand.proofs.Admission.{StepAdmitted, step-admitted}
 use Rattle.admission.specs.Admitted.{Admitted}
 use Rattle.cell_runs.specs.States.{state-at}
 use Rattle.cell_runs.specs.Moves.{TableOf, TickFit}
-use Rattle.cell_runs.specs.Batches.{FlagsFit}
+use Rattle.cell_runs.specs.Batches.{BatchFit}
 
 module _ (b : List ℕ) (L t h c n : ℕ) (a : FigureAnswer) (ns : List ℕ) (admits : Admitted b L t h c n a ns) where
   pub admitted-as : {f : Figures} → a ≡ Sized f → admit-lengths b L t h c n ≡ accepted f
-  admitted-as e = sym (admits .answer) ∙ ap told e
+  admitted-as e = sym (admits .answer) ∙ ap figures-answer e
 
   pub refused-as : {x : Refusal} → a ≡ Refused x → admit-lengths b L t h c n ≡ refused (number-of x)
-  refused-as e = sym (admits .answer) ∙ ap told e
+  refused-as e = sym (admits .answer) ∙ ap figures-answer e
 
   module _ (f : Figures) (sized : a ≡ Sized f) where
     known : StepAdmitted b L t h c n f
@@ -34,8 +34,8 @@ module _ (b : List ℕ) (L t h c n : ℕ) (a : FigureAnswer) (ns : List ℕ) (ad
 
     pub table-of : (live : ℕ) → TableOf ns f h t (state-at b L t live)
     table-of live =
-        let laid : Laid ns (body b) = subst (Leaves b ns) (ap told sized) (admits .leaves) in
-        let l : decoded.Stands (known .formula) ns × SizesAt (known .formula) ns (at-tick ∷ []) 0 = subst (Laid ns) (known .reads) laid in
+        let laid : SizedTable ns (body b) = subst (Leaves b ns) (ap figures-answer sized) (admits .leaves) in
+        let l : decoded.TableHolds (known .formula) ns × SizesAt (known .formula) ns (at-tick ∷ []) 0 = subst (SizedTable ns) (known .reads) laid in
         let fits = known .history-fits in
         record {
           formula = known .formula;
@@ -57,5 +57,5 @@ module _ (b : List ℕ) (L t h c n : ℕ) (a : FigureAnswer) (ns : List ℕ) (ad
           report-fits = known .report-fits;
         }
 
-    pub flags-fit : FlagsFit ns f h t c
+    pub flags-fit : BatchFit ns f h t c
     flags-fit = record { state = state-at b L t 0; table-of = table-of 0; cells-fit = known .cells-fit }

@@ -18,7 +18,7 @@ use Rattle.rule.proofs.Horizon.{from-both, from-less, from-start}
 use Rattle.rule.proofs.Progress.{within}
 use Rattle.cell_runs.specs.Tree.{Tree, formula-of}
 use Rattle.cell_runs.specs.Slots.{slot}
-use Rattle.cell_runs.specs.Run.{out, bind, SlotHolds, SlotReady}
+use Rattle.cell_runs.specs.Run.{out, with-position, SlotHolds, SlotReady}
 use Rattle.cell_runs.specs.Calls.{Env, places, AtHand, PositionAdvanced, PositionsWalked}
 use Rattle.cell_runs.proofs.Slots.{slot-same, slot-below, slot-above, slot-before}
 use Rattle.cell_runs.proofs.Heads.{walk-last}
@@ -51,9 +51,9 @@ pub record WalkedTo (F : Tree) (hist : List ℕ) (b : ℕ) (e : Env) (s t first 
   pub gives :
       ((k : ℕ) → k < j → slot z k run ≡ slot z k run₀)
       × ((flags : ℕ → ℕ) (H : ℕ) → AtHand flags H hist b e t
-      → ((k : ℕ) → leading ≤ k → k < n → (max s (first + k) ≤ first + k + H) × Reach H flags (bind (places e) (first + k)) (max s (first + k)) (formula-of F))
+      → ((k : ℕ) → leading ≤ k → k < n → (max s (first + k) ≤ first + k + H) × Reach H flags (with-position (places e) (first + k)) (max s (first + k)) (formula-of F))
       → ((k : ℕ) → leading ≤ k → k < n → SlotReady flags t (places e) s F (first + k) (slot z k run₀))
-      → (walk (λ q. out flags t (bind (places e) q) (max s q) F) n first end ≡ walk (λ q. out flags t (bind (places e) q) (max s q) F) j first acc)
+      → (walk (λ q. out flags t (with-position (places e) q) (max s q) F) n first end ≡ walk (λ q. out flags t (with-position (places e) q) (max s q) F) j first acc)
       × ((From s end → From s acc)
       × ((k : ℕ) → j ≤ k → k < n → SlotHolds flags t (places e) s F (first + k) (slot z k run))))
 
@@ -81,11 +81,11 @@ module _ {F : Tree} {hist : List ℕ} {b : ℕ} {e : Env} {s t first leading n :
             λ flags H hon reach ready.
                 let r = ih .gives .1 flags H hon reach ready in
                 let pr = p .gives flags H hon (reach j i h) (subst (SlotReady flags t (places e) s F (first + j)) (sym (ih .gives .0 j (omega arith))) (ready j i h)) in (
-                  r .0 ∙ walk-last (λ q. out flags t (bind (places e) q) (max s q) F) j first acc
-                      ∙ ap (walk (λ q. out flags t (bind (places e) q) (max s q) F) j first) (ap (λ (x : Outcome). both x acc) (sym (pr .0)) ∙ sym ea),
+                  r .0 ∙ walk-last (λ q. out flags t (with-position (places e) q) (max s q) F) j first acc
+                      ∙ ap (walk (λ q. out flags t (with-position (places e) q) (max s q) F) j first) (ap (λ (x : Outcome). both x acc) (sym (pr .0)) ∙ sym ea),
                   (
                     (λ x. subst (From s) (sym ea) (from-both s o acc
-                        (subst (From s) (sym (pr .0)) (from-less (out flags t (bind (places e) (first + j)) (max s (first + j)) F) (omega arith) (from-start (formula-of F) flags t (bind (places e) (first + j)) (max s (first + j)))))
+                        (subst (From s) (sym (pr .0)) (from-less (out flags t (with-position (places e) (first + j)) (max s (first + j)) F) (omega arith) (from-start (formula-of F) flags t (with-position (places e) (first + j)) (max s (first + j)))))
                         (r .1 .0 x))),
                     λ k g m. elim (decLt j k) [
                       | yes q ↦ subst (SlotHolds flags t (places e) s F (first + k)) (sym (slot-above z run ys j k q (omega arith) len)) (r .1 .1 k q m)
@@ -135,7 +135,7 @@ module _ {F : Tree} {hist : List ℕ} {b : ℕ} {e : Env} {s t first leading n :
                 let was : SlotReady flags t (places e) s F (first + (j - 1)) (slot z (j - 1) run) = subst (SlotReady flags t (places e) s F (first + (j - 1))) (sym (ih .gives .0 (j - 1) (omega arith))) (ready (j - 1) (omega arith) (omega arith)) in
                 let st : s ≤ t = ⊎-elim (λ y. omega (arith, y)) (λ y. omega (arith, y .1, y .2)) was in
                 let pr = p′ .gives flags H hon (reach (j - 1) (omega arith) (omega arith)) was in
-                let by : d ≤ t = within (formula-of F) flags (bind (places e) (first + (j - 1))) (max s (first + (j - 1))) t d False (omega arith) (sym (pr .0) ∙ eo) in
+                let by : d ≤ t = within (formula-of F) flags (with-position (places e) (first + (j - 1))) (max s (first + (j - 1))) t d False (omega arith) (sym (pr .0) ∙ eo) in
                 inr (j - 1, first-false .0, er, omega (arith, first-false .2), w .gives .1 flags H hon reach ready .0),
           );
         }

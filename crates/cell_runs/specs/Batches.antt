@@ -20,7 +20,7 @@ pub record PairsMoved (ns : List ℕ) (f : Figures) (t : ℕ) (history : List �
   pub report-is : report′ ≡ paired t (take reported words) ++ drop (2 * reported) report
 
 -- Many ticks.
-pub record FlagsFit (ns : List ℕ) (f : Figures) (L tick cells : ℕ) : Type 0 where
+pub record BatchFit (ns : List ℕ) (f : Figures) (L tick cells : ℕ) : Type 0 where
   pub state : State
   pub table-of : TableOf ns f L tick state
   pub cells-fit : 4 * f .cells ≤ cells

@@ -18,7 +18,7 @@ use Rattle.rule.specs.Started.{From, Before, Reach}
 use Rattle.cell_runs.specs.Tree.{Tree, formula-of, words, Formed}
 use Rattle.cells.specs.Cells.{held, CellHolds}
 use Rattle.cell_runs.specs.Slots.{window, slot}
-use Rattle.cell_runs.specs.Run.{out, bind, own-tick, RunHolds, SlotHolds, RunReady, SlotReady}
+use Rattle.cell_runs.specs.Run.{out, with-position, own-tick, RunHolds, SlotHolds, RunReady, SlotReady}
 
 -- ---- the variables and their bytes
 
@@ -37,8 +37,8 @@ abbrev pub places : Env → List ℕ
 places e = take (e .n) (e .pos)
 
 -- The environment with one more position and its byte.
-abbrev pub entered : Env → ℕ → ℕ → Env
-entered e q b = record { n = e .n + 1; pos = set (e .pos) (e .n) q; byte = set (e .byte) (e .n) b }
+abbrev pub with-byte : Env → ℕ → ℕ → Env
+with-byte e q b = record { n = e .n + 1; pos = set (e .pos) (e .n) q; byte = set (e .byte) (e .n) b }
 
 -- The flag formula, by the byte that was saved for its variable.
 abbrev pub flagged : List ℕ → ℕ → ℕ → ℕ → Outcome
@@ -70,12 +70,12 @@ pub record Fit (F : Tree) (e : Env) (t : ℕ) (len : ℕ) : Type 0 where
 -- One position's slot.
 pub record SlotFit (F : Tree) (e : Env) (t q : ℕ) (len : ℕ) : Type 0 where
   pub pairs : List Pair
-  pub fits : Fits (own-tick (bind (places e) q)) pairs (bind (places e) q)
+  pub fits : Fits (own-tick (with-position (places e) q)) pairs (with-position (places e) q)
   pub size : length pairs ≡ suc (e .n)
   pub formed : Formed pairs F
   pub room : 4 + words pairs F ≤ len
   pub low : t < 4294967296
-  pub near : t < own-tick (bind (places e) q) + 4294967296
+  pub near : t < own-tick (with-position (places e) q) + 4294967296
   pub come : q ≤ t
   pub past : (v : ℕ) → getD (e .pos) v 0 ≤ t
   pub unbound : (v : ℕ) → e .n ≤ v → getD (e .pos) v 0 ≡ 0
@@ -106,22 +106,22 @@ pub record Advanced (F : Tree) (hist : List ℕ) (b : ℕ) (e : Env) (s t : ℕ)
 
 pub record PositionAdvanced (F : Tree) (hist : List ℕ) (b : ℕ) (e : Env) (s t q : ℕ) (cell : List ℕ) (r : Outcome) (cell′ : List ℕ) : Type 0 where
   pub gives :
-      (flags : ℕ → ℕ) (H : ℕ) → AtHand flags H hist b e t → (max s q ≤ q + H) × Reach H flags (bind (places e) q) (max s q) (formula-of F)
+      (flags : ℕ → ℕ) (H : ℕ) → AtHand flags H hist b e t → (max s q ≤ q + H) × Reach H flags (with-position (places e) q) (max s q) (formula-of F)
       → SlotReady flags t (places e) s F q cell
-      → (r ≡ out flags t (bind (places e) q) (max s q) F) × SlotHolds flags t (places e) s F q cell′
+      → (r ≡ out flags t (with-position (places e) q) (max s q) F) × SlotHolds flags t (places e) s F q cell′
 
 -- Of n positions from `first` on, those after the leading ones: all of them; or the walk stopped at one that was false, and r is false.
 pub record PositionsWalked (F : Tree) (hist : List ℕ) (b : ℕ) (e : Env) (s t first leading n : ℕ) (end : Outcome) (z : ℕ) (run : List ℕ) (r : Outcome) (run′ : List ℕ) : Type 0 where
   pub gives :
       ((k : ℕ) → k < leading → slot z k run′ ≡ slot z k run)
       × ((flags : ℕ → ℕ) (H : ℕ) → AtHand flags H hist b e t
-      → ((j : ℕ) → leading ≤ j → j < n → (max s (first + j) ≤ first + j + H) × Reach H flags (bind (places e) (first + j)) (max s (first + j)) (formula-of F))
+      → ((j : ℕ) → leading ≤ j → j < n → (max s (first + j) ≤ first + j + H) × Reach H flags (with-position (places e) (first + j)) (max s (first + j)) (formula-of F))
       → ((j : ℕ) → leading ≤ j → j < n → SlotReady flags t (places e) s F (first + j) (slot z j run))
-      → ((walk (λ q. out flags t (bind (places e) q) (max s q) F) n first end ≡ walk (λ q. out flags t (bind (places e) q) (max s q) F) leading first r)
+      → ((walk (λ q. out flags t (with-position (places e) q) (max s q) F) n first end ≡ walk (λ q. out flags t (with-position (places e) q) (max s q) F) leading first r)
       × ((From s end → From s r)
       × ((j : ℕ) → leading ≤ j → j < n → SlotHolds flags t (places e) s F (first + j) (slot z j run′))))
       ⊎ ((j : ℕ) × (d : ℕ) × (r ≡ Decided False d) × (d ≤ t)
-      × (walk (λ q. out flags t (bind (places e) q) (max s q) F) n first end ≡ walk (λ q. out flags t (bind (places e) q) (max s q) F) j first r)))
+      × (walk (λ q. out flags t (with-position (places e) q) (max s q) F) n first end ≡ walk (λ q. out flags t (with-position (places e) q) (max s q) F) j first r)))
 
 -- What moving a part leaves as it was.
 pub record Untouched (k a z : ℕ) (run run′ : List ℕ) : Type 0 where

@@ -25,7 +25,7 @@ Stands s cells flags =
 
 -- The node table holds the rule's formula with its sizes, and the rule is within the limits.
 pub record Prepares (F : Formula) (f : Figures) (ns : List ℕ) : Type 0 where
-  pub stands : decoded.Stands F ns
+  pub stands : decoded.TableHolds F ns
   pub sizes : SizesAt F ns (at-tick ∷ []) 0
   pub within : figures F ≡ accepted f
 

@@ -21,8 +21,8 @@ abbrev pub out : (ℕ → ℕ) → ℕ → List ℕ → ℕ → Tree → Outcome
 out flags t env s F = outcome (formula-of F) flags t env s
 
 -- The environment with one more position; the rule's own tick, from which steps in cells count.
-abbrev pub bind : List ℕ → ℕ → List ℕ
-bind env q = env ++ (q ∷ [])
+abbrev pub with-position : List ℕ → ℕ → List ℕ
+with-position env q = env ++ (q ∷ [])
 
 abbrev pub own-tick : List ℕ → ℕ
 own-tick env = getD env 0 0
@@ -45,17 +45,17 @@ RunHolds flags t env s (beside-node f F G) run =
 RunHolds flags t env s (range-node B₁ B₂ z F) run =
     ((q : ℕ) → In (range B₁ B₂ env) q → q ≤ t
     → (getD (slot z (q - first-of (range B₁ B₂ env)) (drop 4 run)) 1 0 % 256 ≡ flags q)
-    × CellHolds (own-tick (bind env q)) 0 (out flags t (bind env q) (max s q) F)
-    (RunHolds flags t (bind env q) (max s q) F (drop 4 (slot z (q - first-of (range B₁ B₂ env)) (drop 4 run))))
+    × CellHolds (own-tick (with-position env q)) 0 (out flags t (with-position env q) (max s q) F)
+    (RunHolds flags t (with-position env q) (max s q) F (drop 4 (slot z (q - first-of (range B₁ B₂ env)) (drop 4 run))))
     (slot z (q - first-of (range B₁ B₂ env)) (drop 4 run)))
-    × (Leading (λ q. out flags t (bind env q) (max s q) F) (first-of (range B₁ B₂ env)) s (getD run 0 0) (latest-of (own-tick env) s (getD run 0 0) (getD run 2 0))
+    × (Leading (λ q. out flags t (with-position env q) (max s q) F) (first-of (range B₁ B₂ env)) s (getD run 0 0) (latest-of (own-tick env) s (getD run 0 0) (getD run 2 0))
     × ((j : ℕ) → j < getD run 0 0 → In (range B₁ B₂ env) (first-of (range B₁ B₂ env) + j) × (first-of (range B₁ B₂ env) + j ≤ t)))
 
 -- One slot, of the position q.
 unfoldable pub SlotHolds : (ℕ → ℕ) → ℕ → List ℕ → ℕ → Tree → ℕ → List ℕ → Type 0
 SlotHolds flags t env s F q cell =
     (getD cell 1 0 % 256 ≡ flags q)
-    × CellHolds (own-tick (bind env q)) 0 (out flags t (bind env q) (max s q) F) (RunHolds flags t (bind env q) (max s q) F (drop 4 cell)) cell
+    × CellHolds (own-tick (with-position env q)) 0 (out flags t (with-position env q) (max s q) F) (RunHolds flags t (with-position env q) (max s q) F (drop 4 cell)) cell
 
 -- What a step finds: any content where the formula starts now, else what holds of the tick before, when it was open.
 unfoldable pub RunReady : (ℕ → ℕ) → ℕ → List ℕ → ℕ → Tree → List ℕ → Type 0

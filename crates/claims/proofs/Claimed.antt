@@ -8,7 +8,7 @@ use Rattle.rule.proofs.Window.{rule-window}
 use Rattle.rule.proofs.OneBody as bodies
 use Rattle.rule.proofs.BodyNumbers as numbers
 use Rattle.rule.proofs.BodyLengths as lengths
-use Rattle.proving_ground.proofs.Cases.{marked}
+use Rattle.marked_cases.proofs.Cases.{marked}
 use Rattle.notation.proofs.OneReading as reading
 use Rattle.notation.proofs.Answered as answered
 use Rattle.notation.proofs.RoundTrip as printed

@@ -22,7 +22,7 @@ use Rattle.rule.specs.Figures.{at-tick, delay, history}
 use Rattle.rule.specs.Positions.{Within, Fits}
 use Rattle.rule.specs.Started.{Scoped, By, Before}
 use Rattle.rule.specs.ForAll.{Said}
-use Rattle.proving_ground.specs.Marked.{Marked}
+use Rattle.marked_cases.specs.Marked.{Marked}
 use Rattle.notation.specs.Notation.{Rule, Reads}
 use Rattle.notation.specs.Bodies.{named-body, checked, fitted, body-of-text, Misspelt, Unbound}
 use Rattle.notation.specs.Printing.{text-of-body}

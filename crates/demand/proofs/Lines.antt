@@ -12,7 +12,7 @@ use borrow.Author.Tests.{leb-true, leb-false}
 use Rattle.refusal.specs.Answer.{Answer, refused, accepted}
 use Rattle.demand.proofs.Admission.{step-admitted}
 use Rattle.demand.specs.Contract.{State, Step, Counts, Batch, state-after, state-after-batch, Invariant, Stepped, Chain, none, more, Batched, Carrier}
-use Rattle.demand.specs.Demand.{Call, step, refused-batch, write, Refused, ticks-after, ticks-after-batch, with-steps, with-batch, Run, done, stepped, strayed, batched, batch-strayed, wrote}
+use Rattle.demand.specs.Demand.{Call, step, refused-batch, write, Refused, ticks-after, ticks-after-batch, with-steps, with-batch, Run, done, stepped, with-other-history, batched, batch-with-other-history, wrote}
 
 pub data Line (Stands : Invariant) (h L : ℕ) : State → List ℕ → List ℕ → ℕ → List Call → Type 0 where
   end : {s : State} {table history : List ℕ} {t : ℕ} → Line Stands h L s table history t []
@@ -107,9 +107,9 @@ module _ (Stands : Invariant) (C : Carrier) (h L : ℕ) where
       → Line Stands h L (C .holds x) table history t calls
   as-line done = end
   as-line (stepped n own lent p r) = own-history n own lent (p .keeps) (moved Stands h L (p .goes-on) refl refl refl (as-line r))
-  as-line (strayed n other lent p r) = other-history n other lent (p .keeps) (moved Stands h L (p .goes-on) refl refl refl (as-line r))
+  as-line (with-other-history n other lent p r) = other-history n other lent (p .keeps) (moved Stands h L (p .goes-on) refl refl refl (as-line r))
   as-line (batched {b = b} n own lent p r) =
       batch-line Stands h L b n own lent (b .answer) refl (p .keeps) (moved Stands h L (p .goes-on) refl refl refl (as-line r))
-  as-line (batch-strayed {x = x} {b = b} m e p r) =
+  as-line (batch-with-other-history {x = x} {b = b} m e p r) =
       turned-away m e (subst (Batched Stands (C .holds x) b) e (p .keeps)) (moved Stands h L (p .goes-on ∙ ap (state-after-batch (C .holds x)) e) refl refl refl (as-line r))
   as-line (wrote long same r) = written long same (as-line r)

@@ -16,7 +16,7 @@ use Rattle.rule.specs.declared.Figures.{Figures}
 use Rattle.rule.specs.Figures.{body-figures}
 use Rattle.figures.specs.declared.answer.FigureAnswer.{FigureAnswer}
 use Rattle.figures.specs.declared.answer.FigureAnswer.the-variants as sized
-use Rattle.figures.specs.Prepared.{told}
+use Rattle.figures.specs.Prepared.{figures-answer}
 use Rattle.demand.specs.Contract.{room, fresh-state, opening-of, OpenPromise}
 use Rattle.cell_runs.specs.Moves.{Stands}
 use Rattle.cell_runs.proofs.Rules.{stands-at-start}
@@ -30,14 +30,14 @@ use Rattle.engine.proofs.States.{fresh-is}
 
 -- ---- opening the rule with a body
 
-module _ (b history : List ℕ) (cells : ℕ) (a : FigureAnswer) (told-is : told a ≡ and-then (body-figures b) (room (length history) cells)) where
+module _ (b history : List ℕ) (cells : ℕ) (a : FigureAnswer) (told-is : figures-answer a ≡ and-then (body-figures b) (room (length history) cells)) where
   pub body-refused : {x : Refusal} (r : OpenResult) → a ≡ sized.Refused x → (r .answer ≡ answer.Refused x) × (r .state ≡ blank-code)
       → BodyOpened b history cells r history
   body-refused {x} r e w =
-      subst (λ (o : OpenAnswer). BodyOpenedBy b history cells o (r .state) history) (sym (w .0)) (sym told-is ∙ ap told e, (w .1, refl))
+      subst (λ (o : OpenAnswer). BodyOpenedBy b history cells o (r .state) history) (sym (w .0)) (sym told-is ∙ ap figures-answer e, (w .1, refl))
 
   pub body-accepted : {f : Figures} → a ≡ sized.Sized f → (g : Figures) × (and-then (body-figures b) (room (length history) cells) ≡ accepted g)
-  body-accepted {f} e = (f, sym told-is ∙ ap told e)
+  body-accepted {f} e = (f, sym told-is ∙ ap figures-answer e)
 
 -- ---- opening a rule of a sheet
 

@@ -19,7 +19,7 @@ use Rattle.rule.specs.declared.Size.the-variants.{Finite, Unbounded}
 use Rattle.rule.specs.declared.Pair.{Pair}
 use Rattle.rule.proofs.Order.{by-order}
 use Rattle.nodes.specs.Table.{bound-of, bound-at}
-use Rattle.figures.specs.Distances.{Near, Within, farthest, Modest}
+use Rattle.figures.specs.Distances.{Near, AllNear, farthest, Modest}
 use Rattle.figures.proofs.Numbers.{abs-sum, abs-parts}
 
 pub signed-abs : (w : ℕ) → natAbs (signed w) ≤ 32768
@@ -63,19 +63,19 @@ pub short-at : (ns : List ℕ) (j : ℕ) → Short (bound-at ns j)
 unfolding bound-at
 short-at ns j = short-of (getD ns (j + 0) 0) (getD ns (j + 1) 0) (getD ns (j + 2) 0)
 
-pub near-lower : (b : ℕ) (B : Bound) (ps : List Pair) → Short B → Within b ps → Near (b + 32768) ((bound-pair B ps) .lower)
+pub near-lower : (b : ℕ) (B : Bound) (ps : List Pair) → Short B → AllNear b ps → Near (b + 32768) ((bound-pair B ps) .lower)
 unfolding bound-pair
 near-lower b (origin n) ps h w = tt
 near-lower b infinity ps h w = tt
 near-lower b (variable v n) ps h w = near-shift b ((getD ps v anywhere) .lower) n h (w v .0)
 
-pub near-upper : (b : ℕ) (B : Bound) (ps : List Pair) → Short B → Within b ps → Near (b + 32768) ((bound-pair B ps) .upper)
+pub near-upper : (b : ℕ) (B : Bound) (ps : List Pair) → Short B → AllNear b ps → Near (b + 32768) ((bound-pair B ps) .upper)
 unfolding bound-pair
 near-upper b (origin n) ps h w = omega arith
 near-upper b infinity ps h w = tt
 near-upper b (variable v n) ps h w = near-shift b ((getD ps v anywhere) .upper) n h (w v .1)
 
-pub within-more : (b d : ℕ) (ps : List Pair) (r : Pair) → b ≤ d → Within b ps → Near d (r .lower) → Near d (r .upper) → Within d (ps ++ (r ∷ []))
+pub within-more : (b d : ℕ) (ps : List Pair) (r : Pair) → b ≤ d → AllNear b ps → Near d (r .lower) → Near d (r .upper) → AllNear d (ps ++ (r ∷ []))
 unfolding anywhere
 within-more b d [] r h w l u zero = (l, u)
 within-more b d [] r h w l u (suc v) = (tt, tt)
@@ -97,7 +97,7 @@ modest-delay (At z) h = omega (arith, abs-parts z)
 modest-delay Highest h = tt
 
 -- a quantifier's pair lies near the tick
-module _ (ns : List ℕ) (m i : ℕ) (ps : List Pair) (d : m < 4) (w : Within (32768 * m) ps) (R : Pair) (e : R ≡ range-pair (bound-at ns (i + 1)) (bound-at ns (i + 4)) ps) where
+module _ (ns : List ℕ) (m i : ℕ) (ps : List Pair) (d : m < 4) (w : AllNear (32768 * m) ps) (R : Pair) (e : R ≡ range-pair (bound-at ns (i + 1)) (bound-at ns (i + 4)) ps) where
   further : 32768 * m + 32768 ≤ 32768 * (m + 1)
   further = omega arith
 
@@ -113,5 +113,5 @@ module _ (ns : List ℕ) (m i : ℕ) (ps : List Pair) (d : m < 4) (w : Within (3
   body-begun start k b ek =
       subst Modest (sym ek) (modest-larger start (N (R .upper)) b (modest-delay (R .upper) (near-more (R .upper) (omega arith) upper-near)))
 
-  pub body-within : (ps′ : List Pair) → ps′ ≡ ps ++ (R ∷ []) → Within (32768 * (m + 1)) ps′
-  body-within ps′ ep = subst (Within (32768 * (m + 1))) (sym ep) (within-more (32768 * m) (32768 * (m + 1)) ps R (omega arith) w lower-near upper-near)
+  pub body-within : (ps′ : List Pair) → ps′ ≡ ps ++ (R ∷ []) → AllNear (32768 * (m + 1)) ps′
+  body-within ps′ ep = subst (AllNear (32768 * (m + 1))) (sym ep) (within-more (32768 * m) (32768 * (m + 1)) ps R (omega arith) w lower-near upper-near)

@@ -24,8 +24,8 @@ Near b Lowest = Unit {0}
 Near b (At z) = natAbs z ≤ b
 Near b Highest = Unit {0}
 
-abbrev pub Within : ℕ → List Pair → Type 0
-Within b ps = (v : ℕ) → Near b ((getD ps v anywhere) .lower) × Near b ((getD ps v anywhere) .upper)
+abbrev pub AllNear : ℕ → List Pair → Type 0
+AllNear b ps = (v : ℕ) → Near b ((getD ps v anywhere) .lower) × Near b ((getD ps v anywhere) .upper)
 
 -- The farthest that 4 quantifiers reach, whose offsets have 16 bits: 4 times 32,768.
 abbrev pub farthest : ℕ
@@ -37,7 +37,7 @@ Modest (Finite n) = n ≤ farthest
 Modest Unbounded = Unit {0}
 
 -- What measuring a formula asks.
-pub record Ready (m : ℕ) (sc : Scope) (start : Size) : Type 0 where
+pub record Measurable (m : ℕ) (sc : Scope) (start : Size) : Type 0 where
   pub nested : m ≤ 4
-  pub within : Within (32768 * m) (inside sc m)
+  pub within : AllNear (32768 * m) (inside sc m)
   pub begun : Modest start

@@ -5,7 +5,7 @@ ghost use Rattle.rule.specs.Figures.{limit-cells, limit-history, limit-delay};
 ghost use Rattle.rule.specs.declared.Size.the-variants.{Finite};
 ghost use Rattle.cell_count.specs.Counts.{rule-cells};
 ghost use Rattle.figures.specs.Parts.{capped-needed};
-ghost use Rattle.figures.specs.Prepared.{told, Kept};
+ghost use Rattle.figures.specs.Prepared.{figures-answer, KeptOrCleared};
 use cell_count::rule_cells;
 use cell_count::within_limit;
 use nodes::TABLE_WORDS;
@@ -22,7 +22,7 @@ pub enum FigureAnswer {
 
 // What an answer leaves of the node table: a refusal makes it all 0.
 pub fn clear_if_refused(a: FigureAnswer, nodes: &mut [u32; TABLE_WORDS])
-    ensures { λ _. ⌜ Kept (told a) (now (nodes .entry)) (now (nodes .exit)) ⌝ }
+    ensures { λ _. ⌜ KeptOrCleared (figures-answer a) (now (nodes .entry)) (now (nodes .exit)) ⌝ }
 {
     match a {
         FigureAnswer::Refused(_) => clear(nodes),
@@ -32,7 +32,7 @@ pub fn clear_if_refused(a: FigureAnswer, nodes: &mut [u32; TABLE_WORDS])
 
 // The rule needs c cells.
 fn limit_cells(h: u64, d: u16, c: u16) -> FigureAnswer
-    ensures { λ r. ⌜ told r ≡ limit-cells h d (Finite c) ⌝ }
+    ensures { λ r. ⌜ figures-answer r ≡ limit-cells h d (Finite c) ⌝ }
 {
     if !within_limit(c) {
         return FigureAnswer::Refused(Refusal::CellsAboveLimit);
@@ -46,7 +46,7 @@ fn limit_cells(h: u64, d: u16, c: u16) -> FigureAnswer
 
 // The rule's formula needs c cells.
 fn limit_history(h: Size, d: u16, c: u16) -> FigureAnswer
-    ensures { λ r. ⌜ told r ≡ limit-history h d (Finite (rule-cells d c)) ⌝ }
+    ensures { λ r. ⌜ figures-answer r ≡ limit-history h d (Finite (rule-cells d c)) ⌝ }
 {
     match h {
         Size::Unbounded => FigureAnswer::Refused(Refusal::HistoryInfinite),
@@ -61,7 +61,7 @@ fn limit_history(h: Size, d: u16, c: u16) -> FigureAnswer
 
 // The rule's formula needs c cells.
 pub(crate) fn limit_delay(h: Size, d: Size, c: u16) -> FigureAnswer
-    ensures { λ r. ⌜ told r ≡ limit-delay h d (capped-needed d c) ⌝ }
+    ensures { λ r. ⌜ figures-answer r ≡ limit-delay h d (capped-needed d c) ⌝ }
 {
     match d {
         Size::Unbounded => FigureAnswer::Refused(Refusal::DelayInfinite),

@@ -6,7 +6,7 @@ mod scope;
 
 ghost use mathlib.Core.Path.{_≡_};
 ghost use Rattle.rule.specs.Figures.{body-figures};
-ghost use Rattle.figures.specs.Prepared.{told, Prepared};
+ghost use Rattle.figures.specs.Prepared.{figures-answer, Prepared};
 pub use answer::FigureAnswer;
 pub use answer::clear_if_refused;
 use answer::limit_delay;
@@ -34,7 +34,7 @@ pub fn prepare(body: &[u8], nodes: &mut [u32; TABLE_WORDS]) -> FigureAnswer
 
 // A body's figures, or a refusal: 4 to 15, 23, 24.
 pub fn figures(body: &[u8]) -> FigureAnswer
-    ensures { λ r. ⌜ told r ≡ body-figures (now (body .entry)) ⌝ }
+    ensures { λ r. ⌜ figures-answer r ≡ body-figures (now (body .entry)) ⌝ }
 {
     let mut nodes = [0u32; TABLE_WORDS];
     prepare(body, &mut nodes)

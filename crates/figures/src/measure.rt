@@ -5,7 +5,7 @@ ghost use Prim.Native.Nat.{_+_};
 ghost use lib.ListN.{set};
 ghost use Rattle.rule.specs.Figures.{N, larger, at-tick};
 ghost use Rattle.rule.specs.declared.Size.the-variants.{Finite};
-ghost use Rattle.figures.specs.Distances.{Near, farthest, Modest, Ready};
+ghost use Rattle.figures.specs.Distances.{Near, farthest, Modest, Measurable};
 ghost use Rattle.figures.specs.Parts.{flag-figure, then-figure, beside-figure, range-figure};
 ghost use Rattle.figures.specs.Measured.{Measures, Promise};
 use crate::limits::larger_size;
@@ -126,7 +126,7 @@ fn measure_at(
     scope: Scope,
     start: Size,
 ) -> Figure
-    requires { ⌜ Ready m scope start ⌝ }
+    requires { ⌜ Measurable m scope start ⌝ }
     ensures { λ r. ⌜ Measures left m i scope start (now (nodes .entry)) (now (nodes .exit)) r ⌝ }
 {
     let u = skip_nots(nodes, left, i);

@@ -6,7 +6,7 @@ ghost use lib.ListN.{length, getD};
 ghost use lib.IntN.{natAbs};
 ghost use Rattle.rule.specs.Figures.{bound-pair, range-pair, anywhere};
 ghost use Rattle.nodes.specs.Table.{bound-at};
-ghost use Rattle.figures.specs.Distances.{inside, Near, farthest, Within, shift-pair};
+ghost use Rattle.figures.specs.Distances.{inside, Near, farthest, AllNear, shift-pair};
 use crate::limits::shifted;
 use nodes::INFINITY_KIND;
 use nodes::ORIGIN_KIND;
@@ -59,7 +59,7 @@ pub(crate) fn with_pair(scope: Scope, m: usize, p: Pair) -> Scope
 
 // The pair of the bound whose three words start at word j.
 fn pair_at(nodes: &[u32], j: usize, scope: Scope, m: usize) -> Pair
-    requires { ⌜ (m ≤ 4) × Within (32768 * m) (inside scope m) ⌝ }
+    requires { ⌜ (m ≤ 4) × AllNear (32768 * m) (inside scope m) ⌝ }
     ensures { λ r. ⌜ r ≡ bound-pair (bound-at (now (nodes .entry)) j) (inside scope m) ⌝ }
 {
     let kind = node_word(nodes, j, 0);
@@ -83,7 +83,7 @@ fn pair_at(nodes: &[u32], j: usize, scope: Scope, m: usize) -> Pair
 
 // The pair of the variable of the quantifier whose node starts at word i: l of the first bound, u of the second.
 pub(crate) fn range_pair(nodes: &[u32], i: usize, scope: Scope, m: usize) -> Pair
-    requires { ⌜ (i < length (now nodes)) × ((m ≤ 4) × Within (32768 * m) (inside scope m)) ⌝ }
+    requires { ⌜ (i < length (now nodes)) × ((m ≤ 4) × AllNear (32768 * m) (inside scope m)) ⌝ }
     ensures { λ r. ⌜ r ≡ range-pair (bound-at (now (nodes .entry)) (i + 1)) (bound-at (now (nodes .entry)) (i + 4)) (inside scope m) ⌝ }
 {
     let b = pair_at(nodes, i + 1, scope, m);

@@ -9,7 +9,7 @@ use lib.ListN.{length}
 use lib.IntN.{natAbs, pos, negsuc}
 use borrow.Author.Tests.{le-leb, lt-leb, le-ltb, lt-ltb}
 use Rattle.words.specs.Words.{byte, word}
-use Rattle.rule.specs.Body.{Head, negate-head, forall-head, require, signed, bound, require-bound, fixed, contents, head}
+use Rattle.rule.specs.Body.{Head, negate-head, forall-head, require, signed, bound, require-bound, fixed, after-code, head}
 use mathlib.Core.Logic.{_⊎_, inl, inr}
 use Rattle.rule.proofs.Reading.{and-true}
 use Rattle.rule.proofs.Order.{by-order}
@@ -120,33 +120,33 @@ module _ (s : List ℕ) (at m : ℕ) (next : Head) where
 -- ---- the contents
 
 module _ (s : List ℕ) (at m : ℕ) where
-  pub contents-6 : byte s at ≡ 1 → m < byte s (at + 1) → head-number (contents s at m) ≡ 6
-  unfolding contents
+  pub contents-6 : byte s at ≡ 1 → m < byte s (at + 1) → head-number (after-code s at m) ≡ 6
+  unfolding after-code
   contents-6 e h = simp (e, require-number, lt-leb (byte s (at + 1)) m h)
 
-  pub contents-7 : byte s at ≡ 1 → byte s (at + 1) ≤ m → 7 < byte s (at + 2) → head-number (contents s at m) ≡ 7
-  unfolding contents
+  pub contents-7 : byte s at ≡ 1 → byte s (at + 1) ≤ m → 7 < byte s (at + 2) → head-number (after-code s at m) ≡ 7
+  unfolding after-code
   contents-7 e h k = simp (e, require-number, le-leb (byte s (at + 1)) m h, lt-leb (byte s (at + 2)) 7 k)
 
-  pub contents-flag : byte s at ≡ 1 → byte s (at + 1) ≤ m → byte s (at + 2) ≤ 7 → head-number (contents s at m) ≡ 0
-  unfolding contents
+  pub contents-flag : byte s at ≡ 1 → byte s (at + 1) ≤ m → byte s (at + 2) ≤ 7 → head-number (after-code s at m) ≡ 0
+  unfolding after-code
   contents-flag e h k = simp (e, require-number, le-leb (byte s (at + 1)) m h, le-leb (byte s (at + 2)) 7 k)
 
-  forall-contents : byte s at ≡ 5 → head-number (contents s at m) ≡ head-number (require-bound s (at + 1) m (require-bound s (at + 5) m (forall-head (bound s (at + 1)) (bound s (at + 5)))))
-  unfolding contents
+  forall-contents : byte s at ≡ 5 → head-number (after-code s at m) ≡ head-number (require-bound s (at + 1) m (require-bound s (at + 5) m (forall-head (bound s (at + 1)) (bound s (at + 5)))))
+  unfolding after-code
   forall-contents e = simp e
 
-  pub contents-first : byte s at ≡ 5 → (head-number (require-bound s (at + 1) m negate-head) ≡ 0 → ⊥) → head-number (contents s at m) ≡ head-number (require-bound s (at + 1) m negate-head)
+  pub contents-first : byte s at ≡ 5 → (head-number (require-bound s (at + 1) m negate-head) ≡ 0 → ⊥) → head-number (after-code s at m) ≡ head-number (require-bound s (at + 1) m negate-head)
   contents-first e h = forall-contents e ∙ first-stops s (at + 1) m _ h
 
-  pub contents-second : byte s at ≡ 5 → head-number (require-bound s (at + 1) m negate-head) ≡ 0 → head-number (contents s at m) ≡ head-number (require-bound s (at + 5) m negate-head)
+  pub contents-second : byte s at ≡ 5 → head-number (require-bound s (at + 1) m negate-head) ≡ 0 → head-number (after-code s at m) ≡ head-number (require-bound s (at + 5) m negate-head)
   contents-second e h = forall-contents e ∙ first-passes s (at + 1) m _ h ∙ bound-number s (at + 5) m (forall-head (bound s (at + 1)) (bound s (at + 5))) ∙ sym (bound-number s (at + 5) m negate-head)
 
-  pub contents-plain : 2 ≤ byte s at → byte s at ≤ 4 → head-number (contents s at m) ≡ 0
-  unfolding contents
+  pub contents-plain : 2 ≤ byte s at → byte s at ≤ 4 → head-number (after-code s at m) ≡ 0
+  unfolding after-code
   contents-plain h k = go (by-order (byte s at) 2) (by-order (byte s at) 3)
     where
-      go : (byte s at ≤ 2) ⊎ (2 < byte s at) → (byte s at ≤ 3) ⊎ (3 < byte s at) → head-number (contents s at m) ≡ 0
+      go : (byte s at ≤ 2) ⊎ (2 < byte s at) → (byte s at ≤ 3) ⊎ (3 < byte s at) → head-number (after-code s at m) ≡ 0
       go (inl i) j = let e : byte s at ≡ 2 = omega arith in simp e
       go (inr i) (inl j) = let e : byte s at ≡ 3 = omega arith in simp e
       go (inr i) (inr j) = let e : byte s at ≡ 4 = omega arith in simp e
@@ -156,7 +156,7 @@ module _ (s : List ℕ) (at m : ℕ) where
 module _ (s : List ℕ) (at m left : ℕ) where
   number-of-head : head-number (head s at m left) ≡
       cond (ltb at (length s)) (cond (leb 1 (byte s at) && leb (byte s at) 5) (cond (leb 1 left) (cond (not (eqb (byte s at) 5) || ltb m 4)
-      (cond (leb (at + fixed (byte s at)) (length s)) (head-number (contents s at m)) 4) 9) 9) 5) 4
+      (cond (leb (at + fixed (byte s at)) (length s)) (head-number (after-code s at m)) 4) 9) 9) 5) 4
   unfolding head
   number-of-head = simp require-number
 
@@ -182,7 +182,7 @@ module _ (s : List ℕ) (at m left : ℕ) where
             let p = and-true (leb 1 left) (not (eqb (byte s at) 5) || ltb m 4) c in
             number-of-head ∙ simp (lt-ltb at (length s) a, b, p .0, p .1, lt-leb (at + fixed (byte s at)) (length s) h)
 
-        pub head-contents : at + fixed (byte s at) ≤ length s → head-number (head s at m left) ≡ head-number (contents s at m)
+        pub head-contents : at + fixed (byte s at) ≤ length s → head-number (head s at m left) ≡ head-number (after-code s at m)
         head-contents h =
             let p = and-true (leb 1 left) (not (eqb (byte s at) 5) || ltb m 4) c in
             number-of-head ∙ simp (lt-ltb at (length s) a, b, p .0, p .1, le-leb (at + fixed (byte s at)) (length s) h)

@@ -6,7 +6,7 @@ ghost use Prim.Native.Nat.{_+_, _≤_, _<_};
 ghost use lib.Dec.{leb, ltb, eqb};
 ghost use lib.ListN.{length};
 ghost use Rattle.words.specs.Words.{byte};
-ghost use Rattle.rule.specs.Body.{fixed, contents, head};
+ghost use Rattle.rule.specs.Body.{fixed, after-code, head};
 ghost use Rattle.formula_bytes.specs.Checks.{check-number, head-number};
 use crate::FLAG_CODE_BYTE;
 use crate::FORALL_CODE_BYTE;
@@ -24,7 +24,7 @@ pub enum Check {
 // A flag's variable and flag, inside m quantifiers.
 fn flag_check(s: &[u8], at: usize, m: usize) -> Check
     requires { ⌜ byte (now s) at ≡ 1 ⌝ }
-    ensures { λ r. ⌜ check-number r ≡ head-number (contents (now (s .entry)) at m) ⌝ }
+    ensures { λ r. ⌜ check-number r ≡ head-number (after-code (now (s .entry)) at m) ⌝ }
 {
     if m < byte_after(s, at, 1) {
         return Check::Refused(Refusal::UnboundVariable);
@@ -38,7 +38,7 @@ fn flag_check(s: &[u8], at: usize, m: usize) -> Check
 // A quantifier's two bounds, inside m others.
 fn bounds_check(s: &[u8], at: usize, m: usize) -> Check
     requires { ⌜ (byte (now s) at ≡ 5) × (at + 9 ≤ length (now s)) ⌝ }
-    ensures { λ r. ⌜ check-number r ≡ head-number (contents (now (s .entry)) at m) ⌝ }
+    ensures { λ r. ⌜ check-number r ≡ head-number (after-code (now (s .entry)) at m) ⌝ }
 {
     let first = bound_check(s, at + 1, m);
     match first {
@@ -50,7 +50,7 @@ fn bounds_check(s: &[u8], at: usize, m: usize) -> Check
 // What follows a known code, of which all fixed bytes are there.
 fn contents_check(s: &[u8], at: usize, m: usize) -> Check
     requires { ⌜ (at < length (now s)) × (byte (now s) at ≡ 5 → at + 9 ≤ length (now s)) × (1 ≤ byte (now s) at) × (byte (now s) at ≤ 5) ⌝ }
-    ensures { λ r. ⌜ check-number r ≡ head-number (contents (now (s .entry)) at m) ⌝ }
+    ensures { λ r. ⌜ check-number r ≡ head-number (after-code (now (s .entry)) at m) ⌝ }
 {
     let code = s[at];
     if code == FLAG_CODE_BYTE {

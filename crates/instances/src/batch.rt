@@ -5,7 +5,7 @@ ghost use Prim.Native.Nat.{_*_, _-_, _≤_, min};
 ghost use lib.ListN.{length, take, drop};
 ghost use Rattle.demand.specs.Contract.{paired};
 ghost use Rattle.instances.specs.Answers.{BatchOf};
-ghost use Rattle.cell_runs.specs.Batches.{FlagsFit, FlagsTaken, PairsFit, PairsMoved};
+ghost use Rattle.cell_runs.specs.Batches.{BatchFit, FlagsTaken, PairsFit, PairsMoved};
 use crate::instances::Moved;
 use crate::instances::move_tick;
 use figures::FigureAnswer;
@@ -26,7 +26,7 @@ pub enum BatchAnswer {
 }
 
 // How many flags were taken, how many pairs were written, and how many ticks are live.
-pub(crate) struct Progress {
+pub(crate) struct BatchCounts {
     pub taken: usize,
     pub pairs: usize,
     pub live: usize,
@@ -74,7 +74,7 @@ fn move_pairs(
 }
 
 // Takes flags from tick `tick` on, until they or the tick numbers end, or the report has no room for another step.
-fn take_flags(
+fn move_flags(
     nodes: &[u32; TABLE_WORDS],
     figures: Figures,
     tick: u32,
@@ -83,8 +83,8 @@ fn take_flags(
     history: &mut [u8],
     cells: &mut [u32],
     report: &mut [u32],
-) -> Progress
-    requires { ⌜ FlagsFit (now nodes) figures (length (now history)) tick (length (now cells)) ⌝ }
+) -> BatchCounts
+    requires { ⌜ BatchFit (now nodes) figures (length (now history)) tick (length (now cells)) ⌝ }
     ensures { λ r. ⌜ FlagsTaken (now (nodes .entry)) figures tick live (now (flags .entry)) (now (history .entry)) (now (cells .entry)) (now (report .entry)) (r .taken) (r .pairs) (r .live) (now (history .exit)) (now (cells .exit)) (now (report .exit)) ⌝ }
 {
     let half = figures.delay as usize + 1;
@@ -95,7 +95,7 @@ fn take_flags(
     while i < n {
         let at = 2 * pairs;
         if report.len() - at < 2 * half {
-            return Progress {
+            return BatchCounts {
                 taken: i,
                 pairs,
                 live: still_open,
@@ -116,7 +116,7 @@ fn take_flags(
         still_open = moved.live;
         i += 1;
     }
-    Progress {
+    BatchCounts {
         taken: i,
         pairs,
         live: still_open,
@@ -149,7 +149,7 @@ pub fn take_batch(
     match admitted {
         FigureAnswer::Refused(x) => BatchAnswer::Refused(x),
         FigureAnswer::Sized(f) => {
-            let p = take_flags(&nodes, f, tick, live, flags, history, cells, report);
+            let p = move_flags(&nodes, f, tick, live, flags, history, cells, report);
             BatchAnswer::Taken(p.taken, p.pairs, p.live)
         }
     }

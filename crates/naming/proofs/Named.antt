@@ -13,7 +13,7 @@ use Rattle.rule.specs.Naming.{bound-names, names}
 use Rattle.rule.proofs.Order.{by-order}
 use Rattle.nodes.specs.Table.{bound-of, bound-at, formula-in}
 use Rattle.nodes.proofs.Nodes.{word-in}
-use Rattle.naming.specs.Ranges.{forall-in}
+use Rattle.naming.specs.Ranges.{forall-of-node}
 use Rattle.naming.proofs.Nodes.{then-in, beside-in, flag-in}
 
 -- ---- one of two
@@ -100,7 +100,7 @@ module _ (left : ℕ) (ns : List ℕ) (m i : ℕ) (some : left ≡ 0 → ⊥) {c
           named-flag v (flag-in left ns m i some (λ z. a (c ∙ z)) (λ z. eqb-false code 3 p (c ∙ z)) (λ z. eqb-false code 4 q (c ∙ z)) (λ z. b (c ∙ z)) f refl)
 
 -- a range: its bounds, then its body; inside 4 quantifiers there is none
-module _ (left : ℕ) (ns : List ℕ) (m i v : ℕ) {F : Formula} (e : F ≡ forall-in left ns m i) where
+module _ (left : ℕ) (ns : List ℕ) (m i v : ℕ) {F : Formula} (e : F ≡ forall-of-node left ns m i) where
   abbrev rest : Bool
   rest = bound-names v (bound-at ns (i + 4)) || names v (formula-in left ns (m + 1) (i + 12))
 

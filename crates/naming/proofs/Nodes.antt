@@ -8,7 +8,7 @@ use borrow.Author.Tests.{ne-eqb}
 use Rattle.rule.specs.Formula.{flag, negate, then, beside}
 use Rattle.nodes.specs.Table.{formula-in}
 use Rattle.nodes.proofs.Nodes.{some-left}
-use Rattle.naming.specs.Ranges.{forall-in}
+use Rattle.naming.specs.Ranges.{forall-of-node}
 
 pub none-in : (left : ℕ) (ns : List ℕ) (m i : ℕ) → left ≡ 0 → formula-in left ns m i ≡ flag 0 0
 unfolding formula-in
@@ -34,7 +34,7 @@ module _ (left : ℕ) (ns : List ℕ) (m i : ℕ) (some : left ≡ 0 → ⊥) wh
   unfolding formula-in
   beside-in e f = step ∙ simp (e, f)
 
-  pub range-in : getD ns (i + 0) 0 ≡ 5 → formula-in left ns m i ≡ forall-in (left - 1) ns m i
+  pub range-in : getD ns (i + 0) 0 ≡ 5 → formula-in left ns m i ≡ forall-of-node (left - 1) ns m i
   unfolding formula-in
   range-in e = step ∙ simp e
 

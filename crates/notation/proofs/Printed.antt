@@ -6,7 +6,7 @@ use mathlib.Core.List.{List, [], _∷_, _++_}
 use native.Mathlib.Omega.{arith}
 use lib.ListN.{length, length-append}
 use Rattle.notation.specs.Notation.{Base, origin, infinity, position, Offset, nothing, plus, minus, End, end, Named, flag, negate, then, beside, forall, infinity-word, colon-sign, to-sign, then-sign, beside-sign, base-text, offset-text, end-text, formula-text, letter, digit, between, all, same, is-name, SpeltBase, SpeltOffset, SpeltEnd, Spelt}
-use Rattle.notation.specs.Reading.{got, bind, starts, expect, one-digit, base, offset, end-of, flag-token, forall-token, flag-digit, flag-point, flag-head, forall-colon, forall-second, forall-to, forall-first, forall-in, forall-head, head, joint, joined, second, parts, formula}
+use Rattle.notation.specs.Reading.{got, and-read, starts, expect, one-digit, read-base, read-offset, read-end, flag-token, forall-token, flag-digit, flag-point, read-flag, forall-colon, forall-second, forall-to, forall-first, forall-range, read-forall, read-token, joint, joined, second, read-parts, read-formula}
 use Rattle.notation.proofs.Spelling.{stops, run-over, past-over, name-starts, name-free, name-letters, name-over, numeral-over}
 
 -- What follows a bound goes on with no letter, digit or sign.
@@ -24,8 +24,8 @@ colon-closes : (r : List ℕ) → Closing (colon-sign ++ r)
 unfolding stops starts between
 colon-closes r = record { letters = refl; digits = refl; no-plus = refl; no-minus = refl }
 
-offset-over : (o : Offset) (r : List ℕ) → SpeltOffset o → Closing r → offset (offset-text o r) ≡ got o r
-unfolding offset offset-text bind starts
+offset-over : (o : Offset) (r : List ℕ) → SpeltOffset o → Closing r → read-offset (offset-text o r) ≡ got o r
+unfolding read-offset offset-text and-read starts
 offset-over nothing r h k = rw (k .no-plus, k .no-minus)
 offset-over (plus d) r h k = rw (numeral-over d r h (k .digits))
 offset-over (minus d) r h k = rw (numeral-over d r h (k .digits))
@@ -36,8 +36,8 @@ offset-stops nothing r k = k .letters
 offset-stops (plus d) r k = refl
 offset-stops (minus d) r k = refl
 
-base-over : (b : Base) (r : List ℕ) → SpeltBase b → stops letter r ≡ true → base (base-text b r) ≡ got b r
-unfolding base base-text bind starts all same between
+base-over : (b : Base) (r : List ℕ) → SpeltBase b → stops letter r ≡ true → read-base (base-text b r) ≡ got b r
+unfolding read-base base-text and-read starts all same between
 base-over origin r h k = refl
 base-over infinity r h k = rw (run-over letter infinity-word r refl k, past-over letter infinity-word r refl k)
 base-over (position n) r h k =
@@ -48,8 +48,8 @@ base-over (position n) r h k =
       name-over n r h k,
     )
 
-end-over : (E : End) (r : List ℕ) → SpeltEnd E → Closing r → end-of (end-text E r) ≡ got E r
-unfolding end-of end-text bind
+end-over : (E : End) (r : List ℕ) → SpeltEnd E → Closing r → read-end (end-text E r) ≡ got E r
+unfolding read-end end-text and-read
 end-over (end b o) r h k = rw (base-over b (offset-text o r) (h .0) (offset-stops o r k), offset-over o r (h .1) k)
 
 -- ---- formulas
@@ -62,8 +62,8 @@ weight (beside F G) = suc (weight F + weight G)
 weight (forall n A B F) = suc (weight F)
 
 forall-over : (n : List ℕ) (A B : End) (r : List ℕ) → is-name n ≡ true → SpeltEnd A → SpeltEnd B
-    → forall-head (n ++ (32 ∷ 105 ∷ 110 ∷ 32 ∷ end-text A (46 ∷ 46 ∷ end-text B (32 ∷ 58 ∷ 32 ∷ r)))) ≡ got (forall-token n A B) r
-unfolding forall-head forall-in forall-first forall-to forall-second forall-colon bind expect starts stops between
+    → read-forall (n ++ (32 ∷ 105 ∷ 110 ∷ 32 ∷ end-text A (46 ∷ 46 ∷ end-text B (32 ∷ 58 ∷ 32 ∷ r)))) ≡ got (forall-token n A B) r
+unfolding read-forall forall-range forall-first forall-to forall-second forall-colon and-read expect starts stops between
 forall-over n A B r h a b =
     rw (
       name-over n (32 ∷ 105 ∷ 110 ∷ 32 ∷ end-text A (46 ∷ 46 ∷ end-text B (32 ∷ 58 ∷ 32 ∷ r))) h refl,
@@ -71,12 +71,12 @@ forall-over n A B r h a b =
       end-over B (32 ∷ 58 ∷ 32 ∷ r) b (colon-closes r),
     )
 
-flag-over : (n : List ℕ) (k : ℕ) (r : List ℕ) → is-name n ≡ true → digit k ≡ true → flag-head (n ++ (46 ∷ k ∷ r)) ≡ got (flag-token n k) r
-unfolding flag-head flag-point flag-digit bind expect starts stops one-digit between
+flag-over : (n : List ℕ) (k : ℕ) (r : List ℕ) → is-name n ≡ true → digit k ≡ true → read-flag (n ++ (46 ∷ k ∷ r)) ≡ got (flag-token n k) r
+unfolding read-flag flag-point flag-digit and-read expect starts stops one-digit between
 flag-over n k r h d = rw (name-over n (46 ∷ k ∷ r) h refl, d)
 
-pub formula-over : (n : ℕ) (F : Named) (r : List ℕ) → weight F ≤ n → Spelt F → formula n (formula-text F r) ≡ got F r
-unfolding formula formula-text head bind expect starts parts joint joined second
+pub formula-over : (n : ℕ) (F : Named) (r : List ℕ) → weight F ≤ n → Spelt F → read-formula n (formula-text F r) ≡ got F r
+unfolding read-formula formula-text read-token and-read expect starts read-parts joint joined second
 formula-over zero (flag x k) r h s = absurd (omega arith)
 formula-over zero (negate F) r h s = absurd (omega arith)
 formula-over zero (then F G) r h s = absurd (omega arith)

@@ -8,7 +8,7 @@ use lib.ListN.{length, drop}
 use borrow.Author.Tests.{not-true, leb-true, eqb-true, ne-eqb}
 use Rattle.rule.proofs.Reading.{and-true}
 use Rattle.notation.specs.Notation.{letter, digit, all, same, reserved, is-name, is-numeral, infinity-word, monitor-word, forall-word, in-word}
-use Rattle.notation.specs.Reading.{Got, none, got, bind, starts, expect, run, past, name, numeral, one-digit}
+use Rattle.notation.specs.Reading.{Got, none, got, and-read, starts, expect, run, past, read-name, read-numeral, one-digit}
 
 -- ---- tests
 
@@ -72,12 +72,12 @@ name-starts (c ∷ n) r w k h =
     let e = and-true (letter c) (all letter n) (and-true (letter c && all letter n) _ h .0) .0 in
     rw (ne-eqb c w (λ q. false≢true (sym k ∙ ap letter (sym q) ∙ e)))
 
-pub name-over : (n r : List ℕ) → is-name n ≡ true → stops letter r ≡ true → name (n ++ r) ≡ got n r
-unfolding name
+pub name-over : (n r : List ℕ) → is-name n ≡ true → stops letter r ≡ true → read-name (n ++ r) ≡ got n r
+unfolding read-name
 name-over n r h k = rw (run-over letter n r (name-letters n h) k, past-over letter n r (name-letters n h) k, h)
 
-pub numeral-over : (d r : List ℕ) → is-numeral d ≡ true → stops digit r ≡ true → numeral (d ++ r) ≡ got d r
-unfolding numeral is-numeral
+pub numeral-over : (d r : List ℕ) → is-numeral d ≡ true → stops digit r ≡ true → read-numeral (d ++ r) ≡ got d r
+unfolding read-numeral is-numeral
 numeral-over d r h k =
     let a = and-true (all digit d) _ h .0 in
     rw (run-over digit d r a k, past-over digit d r a k, h)
@@ -112,8 +112,8 @@ Gets P none = Unit {0}
 Gets P (got a s) = P a s
 
 pub gets-bind : {A B : Type 0} (P : A → List ℕ → Type 0) (Q : B → List ℕ → Type 0) (x : Got A) (next : A → List ℕ → Got B)
-    → Gets P x → ((a : A) (s : List ℕ) → P a s → Gets Q (next a s)) → Gets Q (bind x next)
-unfolding bind
+    → Gets P x → ((a : A) (s : List ℕ) → P a s → Gets Q (next a s)) → Gets Q (and-read x next)
+unfolding and-read
 gets-bind P Q none next h k = tt
 gets-bind P Q (got a s) next h k = k a s h
 
@@ -126,12 +126,12 @@ unfolding expect
 gets-expect Q w s next k =
     gets-cond Q (starts w s) (next (drop (length w) s)) none (λ e. k (drop (length w) s) (starts-word w s e)) (λ e. tt)
 
-pub gets-name : (s : List ℕ) → Gets (λ n t. (is-name n ≡ true) × (s ≡ n ++ t)) (name s)
-unfolding name
+pub gets-name : (s : List ℕ) → Gets (λ n t. (is-name n ≡ true) × (s ≡ n ++ t)) (read-name s)
+unfolding read-name
 gets-name s = gets-cond (λ n t. (is-name n ≡ true) × (s ≡ n ++ t)) (is-name (run letter s)) _ none (λ e. (e, run-past letter s)) (λ e. tt)
 
-pub gets-numeral : (s : List ℕ) → Gets (λ d t. (is-numeral d ≡ true) × (s ≡ d ++ t)) (numeral s)
-unfolding numeral
+pub gets-numeral : (s : List ℕ) → Gets (λ d t. (is-numeral d ≡ true) × (s ≡ d ++ t)) (read-numeral s)
+unfolding read-numeral
 gets-numeral s = gets-cond (λ d t. (is-numeral d ≡ true) × (s ≡ d ++ t)) (is-numeral (run digit s)) _ none (λ e. (e, run-past digit s)) (λ e. tt)
 
 pub gets-digit : (s : List ℕ) → Gets (λ k t. (digit k ≡ true) × (s ≡ k ∷ t)) (one-digit s)

@@ -12,9 +12,9 @@ pub data Got (A : Type 0) : Type 0 where
   none : Got A
   got : A → List ℕ → Got A
 
-unfoldable pub bind : {A B : Type 0} → Got A → (A → List ℕ → Got B) → Got B
-bind none next = none
-bind (got a s) next = next a s
+unfoldable pub and-read : {A B : Type 0} → Got A → (A → List ℕ → Got B) → Got B
+and-read none next = none
+and-read (got a s) next = next a s
 
 unfoldable pub starts : List ℕ → List ℕ → Bool
 starts [] s = true
@@ -34,28 +34,28 @@ unfoldable pub past : (ℕ → Bool) → List ℕ → List ℕ
 past p [] = []
 past p (c ∷ s) = cond (p c) (past p s) (c ∷ s)
 
-unfoldable pub name : List ℕ → Got (List ℕ)
-name s = cond (is-name (run letter s)) (got (run letter s) (past letter s)) none
+unfoldable pub read-name : List ℕ → Got (List ℕ)
+read-name s = cond (is-name (run letter s)) (got (run letter s) (past letter s)) none
 
-unfoldable pub numeral : List ℕ → Got (List ℕ)
-numeral s = cond (is-numeral (run digit s)) (got (run digit s) (past digit s)) none
+unfoldable pub read-numeral : List ℕ → Got (List ℕ)
+read-numeral s = cond (is-numeral (run digit s)) (got (run digit s) (past digit s)) none
 
 unfoldable pub one-digit : List ℕ → Got ℕ
 one-digit [] = none
 one-digit (c ∷ s) = cond (digit c) (got c s) none
 
-unfoldable pub base : List ℕ → Got Base
-base s =
+unfoldable pub read-base : List ℕ → Got Base
+read-base s =
     cond (starts (48 ∷ []) s) (got origin (drop 1 s))
-    (cond (same (run letter s) infinity-word) (got infinity (past letter s)) (bind (name s) (λ n t. got (position n) t)))
+    (cond (same (run letter s) infinity-word) (got infinity (past letter s)) (and-read (read-name s) (λ n t. got (position n) t)))
 
-unfoldable pub offset : List ℕ → Got Offset
-offset s =
-    cond (starts (43 ∷ []) s) (bind (numeral (drop 1 s)) (λ d t. got (plus d) t))
-    (cond (starts (45 ∷ []) s) (bind (numeral (drop 1 s)) (λ d t. got (minus d) t)) (got nothing s))
+unfoldable pub read-offset : List ℕ → Got Offset
+read-offset s =
+    cond (starts (43 ∷ []) s) (and-read (read-numeral (drop 1 s)) (λ d t. got (plus d) t))
+    (cond (starts (45 ∷ []) s) (and-read (read-numeral (drop 1 s)) (λ d t. got (minus d) t)) (got nothing s))
 
-unfoldable pub end-of : List ℕ → Got End
-end-of s = bind (base s) (λ b t. bind (offset t) (λ o u. got (end b o) u))
+unfoldable pub read-end : List ℕ → Got End
+read-end s = and-read (read-base s) (λ b t. and-read (read-offset t) (λ o u. got (end b o) u))
 
 -- A formula's text before its first part.
 pub data Token : Type 0 where
@@ -66,39 +66,39 @@ pub data Token : Type 0 where
 
 -- After "@": a name, ".", a digit.
 unfoldable pub flag-digit : List ℕ → List ℕ → Got Token
-flag-digit n s = bind (one-digit s) (λ k t. got (flag-token n k) t)
+flag-digit n s = and-read (one-digit s) (λ k t. got (flag-token n k) t)
 
 unfoldable pub flag-point : List ℕ → List ℕ → Got Token
 flag-point n s = expect (46 ∷ []) s (flag-digit n)
 
-unfoldable pub flag-head : List ℕ → Got Token
-flag-head s = bind (name s) flag-point
+unfoldable pub read-flag : List ℕ → Got Token
+read-flag s = and-read (read-name s) flag-point
 
 -- After "forall ": a name, " in ", a bound, "..", a bound, " : ".
 unfoldable pub forall-colon : List ℕ → End → End → List ℕ → Got Token
 forall-colon n A B s = expect colon-sign s (λ t. got (forall-token n A B) t)
 
 unfoldable pub forall-second : List ℕ → End → List ℕ → Got Token
-forall-second n A s = bind (end-of s) (forall-colon n A)
+forall-second n A s = and-read (read-end s) (forall-colon n A)
 
 unfoldable pub forall-to : List ℕ → End → List ℕ → Got Token
 forall-to n A s = expect to-sign s (forall-second n A)
 
 unfoldable pub forall-first : List ℕ → List ℕ → Got Token
-forall-first n s = bind (end-of s) (forall-to n)
+forall-first n s = and-read (read-end s) (forall-to n)
 
-unfoldable pub forall-in : List ℕ → List ℕ → Got Token
-forall-in n s = expect in-sign s (forall-first n)
+unfoldable pub forall-range : List ℕ → List ℕ → Got Token
+forall-range n s = expect in-sign s (forall-first n)
 
-unfoldable pub forall-head : List ℕ → Got Token
-forall-head s = bind (name s) forall-in
+unfoldable pub read-forall : List ℕ → Got Token
+read-forall s = and-read (read-name s) forall-range
 
-unfoldable pub head : List ℕ → Got Token
-head s =
-    cond (starts (64 ∷ []) s) (flag-head (drop 1 s))
+unfoldable pub read-token : List ℕ → Got Token
+read-token s =
+    cond (starts (64 ∷ []) s) (read-flag (drop 1 s))
     (cond (starts (126 ∷ []) s) (got negate-token (drop 1 s))
     (cond (starts (40 ∷ []) s) (got open-token (drop 1 s))
-    (expect forall-sign s forall-head)))
+    (expect forall-sign s read-forall)))
 
 -- The text between the parts in brackets.
 pub data Joint : Type 0 where
@@ -113,41 +113,41 @@ joined then-joint F G = then F G
 joined beside-joint F G = beside F G
 
 unfoldable pub second : (List ℕ → Got Named) → Named → Joint → List ℕ → Got Named
-second part F j s = bind (part s) (λ G t. expect (41 ∷ []) t (λ u. got (joined j F G) u))
+second part F j s = and-read (part s) (λ G t. expect (41 ∷ []) t (λ u. got (joined j F G) u))
 
 -- The parts, each read by `part`.
-unfoldable pub parts : (List ℕ → Got Named) → Token → List ℕ → Got Named
-parts part (flag-token n k) s = got (flag n k) s
-parts part negate-token s = bind (part s) (λ F t. got (negate F) t)
-parts part open-token s = bind (part s) (λ F t. bind (joint t) (second part F))
-parts part (forall-token n A B) s = bind (part s) (λ F t. got (forall n A B F) t)
+unfoldable pub read-parts : (List ℕ → Got Named) → Token → List ℕ → Got Named
+read-parts part (flag-token n k) s = got (flag n k) s
+read-parts part negate-token s = and-read (part s) (λ F t. got (negate F) t)
+read-parts part open-token s = and-read (part s) (λ F t. and-read (joint t) (second part F))
+read-parts part (forall-token n A B) s = and-read (part s) (λ F t. got (forall n A B F) t)
 
 -- The formula at the start of a text. The first number only makes the recursion end: it is above the text's length, so its 0 is never reached.
-unfoldable pub formula : ℕ → List ℕ → Got Named
-formula zero s = none
-formula (suc n) s = bind (head s) (parts (formula n))
+unfoldable pub read-formula : ℕ → List ℕ → Got Named
+read-formula zero s = none
+read-formula (suc n) s = and-read (read-token s) (read-parts (read-formula n))
 
-unfoldable pub formula-at : List ℕ → Got Named
-formula-at s = formula (suc (length s)) s
+unfoldable pub formula-read : List ℕ → Got Named
+formula-read s = read-formula (suc (length s)) s
 
 -- "monitor ", a name, " : ".
 unfoldable pub rule-colon : List ℕ → List ℕ → Got (List ℕ)
 rule-colon n s = expect colon-sign s (λ t. got n t)
 
 unfoldable pub rule-name : List ℕ → Got (List ℕ)
-rule-name s = bind (name s) rule-colon
+rule-name s = and-read (read-name s) rule-colon
 
 unfoldable pub rule-head : List ℕ → Got (List ℕ)
 rule-head s = expect monitor-sign s rule-name
 
 unfoldable pub rule-at : List ℕ → Got Rule
-rule-at s = bind (rule-head s) (λ n t. bind (formula-at t) (λ F u. got (monitor n F) u))
+rule-at s = and-read (rule-head s) (λ n t. and-read (formula-read t) (λ F u. got (monitor n F) u))
 
 -- The whole text: "misspelt text, or text above 4,096 bytes, is 25".
-unfoldable pub whole : Got Rule → Answer Rule
-whole none = refused 25
-whole (got N []) = accepted N
-whole (got N (c ∷ s)) = refused 25
+unfoldable pub whole-text : Got Rule → Answer Rule
+whole-text none = refused 25
+whole-text (got N []) = accepted N
+whole-text (got N (c ∷ s)) = refused 25
 
 unfoldable pub reading : List ℕ → Answer Rule
-reading s = cond (leb (length s) 4096) (whole (rule-at s)) (refused 25)
+reading s = cond (leb (length s) 4096) (whole-text (rule-at s)) (refused 25)

@@ -11,12 +11,12 @@ use Rattle.reader.specs.declared.Reading.{Reading}
 use Rattle.reader.specs.declared.Reading.the-variants.{Stored, Refused}
 
 -- What each case of the code's answer stands for, with the table that was read into.
-abbrev pub told : Reading → List ℕ → Answer Formula
-told Stored ns = accepted (formula-in 64 ns 0 0)
-told (Refused x) ns = refused (number-of x)
+abbrev pub reading-answer : Reading → List ℕ → Answer Formula
+reading-answer Stored ns = accepted (formula-in 64 ns 0 0)
+reading-answer (Refused x) ns = refused (number-of x)
 
 -- The table holds F from its first word on, 12 words a formula; so F is what is read off it.
-pub record Stands (F : Formula) (ns : List ℕ) : Type 0 where
+pub record TableHolds (F : Formula) (ns : List ℕ) : Type 0 where
   pub holds : Holds F ns 0 0 (12 * formulas F)
   pub room : 12 * formulas F ≤ 768
   pub is : formula-in 64 ns 0 0 ≡ F
@@ -24,8 +24,8 @@ pub record Stands (F : Formula) (ns : List ℕ) : Type 0 where
 -- The table holds the formula that was read. After a refusal it is all 0.
 abbrev pub Tabled : List ℕ → Answer Formula → Type 0
 Tabled ns (refused n) = Cleared ns
-Tabled ns (accepted F) = Stands F ns
+Tabled ns (accepted F) = TableHolds F ns
 
 pub record Decoded (s : List ℕ) (r : Reading) (ns : List ℕ) : Type 0 where
-  pub answer : told r ns ≡ body s
+  pub answer : reading-answer r ns ≡ body s
   pub tabled : Tabled ns (body s)

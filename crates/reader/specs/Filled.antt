@@ -7,31 +7,31 @@ use Rattle.refusal.specs.Answer.{Answer, refused, accepted}
 use Rattle.refusal.specs.Numbers.{number-of}
 use Rattle.rule.specs.Body.{Read, stop, read, formula-at}
 use Rattle.nodes.specs.Table.{Holds}
-use Rattle.reader.specs.Written.{place}
+use Rattle.reader.specs.Written.{node-start}
 use Rattle.reader.specs.declared.Part.{Part}
 use Rattle.reader.specs.declared.Part.the-variants.{Refused, Ended}
 
 -- Where a formula ends: the position after it, and the formulas left.
-pub data End : Type 0 where
-  ending : ℕ → ℕ → End
+pub data FormulaEnd : Type 0 where
+  ending : ℕ → ℕ → FormulaEnd
 
 -- Where the definition's formula ends, or its refusal.
-abbrev pub end-of : Read → Answer End
-end-of (stop n) = refused n
-end-of (read F next left) = accepted (ending next left)
+abbrev pub formula-end : Read → Answer FormulaEnd
+formula-end (stop n) = refused n
+formula-end (read F next left) = accepted (ending next left)
 
 -- What each case of the code's answer stands for.
-abbrev pub ended : Part → Answer End
+abbrev pub ended : Part → Answer FormulaEnd
 ended (Refused x) = refused (number-of x)
 ended (Ended next left) = accepted (ending next left)
 
 -- The table holds what was read.
 abbrev pub Placed : List ℕ → ℕ → ℕ → Read → Type 0
 Placed ns m left (stop n) = Unit {0}
-Placed ns m left (read F next rest) = Holds F ns m (place left) (place rest)
+Placed ns m left (read F next rest) = Holds F ns m (node-start left) (node-start rest)
 
 -- The formula at a position, inside m quantifiers and with `left` formulas left: its end or refusal; no word before its node changed.
 pub record Filled (s : List ℕ) (at m left : ℕ) (old : List ℕ) (r : Part) (new : List ℕ) : Type 0 where
-  pub answer : ended r ≡ end-of (formula-at s at m left)
-  pub below : (k : ℕ) → k < place left → getD new k 0 ≡ getD old k 0
+  pub answer : ended r ≡ formula-end (formula-at s at m left)
+  pub below : (k : ℕ) → k < node-start left → getD new k 0 ≡ getD old k 0
   pub placed : Placed new m left (formula-at s at m left)

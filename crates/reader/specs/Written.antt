@@ -8,8 +8,8 @@ use lib.ListN.{getD}
 use Rattle.words.specs.Words.{byte, word}
 
 -- The word at which a formula's node starts, where so many formulas are left of 64.
-abbrev pub place : ℕ → ℕ
-place left = 12 * (64 - left)
+abbrev pub node-start : ℕ → ℕ
+node-start left = 12 * (64 - left)
 
 -- Word k (0 to 6) of the node of the formula whose bytes start at a position: code, variable and flag; or code and the two bounds.
 unfoldable pub head-word : List ℕ → ℕ → ℕ → ℕ

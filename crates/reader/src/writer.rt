@@ -2,7 +2,7 @@
 ghost use mathlib.Core.Path.{_≡_};
 ghost use Prim.Native.Nat.{_+_, _≤_, _<_};
 ghost use lib.ListN.{length, set};
-ghost use Rattle.reader.specs.Written.{head-word, Headed, place};
+ghost use Rattle.reader.specs.Written.{head-word, Headed, node-start};
 use nodes::FORMULAS;
 use nodes::NODE_WORDS;
 use nodes::SECOND_PART;
@@ -41,7 +41,7 @@ pub(crate) fn write_head(s: &[u8], at: usize, nodes: &mut [u32], i: usize)
 // The word at which a formula's node starts, where so many of 64 are left.
 pub(crate) fn node_place(left: usize) -> usize
     requires { ⌜ left ≤ 64 ⌝ }
-    ensures { λ r. ⌜ r ≡ place left ⌝ }
+    ensures { λ r. ⌜ r ≡ node-start left ⌝ }
 {
     NODE_WORDS * (FORMULAS - left)
 }
@@ -49,7 +49,7 @@ pub(crate) fn node_place(left: usize) -> usize
 // Writes where a node's second part starts, whose node is written where so many of 64 are left.
 pub(crate) fn write_second(nodes: &mut [u32], i: usize, rest: usize)
     requires { ⌜ (rest ≤ 64) × (i + 12 ≤ length (now nodes)) ⌝ }
-    ensures { λ _. ⌜ now (nodes .exit) ≡ set (now (nodes .entry)) (i + 7) (place rest) ⌝ }
+    ensures { λ _. ⌜ now (nodes .exit) ≡ set (now (nodes .entry)) (i + 7) (node-start rest) ⌝ }
 {
     nodes[i + SECOND_PART] = node_place(rest) as u32;
 }

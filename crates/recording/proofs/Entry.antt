@@ -20,7 +20,7 @@ use Rattle.reader.specs.declared.Reading.the-variants.{Stored, Refused}
 use Rattle.reader.specs.Decoded.{Decoded}
 use Rattle.reader.proofs.Told.{refused-body, read-formula}
 use Rattle.recording.specs.declared.env.Env.{Env}
-use Rattle.recording.specs.Evaluating.{places, started, Ready}
+use Rattle.recording.specs.Evaluating.{bound-positions, started, Evaluable}
 
 -- ---- refusal 16
 
@@ -43,8 +43,8 @@ module _ (F : Formula) (rec : List ℕ) (p : ℕ) where
 
 -- ---- the rule at a tick
 
-pub ready-tick : {t p : ℕ} (e : Env) → p ≤ t → t < 65536 → e ≡ started p → Ready 64 0 t e
-ready-tick {t} {p} e h k x = subst (Ready 64 0 t) (sym x) ready
+pub ready-tick : {t p : ℕ} (e : Env) → p ≤ t → t < 65536 → e ≡ started p → Evaluable 64 0 t e
+ready-tick {t} {p} e h k x = subst (Evaluable 64 0 t) (sym x) ready
   where
     clear : (v : ℕ) → 0 < v → getD (p ∷ (0 ∷ (0 ∷ (0 ∷ (0 ∷ []))))) v 0 ≡ 0
     clear zero a = absurd (omega arith)
@@ -58,7 +58,7 @@ ready-tick {t} {p} e h k x = subst (Ready 64 0 t) (sym x) ready
     within zero = h
     within (suc v) = omega (arith, clear (suc v) (omega arith))
 
-    ready : Ready 64 0 t (started p)
+    ready : Evaluable 64 0 t (started p)
     ready =
         record {
           few = omega arith;
@@ -71,9 +71,9 @@ ready-tick {t} {p} e h k x = subst (Ready 64 0 t) (sym x) ready
         }
 
 pub by-rule : (ns rec : List ℕ) (t p : ℕ) (e : Env) {o : Outcome} → e ≡ started p
-    → o ≡ outcome (formula-in 64 ns (e .nested) 0) (recorded rec) t (places e) p → o ≡ rule (formula-in 64 ns 0 0) (recorded rec) t p
+    → o ≡ outcome (formula-in 64 ns (e .nested) 0) (recorded rec) t (bound-positions e) p → o ≡ rule (formula-in 64 ns 0 0) (recorded rec) t p
 unfolding rule
-by-rule ns rec t p e x y = y ∙ ap (λ (w : Env). outcome (formula-in 64 ns (w .nested) 0) (recorded rec) t (places w) p) x
+by-rule ns rec t p e x y = y ∙ ap (λ (w : Env). outcome (formula-in 64 ns (w .nested) 0) (recorded rec) t (bound-positions w) p) x
 
 -- ---- after the body is read
 

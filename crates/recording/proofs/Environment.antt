@@ -9,19 +9,19 @@ use lib.ListN.{length, getD, take, set, length-take, length-set, List·getD-eq-d
 use lib.Seq.{take-suc-set, getD-take, getD-set-other}
 use Rattle.rule.proofs.Order.{by-order}
 use Rattle.recording.specs.declared.env.Env.{Env}
-use Rattle.recording.specs.Evaluating.{places, entered, Ready}
+use Rattle.recording.specs.Evaluating.{bound-positions, entered, Evaluable}
 
 -- The position of any variable, as the definitions have it.
-pub place-at : {left i t : ℕ} {e : Env} → Ready left i t e → (v : ℕ) → getD (e .pos) v 0 ≡ getD (places e) v 0
+pub place-at : {left i t : ℕ} {e : Env} → Evaluable left i t e → (v : ℕ) → getD (e .pos) v 0 ≡ getD (bound-positions e) v 0
 place-at {left} {i} {t} {e} r v = go (by-order v (e .nested))
   where
-    go : (v ≤ e .nested) ⊎ (e .nested < v) → getD (e .pos) v 0 ≡ getD (places e) v 0
+    go : (v ≤ e .nested) ⊎ (e .nested < v) → getD (e .pos) v 0 ≡ getD (bound-positions e) v 0
     go (inl h) = sym (getD-take (suc (e .nested)) (e .pos) v 0 (omega arith))
-    go (inr h) = r .clear v h ∙ sym (List·getD-eq-default (places e) 0 (omega (arith, length-take (suc (e .nested)) (e .pos))))
+    go (inr h) = r .clear v h ∙ sym (List·getD-eq-default (bound-positions e) 0 (omega (arith, length-take (suc (e .nested)) (e .pos))))
 
 -- ---- inside one more quantifier
 
-pub places-more : (e : Env) (q : ℕ) → length (e .pos) ≡ 5 → e .nested < 4 → places (entered e q) ≡ places e ++ (q ∷ [])
+pub places-more : (e : Env) (q : ℕ) → length (e .pos) ≡ 5 → e .nested < 4 → bound-positions (entered e q) ≡ bound-positions e ++ (q ∷ [])
 places-more e q l h = take-suc-set (e .pos) (e .nested + 1) q (omega arith) ∙ ap (λ (n : ℕ). take n (e .pos) ++ (q ∷ [])) (add-one (e .nested))
 
 set-within : (l : List ℕ) (j q t : ℕ) → ((v : ℕ) → getD l v 0 ≤ t) → q ≤ t → (v : ℕ) → getD (set l j q) v 0 ≤ t
@@ -33,19 +33,19 @@ set-within (x ∷ l) (suc j) q t h k (suc v) = set-within l j q t (λ w. h (suc 
 
 -- ---- ready for a part
 
-pub ready-part : {left i j t : ℕ} {e : Env} → Ready left i t e → (left ≡ 0 → ⊥) → j + 12 * (left - 1) ≤ 4294968064 → Ready (left - 1) j t e
+pub ready-part : {left i j t : ℕ} {e : Env} → Evaluable left i t e → (left ≡ 0 → ⊥) → j + 12 * (left - 1) ≤ 4294968064 → Evaluable (left - 1) j t e
 ready-part r h k =
     record { few = omega (arith, r .few); near = k; early = r .early; nested = r .nested; five = r .five; clear = r .clear; within = r .within }
 
 -- for a range, which leaves its body one formula fewer
-pub ready-range : {left i t : ℕ} {e : Env} → Ready left i t e → (left ≡ 0 → ⊥) → Ready (suc (left - 1)) i t e
+pub ready-range : {left i t : ℕ} {e : Env} → Evaluable left i t e → (left ≡ 0 → ⊥) → Evaluable (suc (left - 1)) i t e
 ready-range r h =
     record { few = omega (arith, r .few); near = omega (arith, r .near); early = r .early; nested = r .nested; five = r .five; clear = r .clear; within = r .within }
 
-pub ready-body : {left i t : ℕ} (e : Env) (q : ℕ) {e′ : Env} → Ready (suc left) i t e → e .nested < 4 → q ≤ t → e′ ≡ entered e q → Ready left (i + 12) t e′
-ready-body {left} {i} {t} e q {e′} r h k x = subst (Ready left (i + 12) t) (sym x) inside
+pub ready-body : {left i t : ℕ} (e : Env) (q : ℕ) {e′ : Env} → Evaluable (suc left) i t e → e .nested < 4 → q ≤ t → e′ ≡ entered e q → Evaluable left (i + 12) t e′
+ready-body {left} {i} {t} e q {e′} r h k x = subst (Evaluable left (i + 12) t) (sym x) inside
   where
-    inside : Ready left (i + 12) t (entered e q)
+    inside : Evaluable left (i + 12) t (entered e q)
     inside =
         record {
           few = omega (arith, r .few);

@@ -15,10 +15,10 @@ use Rattle.rule.specs.Recording.{recorded}
 use Rattle.rule.specs.Started.{From}
 use Rattle.rule.proofs.Horizon.{from-less, from-start}
 use Rattle.rule.proofs.Conjunction.{both-comm, both-settled}
-use Rattle.recording.specs.Evaluating.{settled}
+use Rattle.recording.specs.Evaluating.{false-by}
 
 -- what is not decided before s changes nothing beside what is false by then
-pub settled-both : (o p : Outcome) (s : ℕ) → settled o s ≡ true → From s p → o ≡ both o p
+pub settled-both : (o p : Outcome) (s : ℕ) → false-by o s ≡ true → From s p → o ≡ both o p
 settled-both (Decided True d) p s h k = absurd (false≢true h)
 settled-both (Decided False d) p s h k = sym (both-comm (Decided False d) p ∙ both-settled d p (from-less p (leb-true d s h) k))
 settled-both Open p s h k = absurd (false≢true h)
@@ -38,7 +38,7 @@ module _ (rec : List ℕ) (t : ℕ) (env : List ℕ) (s : ℕ) where
   by-beside e f g h = rw e (h ∙ ap₂ both f g)
 
   -- F false at s, before which G is not decided
-  pub beside-settled : {F G H : Formula} {o : Outcome} {b : Bool} → F ≡ beside G H → o ≡ outcome G (recorded rec) t env s → b ≡ settled o s → b ≡ true
+  pub beside-settled : {F G H : Formula} {o : Outcome} {b : Bool} → F ≡ beside G H → o ≡ outcome G (recorded rec) t env s → b ≡ false-by o s → b ≡ true
       → o ≡ outcome F (recorded rec) t env s
   beside-settled {H = H} {o = o} e f x y =
       by-beside e f refl (settled-both o (outcome H (recorded rec) t env s) s (sym x ∙ y) (from-start H (recorded rec) t env s))

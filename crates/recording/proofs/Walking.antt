@@ -10,7 +10,8 @@ use lib.Seq.{length-take-le}
 use borrow.Author.Tests.{lt-ltb, le-ltb}
 use Rattle.rule.specs.declared.Outcome.{Outcome}
 use Rattle.rule.specs.Formula.{Formula, flag}
-use Rattle.rule.specs.Meaning.{Range, range, walk, seen, both, outcome}
+use Rattle.rule.specs.declared.Range.{Range}
+use Rattle.rule.specs.Meaning.{range, walk, seen, both, outcome}
 use Rattle.rule.specs.Recording.{recorded}
 use Rattle.rule.specs.Started.{From, raise}
 use Rattle.rule.specs.Naming.{names}
@@ -18,15 +19,15 @@ use Rattle.rule.proofs.Every.{seen-in, seen-out, walk-next}
 use Rattle.rule.proofs.Alike.{unnamed-walk}
 use Rattle.rule.proofs.Horizon.{from-less, from-seen, from-start}
 use Rattle.nodes.specs.Table.{bound-at, formula-in}
-use Rattle.ranges.specs.Spans.{held, held-at}
+use Rattle.ranges.specs.Clamped.{clamped, clamped-at}
 use Rattle.ranges.specs.Plans.{Plans}
-use Rattle.ranges.proofs.Held.{held-at-same, getD-held}
+use Rattle.ranges.proofs.Clamping.{clamped-at-same, getD-clamped}
 use Rattle.ranges.proofs.Bounds.{range-same}
 use Rattle.ranges.proofs.Planning.{plans-same}
 use Rattle.rule.proofs.Conjunction.{both-comm, both-exchange}
-use Rattle.naming.specs.Ranges.{forall-in}
+use Rattle.naming.specs.Ranges.{forall-of-node}
 use Rattle.recording.specs.declared.env.Env.{Env}
-use Rattle.recording.specs.Evaluating.{places, entered, settled, Ready}
+use Rattle.recording.specs.Evaluating.{bound-positions, entered, false-by, Evaluable}
 use Rattle.recording.proofs.Environment.{place-at, places-more}
 use Rattle.recording.proofs.Parts.{settled-both}
 
@@ -46,7 +47,7 @@ walk-step f n q {o} {r} acc h e g =
     ∙ ap (walk f (n - 1) (q + 1)) (ap (λ (x : Outcome). both x acc) (sym e) ∙ sym g)
 
 -- settled, and no position further on is decided before the start
-walk-done : (f : ℕ → Outcome) (start n q : ℕ) (acc : Outcome) → ((p : ℕ) → q ≤ p → From start (f p)) → settled acc start ≡ true → walk f n q acc ≡ acc
+walk-done : (f : ℕ → Outcome) (start n q : ℕ) (acc : Outcome) → ((p : ℕ) → q ≤ p → From start (f p)) → false-by acc start ≡ true → walk f n q acc ≡ acc
 unfolding walk
 walk-done f start zero q acc h e = refl
 walk-done f start (suc n) q acc h e =
@@ -69,7 +70,7 @@ body-from F rec t env s q =
     from-seen (max s q) t q (outcome F (recorded rec) t (env ++ (q ∷ [])) (max s q)) (from-start F (recorded rec) t (env ++ (q ∷ [])) (max s q))
 
 pub body-settled : (F : Formula) (rec : List ℕ) (t : ℕ) (env : List ℕ) (s n q : ℕ) (acc : Outcome) {start : ℕ} {b : Bool}
-    → start ≡ max s q → b ≡ settled acc start → b ≡ true → walk (body-at F rec t env s) n q acc ≡ acc
+    → start ≡ max s q → b ≡ false-by acc start → b ≡ true → walk (body-at F rec t env s) n q acc ≡ acc
 body-settled F rec t env s n q acc {start} {b} e f g =
     walk-done (body-at F rec t env s) start n q acc
     (λ p k. from-less (body-at F rec t env s p) (omega arith) (body-from F rec t env s p)) (sym f ∙ g)
@@ -81,45 +82,45 @@ module _ (left : ℕ) (ns : List ℕ) (i : ℕ) (rec : List ℕ) (t : ℕ) (e : 
 
   -- what the evaluator answers at position q
   pub body-here : (q : ℕ) {e′ : Env} {start : ℕ} {o : Outcome} → length (e .pos) ≡ 5 → e .nested < 4 → q ≤ t → e′ ≡ entered e q → start ≡ max s q
-      → o ≡ outcome (formula-in left ns (e′ .nested) (i + 12)) (recorded rec) t (places e′) start → o ≡ body-at body rec t (places e) s q
+      → o ≡ outcome (formula-in left ns (e′ .nested) (i + 12)) (recorded rec) t (bound-positions e′) start → o ≡ body-at body rec t (bound-positions e) s q
   body-here q {e′} {start} {o} l h k x y z =
       z
-      ∙ ap (λ (w : Env). outcome (formula-in left ns (w .nested) (i + 12)) (recorded rec) t (places w) start) x
+      ∙ ap (λ (w : Env). outcome (formula-in left ns (w .nested) (i + 12)) (recorded rec) t (bound-positions w) start) x
       ∙ ap (λ (w : List ℕ). outcome body (recorded rec) t w start) (places-more e q l h)
-      ∙ ap (λ (w : ℕ). outcome body (recorded rec) t (places e ++ (q ∷ [])) w) y
-      ∙ sym (seen-in t q (outcome body (recorded rec) t (places e ++ (q ∷ [])) (max s q)) k)
+      ∙ ap (λ (w : ℕ). outcome body (recorded rec) t (bound-positions e ++ (q ∷ [])) w) y
+      ∙ sym (seen-in t q (outcome body (recorded rec) t (bound-positions e ++ (q ∷ [])) (max s q)) k)
 
   -- what one evaluation answers for all positions that are left, where the body does not name the range's variable
   pub body-alike : (n q n₀ : ℕ) {o x acc′ r : Outcome} {b : Bool} (acc : Outcome) → length (e .pos) ≡ 5 → e .nested < 4 → 0 < n → n ≤ suc t - q
-      → b ≡ (ltb 1 n₀ && not (names (e .nested + 1) body)) → b ≡ true → o ≡ body-at body rec t (places e) s q
-      → acc′ ≡ both o acc → x ≡ raise (q + (n - 1)) o → r ≡ both x acc′ → walk (body-at body rec t (places e) s) n q acc ≡ r
+      → b ≡ (ltb 1 n₀ && not (names (e .nested + 1) body)) → b ≡ true → o ≡ body-at body rec t (bound-positions e) s q
+      → acc′ ≡ both o acc → x ≡ raise (q + (n - 1)) o → r ≡ both x acc′ → walk (body-at body rec t (bound-positions e) s) n q acc ≡ r
   body-alike n q n₀ {o} {x} {acc′} {r} {b} acc l h i k a c f g y z =
-      unnamed-walk body (recorded rec) t (places e) s n q acc unnamed i (omega arith)
+      unnamed-walk body (recorded rec) t (bound-positions e) s n q acc unnamed i (omega arith)
       ∙ ap (λ (w : Outcome). both w (both (raise (q + (n - 1)) w) acc)) (sym f)
       ∙ both-exchange o (raise (q + (n - 1)) o) acc
       ∙ ap₂ both (sym y) (sym g) ∙ sym z
     where
-      bound : length (places e) ≡ e .nested + 1
+      bound : length (bound-positions e) ≡ e .nested + 1
       bound = length-take-le (suc (e .nested)) (e .pos) (omega arith) ∙ omega arith
 
-      unnamed : names (length (places e)) body ≡ false
+      unnamed : names (length (bound-positions e)) body ≡ false
       unnamed = ap (λ (v : ℕ). names v body) bound ∙ not-named (ltb 1 n₀) (names (e .nested + 1) body) (sym a ∙ c)
 
   -- the plan is one for the definition's range
-  pub plan-here : {r : Range} {first n : ℕ} {end : Outcome} → Ready (suc left) i t e → r ≡ range (bound-at ns (i + 1)) (bound-at ns (i + 4)) (held (e .pos))
-      → Plans r (held-at t) s first n end → Plans (range (bound-at ns (i + 1)) (bound-at ns (i + 4)) (places e)) t s first n end
+  pub plan-here : {r : Range} {first n : ℕ} {end : Outcome} → Evaluable (suc left) i t e → r ≡ range (bound-at ns (i + 1)) (bound-at ns (i + 4)) (clamped (e .pos))
+      → Plans r (clamped-at t) s first n end → Plans (range (bound-at ns (i + 1)) (bound-at ns (i + 4)) (bound-positions e)) t s first n end
   plan-here y x p =
-      plans-same (x ∙ range-same (bound-at ns (i + 1)) (bound-at ns (i + 4)) (held (e .pos)) (places e) at) (held-at-same (omega (arith, y .early))) p
+      plans-same (x ∙ range-same (bound-at ns (i + 1)) (bound-at ns (i + 4)) (clamped (e .pos)) (bound-positions e) at) (clamped-at-same (omega (arith, y .early))) p
     where
-      at : (v : ℕ) → getD (held (e .pos)) v 0 ≡ getD (places e) v 0
-      at v = getD-held (e .pos) v ∙ held-at-same (omega (arith, y .within v, y .early)) ∙ place-at y v
+      at : (v : ℕ) → getD (clamped (e .pos)) v 0 ≡ getD (bound-positions e) v 0
+      at v = getD-clamped (e .pos) v ∙ clamped-at-same (omega (arith, y .within v, y .early)) ∙ place-at y v
 
   -- the walk of a plan is the "for all"
-  pub by-forall : {first n : ℕ} {end : Outcome} → e .nested < 4 → Plans (range (bound-at ns (i + 1)) (bound-at ns (i + 4)) (places e)) t s first n end
-      → outcome (forall-in left ns (e .nested) i) (recorded rec) t (places e) s ≡ walk (body-at body rec t (places e) s) n first end
+  pub by-forall : {first n : ℕ} {end : Outcome} → e .nested < 4 → Plans (range (bound-at ns (i + 1)) (bound-at ns (i + 4)) (bound-positions e)) t s first n end
+      → outcome (forall-of-node left ns (e .nested) i) (recorded rec) t (bound-positions e) s ≡ walk (body-at body rec t (bound-positions e) s) n first end
   unfolding outcome
-  by-forall h p = rw (lt-ltb (e .nested) 4 h) (p .same (body-at body rec t (places e) s) (λ q k. seen-out t q (outcome body (recorded rec) t (places e ++ (q ∷ [])) (max s q)) k))
+  by-forall h p = rw (lt-ltb (e .nested) 4 h) (p .same (body-at body rec t (bound-positions e) s) (λ q k. seen-out t q (outcome body (recorded rec) t (bound-positions e ++ (q ∷ [])) (max s q)) k))
 
   -- inside 4 quantifiers there is no fifth
-  pub no-forall : 4 ≤ e .nested → forall-in left ns (e .nested) i ≡ flag 0 0
+  pub no-forall : 4 ≤ e .nested → forall-of-node left ns (e .nested) i ≡ flag 0 0
   no-forall h = rw (le-ltb (e .nested) 4 h)

@@ -5,6 +5,6 @@ use Rattle.rule.specs.declared.Outcome.{Outcome}
 use Rattle.recording.specs.declared.Evaluated.{Evaluated}
 use Rattle.recording.specs.declared.Evaluated.the-variants.{Answered, Refused}
 
-abbrev pub told : Evaluated → Answer Outcome
-told (Answered o) = accepted o
-told (Refused x) = refused (number-of x)
+abbrev pub outcome-answer : Evaluated → Answer Outcome
+outcome-answer (Answered o) = accepted o
+outcome-answer (Refused x) = refused (number-of x)

@@ -11,8 +11,8 @@ use Rattle.rule.specs.declared.Outcome.the-variants.{Decided, Open}
 use Rattle.recording.specs.declared.env.Env.{Env}
 
 -- The positions of the variables that are bound.
-abbrev pub places : Env → List ℕ
-places e = take (suc (e .nested)) (e .pos)
+abbrev pub bound-positions : Env → List ℕ
+bound-positions e = take (suc (e .nested)) (e .pos)
 
 -- The environment of the rule at tick p: "variable 0 equal to p".
 abbrev pub started : ℕ → Env
@@ -23,14 +23,14 @@ abbrev pub entered : Env → ℕ → Env
 entered e q = record { nested = e .nested + 1; pos = set (e .pos) (e .nested + 1) q }
 
 -- An outcome that no formula started at this step or later, beside it, can change: false by then.
-abbrev pub settled : Outcome → ℕ → Bool
-settled (Decided True d) start = false
-settled (Decided False d) start = leb d start
-settled Open start = false
+abbrev pub false-by : Outcome → ℕ → Bool
+false-by (Decided True d) start = false
+false-by (Decided False d) start = leb d start
+false-by Open start = false
 
 -- Before a formula is evaluated at word i, with `left` formulas left: no word's number is past 64 bits, and no sum of a position and an
 -- offset; the variables stand at positions up to t, and those that are not bound at 0.
-pub record Ready (left i t : ℕ) (e : Env) : Type 0 where
+pub record Evaluable (left i t : ℕ) (e : Env) : Type 0 where
   pub few : left ≤ 64
   pub near : i + 12 * left ≤ 4294968064
   pub early : t < 4611686018427387904

@@ -7,8 +7,8 @@ ghost use Rattle.rule.specs.Meaning.{verdict, up, outcome};
 ghost use Rattle.rule.specs.Recording.{recorded};
 ghost use Rattle.rule.specs.Started.{raise};
 ghost use Rattle.nodes.specs.Table.{formula-in};
-ghost use Rattle.naming.specs.Ranges.{forall-in};
-ghost use Rattle.recording.specs.Evaluating.{places, settled, Ready};
+ghost use Rattle.naming.specs.Ranges.{forall-of-node};
+ghost use Rattle.recording.specs.Evaluating.{bound-positions, false-by, Evaluable};
 use crate::alike::alike;
 use crate::env::Env;
 use crate::env::enter;
@@ -46,7 +46,7 @@ fn flag_at(recording: &[u8], env: Env, v: u32, k: u32, s: u64) -> Outcome
 
 // Whether no formula started at this step or later can change an outcome beside it, since none is decided before it starts.
 fn settled(o: Outcome, start: u64) -> bool
-    ensures { λ r. ⌜ r ≡ settled o start ⌝ }
+    ensures { λ r. ⌜ r ≡ false-by o start ⌝ }
 {
     match o {
         Outcome::Decided(v, d) => match v {
@@ -78,8 +78,8 @@ pub(crate) fn evaluate(
     env: Env,
     s: u64,
 ) -> Outcome
-    requires { ⌜ Ready left i t env ⌝ }
-    ensures { λ r. ⌜ r ≡ outcome (formula-in left (now (nodes .entry)) (env .nested) i) (recorded (now (recording .entry))) t (places env) s ⌝ }
+    requires { ⌜ Evaluable left i t env ⌝ }
+    ensures { λ r. ⌜ r ≡ outcome (formula-in left (now (nodes .entry)) (env .nested) i) (recorded (now (recording .entry))) t (bound-positions env) s ⌝ }
 {
     if left == 0 {
         return flag_at(recording, env, 0, 0, s);
@@ -130,8 +130,8 @@ fn walk_range(
     env: Env,
     s: u64,
 ) -> Outcome
-    requires { ⌜ Ready (suc left) i t env ⌝ }
-    ensures { λ r. ⌜ r ≡ outcome (forall-in left (now (nodes .entry)) (env .nested) i) (recorded (now (recording .entry))) t (places env) s ⌝ }
+    requires { ⌜ Evaluable (suc left) i t env ⌝ }
+    ensures { λ r. ⌜ r ≡ outcome (forall-of-node left (now (nodes .entry)) (env .nested) i) (recorded (now (recording .entry))) t (bound-positions env) s ⌝ }
 {
     if NESTED <= env.nested {
         return flag_at(recording, env, 0, 0, s);

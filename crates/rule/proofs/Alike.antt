@@ -11,7 +11,9 @@ use Rattle.rule.specs.declared.Verdict.the-variants.{True, False}
 use Rattle.rule.specs.declared.Outcome.{Outcome}
 use Rattle.rule.specs.declared.Outcome.the-variants.{Decided, Open}
 use Rattle.rule.specs.Formula.{Bound, origin, infinity, variable, Formula, flag, negate, then, beside, forall}
-use Rattle.rule.specs.Meaning.{verdict, up, opposite, both, after, finite, place, positions, Range, range, walk, seen, every, outcome}
+use Rattle.rule.specs.declared.Point.the-variants.{Whole}
+use Rattle.rule.specs.declared.Range.{Range}
+use Rattle.rule.specs.Meaning.{verdict, up, opposite, both, after, point, positions, range, walk, seen, every, outcome}
 use Rattle.rule.specs.Started.{raise}
 use Rattle.rule.specs.Naming.{bound-names, names}
 use Rattle.rule.proofs.Conjunction.{both-assoc, both-twice}
@@ -36,12 +38,12 @@ other-place (x ∷ before) behind p q zero h = refl
 other-place (x ∷ before) behind p q (suc v) h = other-place before behind p q v (λ e. h (ap suc e))
 
 other-bound : (before behind : List ℕ) (p q : ℕ) (B : Bound) → bound-names (length before) B ≡ false
-    → place B (before ++ (p ∷ behind)) ≡ place B (before ++ (q ∷ behind))
-unfolding place bound-names
+    → point B (before ++ (p ∷ behind)) ≡ point B (before ++ (q ∷ behind))
+unfolding point bound-names
 other-bound before behind p q (origin n) h = refl
 other-bound before behind p q infinity h = refl
 other-bound before behind p q (variable v n) h =
-    ap (λ (x : ℕ). finite (pos x +ℤ n)) (other-place before behind p q v (eqb-false v (length before) h))
+    ap (λ (x : ℕ). Whole (pos x +ℤ n)) (other-place before behind p q v (eqb-false v (length before) h))
 
 other-range : (before behind : List ℕ) (p q : ℕ) (B₁ B₂ : Bound) → bound-names (length before) B₁ ≡ false → bound-names (length before) B₂ ≡ false
     → range B₁ B₂ (before ++ (p ∷ behind)) ≡ range B₁ B₂ (before ++ (q ∷ behind))

@@ -9,7 +9,7 @@ use Rattle.words.specs.Words.{byte}
 use Rattle.refusal.specs.Answer.{refused, accepted}
 use Rattle.refusal.proofs.Answers.{not-accepted, same-refusal}
 use Rattle.rule.specs.Formula.{Formula, negate, then, beside, forall}
-use Rattle.rule.specs.Body.{Head, refuse, flag-head, negate-head, then-head, beside-head, forall-head, require-bound, contents, head, Read, stop, read, one, two, parts, formula, formula-at, whole, body, OfABody}
+use Rattle.rule.specs.Body.{Head, refuse, flag-head, negate-head, then-head, beside-head, forall-head, require-bound, after-code, head, Read, stop, read, one, two, parts, formula, formula-at, whole, body, OfABody}
 use Rattle.rule.proofs.Reading.{require-holds, cond-holds}
 
 -- ---- a formula's own bytes
@@ -33,7 +33,7 @@ bound-refusals s at m next h =
     P = OfAHead
 
 head-refusals : (s : List ℕ) (at m left : ℕ) → OfAHead (head s at m left)
-unfolding head contents
+unfolding head after-code
 head-refusals s at m left =
     require-holds P _ 4 _ refl (λ _. require-holds P _ 5 _ refl
     (λ _. require-holds P _ 9 _ refl (λ _. require-holds P _ 9 _ refl

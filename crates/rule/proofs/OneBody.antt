@@ -15,7 +15,7 @@ use Rattle.refusal.specs.Answer.{accepted}
 use Rattle.refusal.proofs.Answers.{not-accepted, same-value}
 use Rattle.refusal.proofs.Answers as answers
 use Rattle.rule.specs.Formula.{Formula, negate, then, beside, forall, formulas}
-use Rattle.rule.specs.Body.{Head, refuse, flag-head, negate-head, then-head, beside-head, forall-head, fixed, contents, head, bound, Read, stop, read, one, two, parts, formula, formula-at, whole, body}
+use Rattle.rule.specs.Body.{Head, refuse, flag-head, negate-head, then-head, beside-head, forall-head, fixed, after-code, head, bound, Read, stop, read, one, two, parts, formula, formula-at, whole, body}
 use Rattle.rule.proofs.Reading.{require-holds, cond-holds}
 use Rattle.rule.proofs.Heads.{Tested, Passed, head-passed, flag-room, forall-room}
 use Rattle.rule.proofs.Written.{bound-bytes, formula-bytes, LegalBound, Legal, one-byte, more-bytes, TestedBound, bound-tested, bound-legal, bound-written}
@@ -31,7 +31,7 @@ from-tested P s at m left then-head r k t = k t
 from-tested P s at m left beside-head r k t = k t
 from-tested P s at m left (forall-head A B) r k t = k t
 
-head-holds : (P : Head → Type 0) (s : List ℕ) (at m left : ℕ) → ((n : ℕ) → P (refuse n)) → (Tested s at m left → P (contents s at m)) → P (head s at m left)
+head-holds : (P : Head → Type 0) (s : List ℕ) (at m left : ℕ) → ((n : ℕ) → P (refuse n)) → (Tested s at m left → P (after-code s at m)) → P (head s at m left)
 unfolding head
 head-holds P s at m left r k =
     require-holds Q (ltb at (length s)) 4 _ (λ _. r 4)
@@ -39,7 +39,7 @@ head-holds P s at m left r k =
     (λ _. require-holds Q (leb 1 left) 9 _ (λ _. r 9)
     (λ _. require-holds Q (not (eqb c 5) || ltb m 4) 9 _ (λ _. r 9)
     (λ _. require-holds Q (leb (at + fixed c) (length s)) 4 _ (λ _. r 4)
-    (λ _. from-tested P s at m left (contents s at m) r k)))))
+    (λ _. from-tested P s at m left (after-code s at m) r k)))))
     (head-passed s at m left)
   where
     c : ℕ
@@ -79,8 +79,8 @@ module _ (s : List ℕ) (at m left : ℕ) (t : Tested s at m left) where
       let second = subst (λ n. drop (at + 5) s ≡ bound-bytes (bound s (at + 5)) ++ drop n s) y (bound-written s (at + 5) m bs b (omega arith)) in
       rw (code-shown 5 e, first, second)
 
-  contents-shown : Shown s at m left (contents s at m)
-  unfolding contents
+  contents-shown : Shown s at m left (after-code s at m)
+  unfolding after-code
   contents-shown =
       cond-holds P (eqb c 1) _ _
       (λ e. require-holds P (leb (byte s (at + 1)) m) 6 _ tt

@@ -10,7 +10,9 @@ use Rattle.rule.specs.declared.Verdict.the-variants.{True, False}
 use Rattle.rule.specs.declared.Outcome.{Outcome}
 use Rattle.rule.specs.declared.Outcome.the-variants.{Decided, Open}
 use Rattle.rule.specs.Formula.{Formula, flag, negate, then, beside, forall}
-use Rattle.rule.specs.Meaning.{verdict, up, opposite, both, after, Range, none, span, onward, range, walk, seen, every, outcome}
+use Rattle.rule.specs.declared.Range.{Range}
+use Rattle.rule.specs.declared.Range.the-variants.{Empty, Through, Onward}
+use Rattle.rule.specs.Meaning.{verdict, up, opposite, both, after, range, walk, seen, every, outcome}
 use Rattle.rule.specs.Started.{raise}
 
 -- ---- `raise` goes through the operations
@@ -74,10 +76,10 @@ raise-walk s f g h (suc n) q d e k = ap₂ both (h q) (raise-walk s f g h n (suc
 raise-every : (r s : ℕ) → r ≤ s → (x : Range) (f g : ℕ → Outcome) (t : ℕ) → ((q : ℕ) → g q ≡ raise s (f q))
     → every x g t s ≡ raise s (every x f t r)
 unfolding every raise
-raise-every r s i none f g t h = ap (Decided True) (max-start r s i)
-raise-every r s i (span first last) f g t h =
+raise-every r s i Empty f g t h = ap (Decided True) (max-start r s i)
+raise-every r s i (Through first last) f g t h =
     raise-walk s f g h (suc last - first) first (Decided True r) (Decided True s) (ap (Decided True) (max-start r s i))
-raise-every r s i (onward first) f g t h = raise-walk s f g h (suc t - first) first Open Open refl
+raise-every r s i (Onward first) f g t h = raise-walk s f g h (suc t - first) first Open Open refl
 
 -- ---- the law
 

@@ -4,7 +4,8 @@ use mathlib.Core.Path.{_≡_}
 use Rattle.rule.specs.declared.Verdict.the-variants.{True, False}
 use Rattle.rule.specs.declared.Outcome.{Outcome}
 use Rattle.rule.specs.declared.Outcome.the-variants.{Decided, Open}
-use Rattle.rule.specs.Meaning.{Range, none, span, onward}
+use Rattle.rule.specs.declared.Range.{Range}
+use Rattle.rule.specs.declared.Range.the-variants.{Empty, Through, Onward}
 use Rattle.rule.specs.Positions.{In}
 
 -- d is "the smallest step at which a body is false", of the positions I.
@@ -24,6 +25,6 @@ Sentence I ended f Open = ((d : ℕ) → Smallest I f d → ⊥) × ((d : ℕ) �
 
 -- The whole of 01's "For all", by the range's positions.
 abbrev pub Said : Range → (ℕ → Outcome) → ℕ → ℕ → Outcome → Type 0
-Said none f t s o = o ≡ Decided True s
-Said (span first last) f t s o = Sentence (In (span first last)) (last ≤ t) f o
-Said (onward first) f t s o = Sentence (In (onward first)) ⊥ f o
+Said Empty f t s o = o ≡ Decided True s
+Said (Through first last) f t s o = Sentence (In (Through first last)) (last ≤ t) f o
+Said (Onward first) f t s o = Sentence (In (Onward first)) ⊥ f o

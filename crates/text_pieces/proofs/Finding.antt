@@ -6,7 +6,7 @@ use mathlib.Core.List.{List}
 use native.Mathlib.Omega.{arith}
 use lib.ListN.{length, drop, length-drop, length-append}
 use lib.Seq.{drop-drop}
-use Rattle.notation.specs.Reading.{Got, none, got, bind, starts, expect}
+use Rattle.notation.specs.Reading.{Got, none, got, and-read, starts, expect}
 use Rattle.text_pieces.specs.Spots.{Found}
 use Rattle.notation.proofs.Spelling.{starts-word}
 
@@ -26,20 +26,20 @@ module _ {A : Type 0} (s : List ℕ) (q : ℕ) (x : Got A) where
       go (got a t) h = absurd (omega arith)
 
   module _ {B : Type 0} (next : A → List ℕ → Got B) where
-    pub found-stop : q ≡ 0 → Found s q x → Found s 0 (bind x next)
-    unfolding bind
+    pub found-stop : q ≡ 0 → Found s q x → Found s 0 (and-read x next)
+    unfolding and-read
     found-stop e h = rw (found-none e h) refl
 
-    pub found-through : (r : ℕ) → (q ≡ 0 → ⊥) → Found s q x → ((a : A) → Found s r (next a (drop q s))) → Found s r (bind x next)
-    unfolding bind
+    pub found-through : (r : ℕ) → (q ≡ 0 → ⊥) → Found s q x → ((a : A) → Found s r (next a (drop q s))) → Found s r (and-read x next)
+    unfolding and-read
     found-through r n h k = let f = found-some n h in rw (f .1) (k (f .0))
 
   -- The same place, another value.
-  pub found-as : {B : Type 0} (make : A → B) → Found s q x → Found s q (bind x (λ a t. got (make a) t))
-  unfolding bind
+  pub found-as : {B : Type 0} (make : A → B) → Found s q x → Found s q (and-read x (λ a t. got (make a) t))
+  unfolding and-read
   found-as {B} make h = go x h
     where
-      go : (x : Got A) → Found s q x → Found s q (bind x (λ a t. got (make a) t))
+      go : (x : Got A) → Found s q x → Found s q (and-read x (λ a t. got (make a) t))
       go none h = h
       go (got a t) h = h
 

@@ -4,7 +4,7 @@ use mathlib.Core.Path.{_≡_}
 use mathlib.Core.List.{List}
 use lib.ListN.{length, drop}
 use Rattle.notation.specs.Notation.{End}
-use Rattle.notation.specs.Reading.{Got, none, got, Token, flag-token, negate-token, open-token, forall-token, flag-head, forall-head}
+use Rattle.notation.specs.Reading.{Got, none, got, Token, flag-token, negate-token, open-token, forall-token, read-flag, read-forall}
 use Rattle.text_pieces.specs.declared.pieces.Piece.{Piece}
 use Rattle.text_pieces.specs.declared.pieces.Piece.the-variants.{Wrong, Flag, Negate, Open, Forall}
 
@@ -19,7 +19,7 @@ pub record FlagAt (s : List ℕ) (at q : ℕ) (x : Got Token) : Type 0 where
   pub name : List ℕ
   pub digit : ℕ
   pub is : x ≡ got (flag-token name digit) (drop q s)
-  pub named : flag-head (drop at s) ≡ got (flag-token name digit) (drop q s)
+  pub named : read-flag (drop at s) ≡ got (flag-token name digit) (drop q s)
 
 pub record ForallAt (s : List ℕ) (at q : ℕ) (x : Got Token) : Type 0 where
   pub inside : q ≤ length s
@@ -27,7 +27,7 @@ pub record ForallAt (s : List ℕ) (at q : ℕ) (x : Got Token) : Type 0 where
   pub first : End
   pub second : End
   pub is : x ≡ got (forall-token name first second) (drop q s)
-  pub named : forall-head (drop at s) ≡ got (forall-token name first second) (drop q s)
+  pub named : read-forall (drop at s) ≡ got (forall-token name first second) (drop q s)
 
 -- The start of the formula at a position, and the position after it.
 abbrev pub Pieced : List ℕ → ℕ → Piece → Got Token → Type 0

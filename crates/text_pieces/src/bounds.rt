@@ -1,7 +1,7 @@
 // Bounds in a text.
 ghost use Prim.Native.Nat.{_≤_};
 ghost use lib.ListN.{length, drop};
-ghost use Rattle.notation.specs.Reading.{base, offset, end-of};
+ghost use Rattle.notation.specs.Reading.{read-base, read-offset, read-end};
 ghost use Rattle.text_pieces.specs.Spots.{Found};
 use crate::names::is_word;
 use crate::names::name_end;
@@ -11,7 +11,7 @@ use crate::scan::starts_at;
 
 // The position after 0, infinity or a name; 0 where there is none.
 pub fn base_end(s: &[u8], at: usize) -> usize
-    ensures { λ r. ⌜ Found (now (s .entry)) r (base (drop at (now (s .entry)))) ⌝ }
+    ensures { λ r. ⌜ Found (now (s .entry)) r (read-base (drop at (now (s .entry)))) ⌝ }
 {
     if starts_at(s, at, b"0") {
         return at + 1;
@@ -25,7 +25,7 @@ pub fn base_end(s: &[u8], at: usize) -> usize
 // The position after an offset or none; 0 where its digits are missing.
 fn offset_end(s: &[u8], at: usize) -> usize
     requires { ⌜ (1 ≤ at) × (at ≤ length (now s)) ⌝ }
-    ensures { λ r. ⌜ Found (now (s .entry)) r (offset (drop at (now (s .entry)))) ⌝ }
+    ensures { λ r. ⌜ Found (now (s .entry)) r (read-offset (drop at (now (s .entry)))) ⌝ }
 {
     if starts_at(s, at, b"+") {
         return numeral_end(s, at + 1);
@@ -38,7 +38,7 @@ fn offset_end(s: &[u8], at: usize) -> usize
 
 // The position after a bound; 0 where there is none.
 pub fn bound_end(s: &[u8], at: usize) -> usize
-    ensures { λ r. ⌜ Found (now (s .entry)) r (end-of (drop at (now (s .entry)))) ⌝ }
+    ensures { λ r. ⌜ Found (now (s .entry)) r (read-end (drop at (now (s .entry)))) ⌝ }
 {
     let b = base_end(s, at);
     if b == 0 {

@@ -2,7 +2,7 @@
 ghost use mathlib.Core.Path.{_≡_};
 ghost use lib.ListN.{length, drop};
 ghost use Rattle.notation.specs.Notation.{letter, same, reserved, is-name};
-ghost use Rattle.notation.specs.Reading.{run, name, numeral};
+ghost use Rattle.notation.specs.Reading.{run, read-name, read-numeral};
 ghost use Rattle.text_pieces.specs.Spots.{Found};
 use crate::scan::run_end;
 use crate::scan::starts_at;
@@ -50,7 +50,7 @@ fn is_name(s: &[u8], at: usize, n: usize) -> bool
 
 // The position after the name at a position; 0 where there is none.
 pub(crate) fn name_end(s: &[u8], at: usize) -> usize
-    ensures { λ r. ⌜ Found (now (s .entry)) r (name (drop at (now (s .entry)))) ⌝ }
+    ensures { λ r. ⌜ Found (now (s .entry)) r (read-name (drop at (now (s .entry)))) ⌝ }
 {
     let e = run_end(s, at, 97, 122);
     if !is_name(s, at, e - at) {
@@ -61,7 +61,7 @@ pub(crate) fn name_end(s: &[u8], at: usize) -> usize
 
 // The position after the numeral at a position; 0 where there is none.
 pub(crate) fn numeral_end(s: &[u8], at: usize) -> usize
-    ensures { λ r. ⌜ Found (now (s .entry)) r (numeral (drop at (now (s .entry)))) ⌝ }
+    ensures { λ r. ⌜ Found (now (s .entry)) r (read-numeral (drop at (now (s .entry)))) ⌝ }
 {
     let e = run_end(s, at, 48, 57);
     if e - at < 1 {

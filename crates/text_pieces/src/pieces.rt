@@ -1,6 +1,6 @@
 // A formula's text before its first part, and the text between two parts.
 ghost use lib.ListN.{drop};
-ghost use Rattle.notation.specs.Reading.{flag-head, forall-head, head, joint};
+ghost use Rattle.notation.specs.Reading.{read-flag, read-forall, read-token, joint};
 ghost use Rattle.text_pieces.specs.Spots.{Found, Pieced};
 use crate::bounds::bound_end;
 use crate::names::name_end;
@@ -18,7 +18,7 @@ pub enum Piece {
 
 // The position after a name, a point and a digit; 0 where they are not there.
 fn flag_end(s: &[u8], at: usize) -> usize
-    ensures { λ r. ⌜ Found (now (s .entry)) r (flag-head (drop at (now (s .entry)))) ⌝ }
+    ensures { λ r. ⌜ Found (now (s .entry)) r (read-flag (drop at (now (s .entry)))) ⌝ }
 {
     let n = name_end(s, at);
     if n == 0 {
@@ -32,7 +32,7 @@ fn flag_end(s: &[u8], at: usize) -> usize
 
 // The position after what stands between "forall " and its formula; 0 where it is not there.
 fn forall_end(s: &[u8], at: usize) -> usize
-    ensures { λ r. ⌜ Found (now (s .entry)) r (forall-head (drop at (now (s .entry)))) ⌝ }
+    ensures { λ r. ⌜ Found (now (s .entry)) r (read-forall (drop at (now (s .entry)))) ⌝ }
 {
     let n = name_end(s, at);
     if n == 0 {
@@ -60,7 +60,7 @@ fn forall_end(s: &[u8], at: usize) -> usize
 
 // The start of a formula at a position.
 pub fn piece_at(s: &[u8], at: usize) -> Piece
-    ensures { λ r. ⌜ Pieced (now (s .entry)) at r (head (drop at (now (s .entry)))) ⌝ }
+    ensures { λ r. ⌜ Pieced (now (s .entry)) at r (read-token (drop at (now (s .entry)))) ⌝ }
 {
     if starts_at(s, at, b"@") {
         let q = flag_end(s, at + 1);

@@ -15,7 +15,7 @@ use Rattle.reader.proofs.Told.{refused-body, read-formula}
 use Rattle.reader.specs.declared.Reading.{Reading}
 use Rattle.reader.specs.declared.Reading.the-variants as readings
 use Rattle.notation.specs.Bodies.{translated, checked, fitted, body-of-text, length-of}
-use Rattle.text_to_body.specs.Points.{Translated}
+use Rattle.text_to_body.specs.Cursors.{Translated}
 
 -- ---- a body's bytes
 

@@ -5,7 +5,7 @@ use mathlib.Core.List.{List, _∷_, _++_}
 use native.Mathlib.Omega.{arith}
 use lib.ListN.{length, drop, length-drop, length-append}
 use Rattle.notation.specs.Notation.{Base, origin, infinity, position, End, end, base-text, offset-text, end-text, in-sign, to-sign, colon-sign, SpeltBase, SpeltEnd}
-use Rattle.notation.specs.Reading.{got, Token, flag-token, negate-token, open-token, forall-token, head, Joint, then-joint, beside-joint, joint}
+use Rattle.notation.specs.Reading.{got, Token, flag-token, negate-token, open-token, forall-token, read-token, Joint, then-joint, beside-joint, joint}
 use Rattle.notation.proofs.Spelling.{Gets, name-least}
 use Rattle.notation.proofs.Printed.{offset-long}
 use Rattle.notation.proofs.Sound.{Heads, gets-head, joint-sign, gets-joint}
@@ -48,7 +48,7 @@ head-cost s (forall-token n A B) t h =
 
 module _ (s : List ℕ) (at q : ℕ) (h : q ≤ length s) (k : at ≤ length s) where
   -- A formula's start ends so much further on.
-  pub head-end : (T : Token) → head (drop at s) ≡ got T (drop q s) → at + cost T ≤ q
+  pub head-end : (T : Token) → read-token (drop at s) ≡ got T (drop q s) → at + cost T ≤ q
   head-end T e =
       let g = subst (Gets (Heads (drop at s))) e (gets-head (drop at s)) in
       omega (arith, head-cost (drop at s) T (drop q s) g, length-drop at s, length-drop q s)

@@ -10,9 +10,9 @@ use Rattle.notation.specs.Notation.{then-sign, beside-sign}
 use Rattle.notation.specs.Reading.{got, none, starts, expect, Joint, then-joint, beside-joint, joint}
 use Rattle.notation.specs.Bodies.{joint-code}
 use Rattle.text_pieces.specs.Spots.{Found}
-use Rattle.text_to_body.specs.Work.{finish, before, after, scope-of}
-use Rattle.text_to_body.specs.Points.{to-come, Within, Moved, Nowhere}
-use Rattle.text_to_body.specs.declared.point.Point.{Point}
+use Rattle.text_to_body.specs.Work.{finish, before-formula, after-formula, scope-of}
+use Rattle.text_to_body.specs.Cursors.{to-come, CursorFits, Moved, Nowhere}
+use Rattle.text_to_body.specs.declared.cursor.Cursor.{Cursor}
 use Rattle.text_pieces.proofs.Finding.{found-some, found-none, word-fits}
 use Rattle.text_to_body.proofs.Costs.{joint-ends}
 use Rattle.text_to_body.proofs.Works.{after-joint, after-unjoined, after-binding, after-close, after-unclosed}
@@ -50,19 +50,19 @@ scope-pop s names (suc m) = ap (scope-of s names) (sym (natural m))
     natural : (m : ℕ) → suc m - 1 ≡ m
     natural m = omega arith
 
-module _ (s frames names out : List ℕ) (p : Point) (w : Within s p) (z : p .mode ≡ 1) where
+module _ (s frames names out : List ℕ) (p : Cursor) (w : CursorFits s p) (z : p .mode ≡ 1) where
   -- ---- with nothing open
 
   module _ (d : p .depth ≡ 0) where
-    pub early-arm : (r : Point) → Nowhere r → (p .at ≡ length s → ⊥) → Moved s frames names out p frames names out r
-    unfolding to-come after finish
+    pub early-arm : (r : Cursor) → Nowhere r → (p .at ≡ length s → ⊥) → Moved s frames names out p frames names out r
+    unfolding to-come after-formula finish
     early-arm r e n =
         let l : p .at < length s = omega (arith, w .place, n) in
         wrong s frames names out p w r e (omega (arith, z)) (rw (z, d, drop-cons s (p .at) 0 l))
 
     pub whole-arm : p .at ≡ length s
         → Moved s frames names out p frames names out (record { mode = 2; at = p .at; depth = 0; scope = p .scope; written = p .written; resolved = p .resolved })
-    unfolding to-come after finish
+    unfolding to-come after-formula finish
     whole-arm e =
         stops s frames names out p w (record { mode = 2; at = p .at; depth = 0; scope = p .scope; written = p .written; resolved = p .resolved })
         (omega (arith, z)) (omega arith) (rw (z, d, drop-of-length-le s {i = p .at} (omega (arith, e))))
@@ -72,7 +72,7 @@ module _ (s frames names out : List ℕ) (p : Point) (w : Within s p) (z : p .mo
 
   module _ (d : ℕ) (one-less : p .depth ≡ suc d) where
     module _ (f : getD frames d 0 ≡ 0) where
-      pub unclosed-arm : (r : Point) → Nowhere r → starts (41 ∷ []) (drop (p .at) s) ≡ false → Moved s frames names out p frames names out r
+      pub unclosed-arm : (r : Cursor) → Nowhere r → starts (41 ∷ []) (drop (p .at) s) ≡ false → Moved s frames names out p frames names out r
       unfolding to-come
       unclosed-arm r e t =
           wrong s frames names out p w r e (omega (arith, z))
@@ -112,7 +112,7 @@ module _ (s frames names out : List ℕ) (p : Point) (w : Within s p) (z : p .mo
       above : getD frames d 0 ≡ suc (suc (top - 2))
       above = omega (arith, f, two)
 
-      pub unjoined-arm : (r : Point) → Nowhere r → q ≡ 0 → Moved s frames names out p frames names out r
+      pub unjoined-arm : (r : Cursor) → Nowhere r → q ≡ 0 → Moved s frames names out p frames names out r
       unfolding to-come
       unjoined-arm r e n =
           wrong s frames names out p w r e (omega (arith, z))
@@ -136,9 +136,9 @@ module _ (s frames names out : List ℕ) (p : Point) (w : Within s p) (z : p .mo
           (length-set frames d 0) refl (ap length same ∙ length-set out (top - 2) code)
         where
           joined : (j : Joint) → joint (drop (p .at) s) ≡ got j (drop q s)
-              → after (p .depth) frames (scope-of s names (p .scope)) (take (p .written) out) (p .resolved) (drop (p .at) s)
-              ≡ before (p .depth) (set frames d 0) (scope-of s names (p .scope)) (set (take (p .written) out) (top - 2) (joint-code j)) (p .resolved) (drop q s)
+              → after-formula (p .depth) frames (scope-of s names (p .scope)) (take (p .written) out) (p .resolved) (drop (p .at) s)
+              ≡ before-formula (p .depth) (set frames d 0) (scope-of s names (p .scope)) (set (take (p .written) out) (top - 2) (joint-code j)) (p .resolved) (drop q s)
           joined j e =
-              ap (λ (n : ℕ). after n frames (scope-of s names (p .scope)) (take (p .written) out) (p .resolved) (drop (p .at) s)) one-less
+              ap (λ (n : ℕ). after-formula n frames (scope-of s names (p .scope)) (take (p .written) out) (p .resolved) (drop (p .at) s)) one-less
               ∙ after-joint d frames (scope-of s names (p .scope)) (take (p .written) out) (p .resolved) (drop (p .at) s) (drop q s) (top - 2) j (omega (arith, one-less, l)) above e
-              ∙ ap (λ (n : ℕ). before n (set frames d 0) (scope-of s names (p .scope)) (set (take (p .written) out) (top - 2) (joint-code j)) (p .resolved) (drop q s)) (sym one-less)
+              ∙ ap (λ (n : ℕ). before-formula n (set frames d 0) (scope-of s names (p .scope)) (set (take (p .written) out) (top - 2) (joint-code j)) (p .resolved) (drop q s)) (sym one-less)

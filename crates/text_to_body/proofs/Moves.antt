@@ -10,12 +10,12 @@ use lib.Seq.{getD-set-same, getD-set-other, take-suc-set, length-take-le}
 use borrow.Author.Tests.{lt-ltb, le-ltb}
 use Rattle.refusal.specs.Answer.{refused}
 use Rattle.notation.specs.Notation.{letter}
-use Rattle.notation.specs.Reading.{got, none, run, Token, flag-token, negate-token, open-token, forall-token, head}
+use Rattle.notation.specs.Reading.{got, none, run, Token, flag-token, negate-token, open-token, forall-token, read-token}
 use Rattle.notation.specs.Bodies.{is-bound, flag-bytes, end-bound, forall-bytes}
 use Rattle.text_pieces.specs.Spots.{FlagAt, ForallAt}
 use Rattle.text_to_body.specs.Work.{scope-of}
-use Rattle.text_to_body.specs.Points.{to-come, answer-at, left, Within, Rooms, Moved, Nowhere}
-use Rattle.text_to_body.specs.declared.point.Point.{Point}
+use Rattle.text_to_body.specs.Cursors.{to-come, answer-at, left, CursorFits, Rooms, Moved, Nowhere}
+use Rattle.text_to_body.specs.declared.cursor.Cursor.{Cursor}
 use Rattle.text_to_body.proofs.Costs.{cost-least, head-end}
 use Rattle.text_to_body.proofs.Scopes.{forall-named}
 use Rattle.text_to_body.proofs.Works.{before-wrong, before-flag, before-negate, before-forall, before-open}
@@ -33,10 +33,10 @@ unfolding scope-of
 scope-push s names m a h =
     ap (scope-of s (set names m a)) (add-one m) ∙ rw (getD-set-same names m a 0 h, scope-below s names m m a (omega arith))
 
-module _ (s frames names out : List ℕ) (p : Point) (w : Within s p) where
-  pub goes : (frames′ names′ out′ : List ℕ) (r : Point) → p .mode < 2 → r .mode < 2
+module _ (s frames names out : List ℕ) (p : Cursor) (w : CursorFits s p) where
+  pub goes : (frames′ names′ out′ : List ℕ) (r : Cursor) → p .mode < 2 → r .mode < 2
       → answer-at s frames names out p ≡ answer-at s frames′ names′ out′ r
-      → r .depth + 2 * p .at < p .depth + 2 * r .at → Within s r
+      → r .depth + 2 * p .at < p .depth + 2 * r .at → CursorFits s r
       → length frames′ ≡ length frames → length names′ ≡ length names → length out′ ≡ length out
       → Moved s frames names out p frames′ names′ out′ r
   unfolding left
@@ -50,7 +50,7 @@ module _ (s frames names out : List ℕ) (p : Point) (w : Within s p) where
         bytes-kept = h;
       }
 
-  pub stops : (r : Point) → p .mode < 2 → 2 ≤ r .mode → answer-at s frames names out p ≡ answer-at s frames names out r → Within s r
+  pub stops : (r : Cursor) → p .mode < 2 → 2 ≤ r .mode → answer-at s frames names out p ≡ answer-at s frames names out r → CursorFits s r
       → Moved s frames names out p frames names out r
   unfolding left
   stops r m n v x =
@@ -63,7 +63,7 @@ module _ (s frames names out : List ℕ) (p : Point) (w : Within s p) where
         bytes-kept = refl;
       }
 
-  pub wrong : (r : Point) → Nowhere r → p .mode < 2 → answer-at s frames names out p ≡ refused 25 → Moved s frames names out p frames names out r
+  pub wrong : (r : Cursor) → Nowhere r → p .mode < 2 → answer-at s frames names out p ≡ refused 25 → Moved s frames names out p frames names out r
   unfolding to-come
   wrong r e m v =
       stops r m (omega (arith, e .0)) (v ∙ sym three)
@@ -73,7 +73,7 @@ module _ (s frames names out : List ℕ) (p : Point) (w : Within s p) where
       three = rw (e .0)
 
   -- Where a formula starts there is room for a byte and for a frame.
-  pub rooms : (q : ℕ) (T : Token) → q ≤ length s → head (drop (p .at) s) ≡ got T (drop q s) → Rooms s frames names out → (p .written < length out) × (p .depth < length frames)
+  pub rooms : (q : ℕ) (T : Token) → q ≤ length s → read-token (drop (p .at) s) ≡ got T (drop q s) → Rooms s frames names out → (p .written < length out) × (p .depth < length frames)
   rooms q T i h r =
       let c = head-end s (p .at) q i (w .place) T h in
       let l = cost-least T in (
@@ -88,16 +88,16 @@ module _ (s frames names out : List ℕ) (p : Point) (w : Within s p) where
   -- ---- before a formula
 
   module _ (z : p .mode ≡ 0) where
-    pub wrong-arm : (r : Point) → Nowhere r → head (drop (p .at) s) ≡ none → Moved s frames names out p frames names out r
+    pub wrong-arm : (r : Cursor) → Nowhere r → read-token (drop (p .at) s) ≡ none → Moved s frames names out p frames names out r
     unfolding to-come
     wrong-arm r e h =
         wrong r e (omega (arith, z))
         (rw z (before-wrong (p .depth) frames (scope-of s names (p .scope)) (take (p .written) out) (p .resolved) (drop (p .at) s) h))
 
-    pub flag-end : (q : ℕ) → FlagAt s (p .at + 1) q (head (drop (p .at) s)) → p .at + 4 ≤ q
+    pub flag-end : (q : ℕ) → FlagAt s (p .at + 1) q (read-token (drop (p .at) s)) → p .at + 4 ≤ q
     flag-end q x = head-end s (p .at) q (x .inside) (w .place) (flag-token (x .name) (x .digit)) (x .is)
 
-    pub flag-arm : (q : ℕ) (x : FlagAt s (p .at + 1) q (head (drop (p .at) s))) (out′ : List ℕ) (ok u : Bool)
+    pub flag-arm : (q : ℕ) (x : FlagAt s (p .at + 1) q (read-token (drop (p .at) s))) (out′ : List ℕ) (ok u : Bool)
         → length out′ ≡ length out → ok ≡ is-bound (scope-of s names (p .scope)) (x .name)
         → take (p .written + 3) out′ ≡ take (p .written) out ++ flag-bytes (scope-of s names (p .scope)) (x .name) (x .digit)
         → u ≡ (p .resolved && ok)
@@ -111,7 +111,7 @@ module _ (s frames names out : List ℕ) (p : Point) (w : Within s p) where
         (record { place = x .inside; frames-fit = omega (arith, c, w .frames-fit); bytes-fit = omega (arith, c, w .bytes-fit); names-fit = omega (arith, c, w .names-fit) })
         refl refl k
 
-    pub negate-arm : (q : ℕ) → q ≤ length s → head (drop (p .at) s) ≡ got negate-token (drop q s) → p .written < length out
+    pub negate-arm : (q : ℕ) → q ≤ length s → read-token (drop (p .at) s) ≡ got negate-token (drop q s) → p .written < length out
         → Moved s frames names out p frames names (set out (p .written) 2)
         (record { mode = 0; at = q; depth = p .depth; scope = p .scope; written = p .written + 1; resolved = p .resolved })
     unfolding to-come
@@ -124,7 +124,7 @@ module _ (s frames names out : List ℕ) (p : Point) (w : Within s p) where
         (record { place = i; frames-fit = omega (arith, c, w .frames-fit); bytes-fit = omega (arith, c, w .bytes-fit); names-fit = omega (arith, c, w .names-fit) })
         refl refl (length-set out (p .written) 2)
 
-    pub open-arm : (q : ℕ) → q ≤ length s → head (drop (p .at) s) ≡ got open-token (drop q s) → p .written < length out → p .depth < length frames
+    pub open-arm : (q : ℕ) → q ≤ length s → read-token (drop (p .at) s) ≡ got open-token (drop q s) → p .written < length out → p .depth < length frames
         → (f : ℕ) → f ≡ suc (suc (p .written))
         → Moved s frames names out p (set frames (p .depth) f) names (set out (p .written) 0)
         (record { mode = 0; at = q; depth = p .depth + 1; scope = p .scope; written = p .written + 1; resolved = p .resolved })
@@ -140,7 +140,7 @@ module _ (s frames names out : List ℕ) (p : Point) (w : Within s p) where
         (record { place = i; frames-fit = omega (arith, c, w .frames-fit); bytes-fit = omega (arith, c, w .bytes-fit); names-fit = omega (arith, c, w .names-fit) })
         (length-set frames (p .depth) f) refl (length-set out (p .written) 0)
 
-    module _ (q : ℕ) (x : ForallAt s (p .at + 7) q (head (drop (p .at) s))) where
+    module _ (q : ℕ) (x : ForallAt s (p .at + 7) q (read-token (drop (p .at) s))) where
       pub range-end : p .at + 19 ≤ q
       range-end = head-end s (p .at) q (x .inside) (w .place) (forall-token (x .name) (x .first) (x .second)) (x .is)
 

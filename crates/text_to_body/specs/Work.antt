@@ -6,12 +6,12 @@ use mathlib.Core.List.{List, [], _∷_, _++_}
 use lib.ListN.{drop, getD, set}
 use Rattle.refusal.specs.Answer.{Answer, refused}
 use Rattle.notation.specs.Notation.{letter}
-use Rattle.notation.specs.Reading.{Got, none, got, starts, run, joint, formula-at}
+use Rattle.notation.specs.Reading.{Got, none, got, starts, run, joint, formula-read}
 use Rattle.notation.specs.Bodies.{if-bound, joint-code, formula-bytes, all-bound}
 
-unfoldable pub answer : {A : Type 0} → Got A → (A → List ℕ → Answer (List ℕ)) → Answer (List ℕ)
-answer none next = refused 25
-answer (got a s) next = next a s
+unfoldable pub read-on : {A : Type 0} → Got A → (A → List ℕ → Answer (List ℕ)) → Answer (List ℕ)
+read-on none next = refused 25
+read-on (got a s) next = next a s
 
 unfoldable pub close-with : (List ℕ → Answer (List ℕ)) → List ℕ → Answer (List ℕ)
 close-with next s = cond (starts (41 ∷ []) s) (next (drop 1 s)) (refused 25)
@@ -28,16 +28,16 @@ unfoldable pub resume-frame : Next → ℕ → Next
 resume-frame next zero scope l u s = close-with (next scope l u) s
 resume-frame next (suc zero) scope l u s = next (drop 1 scope) l u s
 resume-frame next (suc (suc p)) scope l u s =
-    answer (joint s) (λ j t. answer (formula-at t) (λ G v. close-with (next scope (set l p (joint-code j) ++ formula-bytes scope G) (u && all-bound scope G)) v))
+    read-on (joint s) (λ j t. read-on (formula-read t) (λ G v. close-with (next scope (set l p (joint-code j) ++ formula-bytes scope G) (u && all-bound scope G)) v))
 
 -- After a formula.
-unfoldable pub after : ℕ → List ℕ → Next
-after zero frames scope l u s = finish l u s
-after (suc d) frames scope l u s = resume-frame (after d frames) (getD frames d 0) scope l u s
+unfoldable pub after-formula : ℕ → List ℕ → Next
+after-formula zero frames scope l u s = finish l u s
+after-formula (suc d) frames scope l u s = resume-frame (after-formula d frames) (getD frames d 0) scope l u s
 
 -- Before a formula.
-unfoldable pub before : ℕ → List ℕ → Next
-before d frames scope l u s = answer (formula-at s) (λ F t. after d frames scope (l ++ formula-bytes scope F) (u && all-bound scope F) t)
+unfoldable pub before-formula : ℕ → List ℕ → Next
+before-formula d frames scope l u s = read-on (formula-read s) (λ F t. after-formula d frames scope (l ++ formula-bytes scope F) (u && all-bound scope F) t)
 
 -- The names in scope, from the positions where they stand in the text.
 unfoldable pub scope-of : List ℕ → List ℕ → ℕ → List (List ℕ)

@@ -3,12 +3,12 @@ ghost use mathlib.Core.Path.{_≡_};
 ghost use mathlib.Core.List.{List};
 ghost use Prim.Native.Nat.{ℕ, _+_, _≤_};
 ghost use lib.ListN.{length, drop};
-ghost use Rattle.notation.specs.Reading.{head};
+ghost use Rattle.notation.specs.Reading.{read-token};
 ghost use Rattle.text_pieces.specs.Spots.{FlagAt, ForallAt};
-ghost use Rattle.text_to_body.specs.Points.{Within, Rooms, Moved};
-use crate::point::Point;
-use crate::point::bracket_frame;
-use crate::point::misspelt;
+ghost use Rattle.text_to_body.specs.Cursors.{CursorFits, Rooms, Moved};
+use crate::cursor::Cursor;
+use crate::cursor::bracket_frame;
+use crate::cursor::misspelt;
 use crate::stores::both;
 use crate::stores::write_flag;
 use crate::stores::write_forall;
@@ -16,12 +16,12 @@ use text_pieces::Piece;
 use text_pieces::piece_at;
 
 // A flag that ends at q.
-fn begin_flag(s: &[u8], names: &[usize], out: &mut [u8], p: Point, q: usize) -> Point
-    requires { ⌜ (p .mode ≡ 0) × Within (now s) p × (length (now s) ≤ 4096) × (256 ≤ length (now names)) × (4096 ≤ length (now out)) × FlagAt (now s) (p .at + 1) q (head (drop (p .at) (now s))) ⌝ }
+fn begin_flag(s: &[u8], names: &[usize], out: &mut [u8], p: Cursor, q: usize) -> Cursor
+    requires { ⌜ (p .mode ≡ 0) × CursorFits (now s) p × (length (now s) ≤ 4096) × (256 ≤ length (now names)) × (4096 ≤ length (now out)) × FlagAt (now s) (p .at + 1) q (read-token (drop (p .at) (now s))) ⌝ }
     ensures { λ r. ⌜ ((frames : List ℕ) → Moved (now (s .entry)) frames (now (names .entry)) (now (out .entry)) p frames (now (names .entry)) (now (out .exit)) r) ⌝ }
 {
     let ok = write_flag(s, p.at + 1, names, p.scope, out, p.written);
-    Point {
+    Cursor {
         mode: 1,
         at: q,
         depth: p.depth,
@@ -37,10 +37,10 @@ fn begin_range(
     frames: &mut [u16],
     names: &mut [usize],
     out: &mut [u8],
-    p: Point,
+    p: Cursor,
     q: usize,
-) -> Point
-    requires { ⌜ (p .mode ≡ 0) × Within (now s) p × Rooms (now s) (now frames) (now names) (now out) × ForallAt (now s) (p .at + 7) q (head (drop (p .at) (now s))) ⌝ }
+) -> Cursor
+    requires { ⌜ (p .mode ≡ 0) × CursorFits (now s) p × Rooms (now s) (now frames) (now names) (now out) × ForallAt (now s) (p .at + 7) q (read-token (drop (p .at) (now s))) ⌝ }
     ensures { λ r. ⌜ Moved (now (s .entry)) (now (frames .entry)) (now (names .entry)) (now (out .entry)) p (now (frames .exit)) (now (names .exit)) (now (out .exit)) r ⌝ }
 {
     let name = p.at + 7;
@@ -49,7 +49,7 @@ fn begin_range(
     let ok = write_forall(s, name, names, scope, out, p.written);
     names[scope] = name;
     frames[depth] = 1;
-    Point {
+    Cursor {
         mode: 0,
         at: q,
         depth: depth + 1,
@@ -65,9 +65,9 @@ pub(crate) fn begin_formula(
     frames: &mut [u16],
     names: &mut [usize],
     out: &mut [u8],
-    p: Point,
-) -> Point
-    requires { ⌜ (p .mode ≡ 0) × Within (now s) p × Rooms (now s) (now frames) (now names) (now out) ⌝ }
+    p: Cursor,
+) -> Cursor
+    requires { ⌜ (p .mode ≡ 0) × CursorFits (now s) p × Rooms (now s) (now frames) (now names) (now out) ⌝ }
     ensures { λ r. ⌜ Moved (now (s .entry)) (now (frames .entry)) (now (names .entry)) (now (out .entry)) p (now (frames .exit)) (now (names .exit)) (now (out .exit)) r ⌝ }
 {
     let depth = p.depth;
@@ -79,7 +79,7 @@ pub(crate) fn begin_formula(
         Piece::Forall(q) => begin_range(s, frames, names, out, p, q),
         Piece::Negate(q) => {
             out[written] = 2;
-            Point {
+            Cursor {
                 mode: 0,
                 at: q,
                 depth,
@@ -91,7 +91,7 @@ pub(crate) fn begin_formula(
         Piece::Open(q) => {
             frames[depth] = bracket_frame(written);
             out[written] = 0;
-            Point {
+            Cursor {
                 mode: 0,
                 at: q,
                 depth: depth + 1,

@@ -5,9 +5,9 @@ ghost use Prim.Native.Nat.{ℕ, _-_, _≤_};
 ghost use lib.ListN.{length, drop, getD};
 ghost use Rattle.notation.specs.Reading.{Joint, joint, got};
 ghost use Rattle.notation.specs.Bodies.{joint-code};
-ghost use Rattle.text_to_body.specs.Points.{Within, Moved};
-use crate::point::Point;
-use crate::point::misspelt;
+ghost use Rattle.text_to_body.specs.Cursors.{CursorFits, Moved};
+use crate::cursor::Cursor;
+use crate::cursor::misspelt;
 use crate::scope::put;
 use text_pieces::joint_end;
 use text_pieces::starts_at;
@@ -40,14 +40,14 @@ fn less_one(n: usize) -> usize
 }
 
 // At the text's end nothing may be open.
-fn end_text(s: &[u8], p: Point) -> Point
-    requires { ⌜ (p .mode ≡ 1) × Within (now s) p × (p .depth ≡ 0) ⌝ }
+fn end_text(s: &[u8], p: Cursor) -> Cursor
+    requires { ⌜ (p .mode ≡ 1) × CursorFits (now s) p × (p .depth ≡ 0) ⌝ }
     ensures { λ r. ⌜ ((frames names out : List ℕ) → Moved (now (s .entry)) frames names out p frames names out r) ⌝ }
 {
     if p.at != s.len() {
         return misspelt();
     }
-    Point {
+    Cursor {
         mode: 2,
         at: p.at,
         depth: 0,
@@ -58,14 +58,14 @@ fn end_text(s: &[u8], p: Point) -> Point
 }
 
 // After a bracket's second part.
-fn end_bracket(s: &[u8], p: Point) -> Point
-    requires { ⌜ (p .mode ≡ 1) × Within (now s) p × (1 ≤ p .depth) ⌝ }
+fn end_bracket(s: &[u8], p: Cursor) -> Cursor
+    requires { ⌜ (p .mode ≡ 1) × CursorFits (now s) p × (1 ≤ p .depth) ⌝ }
     ensures { λ r. ⌜ ((frames names out : List ℕ) → getD frames (p .depth - 1) 0 ≡ 0 → Moved (now (s .entry)) frames names out p frames names out r) ⌝ }
 {
     if !starts_at(s, p.at, b")") {
         return misspelt();
     }
-    Point {
+    Cursor {
         mode: 1,
         at: p.at + 1,
         depth: p.depth - 1,
@@ -76,11 +76,11 @@ fn end_bracket(s: &[u8], p: Point) -> Point
 }
 
 // After a quantifier's formula: its name goes out of scope.
-fn end_range(p: Point) -> Point
+fn end_range(p: Cursor) -> Cursor
     requires { ⌜ (p .mode ≡ 1) × (1 ≤ p .depth) ⌝ }
-    ensures { λ r. ⌜ ((s frames names out : List ℕ) → Within s p → getD frames (p .depth - 1) 0 ≡ 1 → Moved s frames names out p frames names out r) ⌝ }
+    ensures { λ r. ⌜ ((s frames names out : List ℕ) → CursorFits s p → getD frames (p .depth - 1) 0 ≡ 1 → Moved s frames names out p frames names out r) ⌝ }
 {
-    Point {
+    Cursor {
         mode: 1,
         at: p.at,
         depth: p.depth - 1,
@@ -91,8 +91,8 @@ fn end_range(p: Point) -> Point
 }
 
 // After a bracket's first part, whose frame is `top`: now it is known which code the bracket has.
-fn end_first(s: &[u8], frames: &mut [u16], out: &mut [u8], p: Point, top: usize) -> Point
-    requires { ⌜ (p .mode ≡ 1) × Within (now s) p × (1 ≤ p .depth) × (p .depth ≤ length (now frames)) × (2 ≤ top) × (getD (now frames) (p .depth - 1) 0 ≡ top) ⌝ }
+fn end_first(s: &[u8], frames: &mut [u16], out: &mut [u8], p: Cursor, top: usize) -> Cursor
+    requires { ⌜ (p .mode ≡ 1) × CursorFits (now s) p × (1 ≤ p .depth) × (p .depth ≤ length (now frames)) × (2 ≤ top) × (getD (now frames) (p .depth - 1) 0 ≡ top) ⌝ }
     ensures { λ r. ⌜ ((names : List ℕ) → Moved (now (s .entry)) (now (frames .entry)) names (now (out .entry)) p (now (frames .exit)) names (now (out .exit)) r) ⌝ }
 {
     let inner = p.depth - 1;
@@ -102,7 +102,7 @@ fn end_first(s: &[u8], frames: &mut [u16], out: &mut [u8], p: Point, top: usize)
     }
     put(out, top - 2, joint_code(s, p.at));
     frames[inner] = 0;
-    Point {
+    Cursor {
         mode: 0,
         at: q,
         depth: p.depth,
@@ -113,8 +113,8 @@ fn end_first(s: &[u8], frames: &mut [u16], out: &mut [u8], p: Point, top: usize)
 }
 
 // By the innermost frame that is open.
-pub(crate) fn end_formula(s: &[u8], frames: &mut [u16], out: &mut [u8], p: Point) -> Point
-    requires { ⌜ (p .mode ≡ 1) × Within (now s) p × (p .depth ≤ length (now frames)) ⌝ }
+pub(crate) fn end_formula(s: &[u8], frames: &mut [u16], out: &mut [u8], p: Cursor) -> Cursor
+    requires { ⌜ (p .mode ≡ 1) × CursorFits (now s) p × (p .depth ≤ length (now frames)) ⌝ }
     ensures { λ r. ⌜ ((names : List ℕ) → Moved (now (s .entry)) (now (frames .entry)) names (now (out .entry)) p (now (frames .exit)) names (now (out .exit)) r) ⌝ }
 {
     if p.depth == 0 {

@@ -1,7 +1,7 @@
 // A rule's text turned into its body, without recursion: the text is read from left to right, with the open brackets and quantifiers in a table.
 mod begin;
+mod cursor;
 mod end;
-mod point;
 mod scope;
 mod stores;
 mod translate;

@@ -5,7 +5,7 @@ ghost use mathlib.Core.List.{List, [], _∷_, _++_};
 ghost use Prim.Native.Nat.{ℕ, _+_, _-_, _%_, _≤_, _<_};
 ghost use lib.ListN.{length, drop, take, getD};
 ghost use Rattle.notation.specs.Notation.{Base, End};
-ghost use Rattle.notation.specs.Reading.{got, base, end-of, flag-token, flag-head, forall-token, forall-head};
+ghost use Rattle.notation.specs.Reading.{got, read-base, read-end, flag-token, read-flag, forall-token, read-forall};
 ghost use Rattle.notation.specs.Bodies.{base-bound, base-bytes, end-bound, end-bytes, is-bound, flag-bytes, forall-bytes};
 ghost use Rattle.text_to_body.specs.Work.{scope-of};
 use crate::scope::lookup;
@@ -38,7 +38,7 @@ fn variable_byte(v: usize) -> u8
 // Writes a bound's kind and variable, and answers whether its name is bound.
 fn write_base(s: &[u8], at: usize, names: &[usize], m: usize, out: &mut [u8], o: usize) -> bool
     requires { ⌜ (at ≤ length (now s)) × (m ≤ length (now names)) × (m ≤ 4096) × (o + 2 ≤ length (now out)) ⌝ }
-    ensures { λ r. ⌜ (length (now (out .exit)) ≡ length (now (out .entry))) × ((b : Base) (t : List ℕ) → base (drop at (now (s .entry))) ≡ got b t → (r ≡ base-bound (scope-of (now (s .entry)) (now (names .entry)) m) b) × (take (o + 2) (now (out .exit)) ≡ take o (now (out .entry)) ++ base-bytes (scope-of (now (s .entry)) (now (names .entry)) m) b)) ⌝ }
+    ensures { λ r. ⌜ (length (now (out .exit)) ≡ length (now (out .entry))) × ((b : Base) (t : List ℕ) → read-base (drop at (now (s .entry))) ≡ got b t → (r ≡ base-bound (scope-of (now (s .entry)) (now (names .entry)) m) b) × (take (o + 2) (now (out .exit)) ≡ take o (now (out .entry)) ++ base-bytes (scope-of (now (s .entry)) (now (names .entry)) m) b)) ⌝ }
 {
     if starts_at(s, at, b"0") {
         put_two(out, o, 0, 0);
@@ -63,7 +63,7 @@ pub(crate) fn write_bound(
     o: usize,
 ) -> bool
     requires { ⌜ (at ≤ length (now s)) × (m ≤ length (now names)) × (m ≤ 4096) × (o + 4 ≤ length (now out)) ⌝ }
-    ensures { λ r. ⌜ (length (now (out .exit)) ≡ length (now (out .entry))) × ((E : End) (t : List ℕ) → end-of (drop at (now (s .entry))) ≡ got E t → (r ≡ end-bound (scope-of (now (s .entry)) (now (names .entry)) m) E) × (take (o + 4) (now (out .exit)) ≡ take o (now (out .entry)) ++ end-bytes (scope-of (now (s .entry)) (now (names .entry)) m) E)) ⌝ }
+    ensures { λ r. ⌜ (length (now (out .exit)) ≡ length (now (out .entry))) × ((E : End) (t : List ℕ) → read-end (drop at (now (s .entry))) ≡ got E t → (r ≡ end-bound (scope-of (now (s .entry)) (now (names .entry)) m) E) × (take (o + 4) (now (out .exit)) ≡ take o (now (out .entry)) ++ end-bytes (scope-of (now (s .entry)) (now (names .entry)) m) E)) ⌝ }
 {
     let ok = write_base(s, at, names, m, out, o);
     let q = base_end(s, at);
@@ -82,7 +82,7 @@ pub(crate) fn write_flag(
     o: usize,
 ) -> bool
     requires { ⌜ (at ≤ length (now s)) × (m ≤ length (now names)) × (m ≤ 4096) × (o + 3 ≤ length (now out)) ⌝ }
-    ensures { λ r. ⌜ (length (now (out .exit)) ≡ length (now (out .entry))) × ((n : List ℕ) (k : ℕ) (t : List ℕ) → flag-head (drop at (now (s .entry))) ≡ got (flag-token n k) t → (r ≡ is-bound (scope-of (now (s .entry)) (now (names .entry)) m) n) × (take (o + 3) (now (out .exit)) ≡ take o (now (out .entry)) ++ flag-bytes (scope-of (now (s .entry)) (now (names .entry)) m) n k)) ⌝ }
+    ensures { λ r. ⌜ (length (now (out .exit)) ≡ length (now (out .entry))) × ((n : List ℕ) (k : ℕ) (t : List ℕ) → read-flag (drop at (now (s .entry))) ≡ got (flag-token n k) t → (r ≡ is-bound (scope-of (now (s .entry)) (now (names .entry)) m) n) × (take (o + 3) (now (out .exit)) ≡ take o (now (out .entry)) ++ flag-bytes (scope-of (now (s .entry)) (now (names .entry)) m) n k)) ⌝ }
 {
     let v = lookup(s, names, m, at);
     let e = run_end(s, at, 97, 122);
@@ -118,8 +118,8 @@ pub(crate) fn write_forall(
     out: &mut [u8],
     o: usize,
 ) -> bool
-    requires { ⌜ (at ≤ length (now s)) × (m ≤ length (now names)) × (m ≤ 4096) × (o + 9 ≤ length (now out)) × ((n : List ℕ) × (A : End) × (B : End) × (t : List ℕ) × (forall-head (drop at (now s)) ≡ got (forall-token n A B) t)) ⌝ }
-    ensures { λ r. ⌜ (length (now (out .exit)) ≡ length (now (out .entry))) × ((n : List ℕ) (A B : End) (t : List ℕ) → forall-head (drop at (now (s .entry))) ≡ got (forall-token n A B) t → (r ≡ (end-bound (scope-of (now (s .entry)) (now (names .entry)) m) A && end-bound (scope-of (now (s .entry)) (now (names .entry)) m) B)) × (take (o + 9) (now (out .exit)) ≡ take o (now (out .entry)) ++ forall-bytes (scope-of (now (s .entry)) (now (names .entry)) m) A B)) ⌝ }
+    requires { ⌜ (at ≤ length (now s)) × (m ≤ length (now names)) × (m ≤ 4096) × (o + 9 ≤ length (now out)) × ((n : List ℕ) × (A : End) × (B : End) × (t : List ℕ) × (read-forall (drop at (now s)) ≡ got (forall-token n A B) t)) ⌝ }
+    ensures { λ r. ⌜ (length (now (out .exit)) ≡ length (now (out .entry))) × ((n : List ℕ) (A B : End) (t : List ℕ) → read-forall (drop at (now (s .entry))) ≡ got (forall-token n A B) t → (r ≡ (end-bound (scope-of (now (s .entry)) (now (names .entry)) m) A && end-bound (scope-of (now (s .entry)) (now (names .entry)) m) B)) × (take (o + 9) (now (out .exit)) ≡ take o (now (out .entry)) ++ forall-bytes (scope-of (now (s .entry)) (now (names .entry)) m) A B)) ⌝ }
 {
     let e = run_end(s, at, 97, 122);
     let q = bound_end(s, e + 4);

@@ -5,17 +5,17 @@ ghost use Prim.Native.Nat.{ℕ, _≤_, _<_};
 ghost use lib.ListN.{length};
 ghost use Rattle.sheet.specs.Writing.{written};
 ghost use Rattle.notation.specs.Bodies.{length-of};
-ghost use Rattle.text_to_body.specs.Points.{answer-at, Within, Rooms, Moved, settled, Reached, Translated};
+ghost use Rattle.text_to_body.specs.Cursors.{answer-at, CursorFits, Rooms, Moved, answer-at-end, Reached, Translated};
 use crate::begin::begin_formula;
+use crate::cursor::Cursor;
 use crate::end::end_formula;
-use crate::point::Point;
 use refusal::Refusal;
 use sheet::Written;
 use text_pieces::rule_start;
 
 // One step from a point before or after a formula.
-fn step(s: &[u8], frames: &mut [u16], names: &mut [usize], out: &mut [u8], p: Point) -> Point
-    requires { ⌜ (p .mode < 2) × Within (now s) p × Rooms (now s) (now frames) (now names) (now out) ⌝ }
+fn step(s: &[u8], frames: &mut [u16], names: &mut [usize], out: &mut [u8], p: Cursor) -> Cursor
+    requires { ⌜ (p .mode < 2) × CursorFits (now s) p × Rooms (now s) (now frames) (now names) (now out) ⌝ }
     ensures { λ r. ⌜ Moved (now (s .entry)) (now (frames .entry)) (now (names .entry)) (now (out .entry)) p (now (frames .exit)) (now (names .exit)) (now (out .exit)) r ⌝ }
 {
     if p.mode == 0 {
@@ -25,8 +25,8 @@ fn step(s: &[u8], frames: &mut [u16], names: &mut [usize], out: &mut [u8], p: Po
 }
 
 // From a point to the text's end, or to what is misspelt.
-fn go_on(s: &[u8], frames: &mut [u16], names: &mut [usize], out: &mut [u8], start: Point) -> Point
-    requires { ⌜ Within (now s) start × Rooms (now s) (now frames) (now names) (now out) ⌝ }
+fn go_on(s: &[u8], frames: &mut [u16], names: &mut [usize], out: &mut [u8], start: Cursor) -> Cursor
+    requires { ⌜ CursorFits (now s) start × Rooms (now s) (now frames) (now names) (now out) ⌝ }
     ensures { λ r. ⌜ (length (now (out .exit)) ≡ length (now (out .entry))) × Reached (answer-at (now (s .entry)) (now (frames .entry)) (now (names .entry)) (now (out .entry)) start) (now (out .exit)) r ⌝ }
 {
     let mut p = start;
@@ -37,8 +37,8 @@ fn go_on(s: &[u8], frames: &mut [u16], names: &mut [usize], out: &mut [u8], star
 }
 
 // What a point past the last step answers: 25, 26, or how many bytes are written.
-fn answer_at_end(p: Point) -> Written
-    ensures { λ r. ⌜ ((l : List ℕ) → length l ≡ p .written → written r ≡ length-of (settled (p .mode) (p .resolved) l)) ⌝ }
+fn answer_at_end(p: Cursor) -> Written
+    ensures { λ r. ⌜ ((l : List ℕ) → length l ≡ p .written → written r ≡ length-of (answer-at-end (p .mode) (p .resolved) l)) ⌝ }
 {
     if p.mode != 2 {
         return Written::Refused(Refusal::Misspelt);
@@ -64,7 +64,7 @@ pub(crate) fn translate(text: &[u8], out: &mut [u8]) -> Written
     let mut frames = [0u16; 4096];
     let mut names = [0usize; 256];
     names[0] = 8;
-    let p = Point {
+    let p = Cursor {
         mode: 0,
         at: start,
         depth: 0,

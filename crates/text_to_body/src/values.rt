@@ -4,7 +4,7 @@ ghost use Prim.Native.Nat.{ℕ, _+_, _-_, _*_, _%_, _≤_, _<_};
 ghost use lib.ListN.{drop};
 ghost use mathlib.Core.List.{List};
 ghost use Rattle.notation.specs.Notation.{digit, Offset};
-ghost use Rattle.notation.specs.Reading.{run, offset, got};
+ghost use Rattle.notation.specs.Reading.{run, read-offset, got};
 ghost use Rattle.notation.specs.Bodies.{value-on, offset-word};
 use text_pieces::is_between;
 use text_pieces::starts_at;
@@ -43,7 +43,7 @@ fn value_at(s: &[u8], at: usize) -> usize
 
 // The offset at a position, as a 16-bit word.
 pub(crate) fn offset_at(s: &[u8], at: usize) -> usize
-    ensures { λ r. ⌜ (r < 65536) × ((o : Offset) (t : List ℕ) → offset (drop at (now (s .entry))) ≡ got o t → r ≡ offset-word o) ⌝ }
+    ensures { λ r. ⌜ (r < 65536) × ((o : Offset) (t : List ℕ) → read-offset (drop at (now (s .entry))) ≡ got o t → r ≡ offset-word o) ⌝ }
 {
     if starts_at(s, at, b"+") {
         return value_at(s, at + 1);

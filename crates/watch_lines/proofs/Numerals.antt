@@ -9,7 +9,7 @@ use native.Mathlib.Numerals.{unary-clauses}
 use native.Mathlib.Nat.{mod-lt, mod-eq-of-lt, le-div-iff-mul-le, div-lt-iff-lt-mul, one-le-pow, pow-le-pow-right}
 use borrow.Author.Tests.{lt-ltb, le-ltb, leb-true, leb-false}
 use Rattle.io.specs.Digits.{digits, Fewest}
-use Rattle.watch_lines.specs.Lines.{numeral, numeral-within}
+use Rattle.watch_lines.specs.Lines.{decimal, numeral-within}
 
 fewest-digits : (most k n : ℕ) → k ≤ most → Fewest 10 1 n k → digits 10 k n ≡ numeral-within most n
 unfolding numeral-within
@@ -38,6 +38,6 @@ most-digits k n h f = go (leb k 20) refl
         let more : 10 ^ 20 ≤ 10 ^ (k - 1) = pow-le-pow-right {n = 10} (omega arith) {i = 20} {j = k - 1} (omega arith) in
         absurd (omega arith)
 
-pub numeral-of : (k n : ℕ) → n < 18446744073709551616 → Fewest 10 1 n k → digits 10 k n ≡ numeral n
-unfolding numeral
+pub numeral-of : (k n : ℕ) → n < 18446744073709551616 → Fewest 10 1 n k → digits 10 k n ≡ decimal n
+unfolding decimal
 numeral-of k n h f = fewest-digits 20 k n (most-digits k n h f) f

@@ -11,12 +11,12 @@ numeral-within zero n = []
 numeral-within (suc most) n = cond (ltb n 10) ((48 + n) ∷ []) (numeral-within most (n / 10) ++ ((48 + n % 10) ∷ []))
 
 -- A number of 64 bits has at most 20.
-unfoldable pub numeral : ℕ → List ℕ
-numeral n = numeral-within 20 n
+unfoldable pub decimal : ℕ → List ℕ
+decimal n = numeral-within 20 n
 
 -- A line with a word and a number added to it.
 unfoldable pub with-field : List ℕ → List ℕ → ℕ → List ℕ
-with-field line word n = (line ++ word) ++ numeral n
+with-field line word n = (line ++ word) ++ decimal n
 
 -- The words, in ASCII: the text in quotes.
 -- "refused "

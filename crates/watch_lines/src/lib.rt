@@ -5,7 +5,7 @@ ghost use mathlib.Core.List.{_++_};
 ghost use Prim.Native.Nat.{_+_, _≤_};
 ghost use lib.ListN.{length, take, drop};
 ghost use Rattle.io.specs.Counts.{Counts};
-ghost use Rattle.watch_lines.specs.Lines.{numeral, with-field, refused-line, figures-line, violation-line, end-line};
+ghost use Rattle.watch_lines.specs.Lines.{decimal, with-field, refused-line, figures-line, violation-line, end-line};
 
 // Puts bytes after the first `at` ones, and answers how many there are then. The bytes after those stay as they were.
 fn put_text(out: &mut [u8], at: usize, text: &[u8]) -> usize
@@ -25,8 +25,8 @@ fn put_text(out: &mut [u8], at: usize, text: &[u8]) -> usize
 fn put_number(out: &mut [u8], at: usize, n: u64) -> usize
     requires { ⌜ at + 20 ≤ length (now out) ⌝ }
     ensures { λ r. ⌜ r ≤ at + 20 ⌝ }
-    ensures { λ r. ⌜ r ≡ at + length (numeral n) ⌝ }
-    ensures { λ r. ⌜ now (out .exit) ≡ (take at (now (out .entry)) ++ numeral n) ++ drop r (now (out .entry)) ⌝ }
+    ensures { λ r. ⌜ r ≡ at + length (decimal n) ⌝ }
+    ensures { λ r. ⌜ now (out .exit) ≡ (take at (now (out .entry)) ++ decimal n) ++ drop r (now (out .entry)) ⌝ }
 {
     let mut digits = [0u8; 20];
     let k = io::decimal(n, &mut digits);
@@ -37,7 +37,7 @@ fn put_number(out: &mut [u8], at: usize, n: u64) -> usize
 fn put_field(out: &mut [u8], at: usize, word: &[u8], n: u64) -> usize
     requires { ⌜ (at + length (now word)) + 20 ≤ length (now out) ⌝ }
     ensures { λ r. ⌜ r ≤ (at + length (now (word .entry))) + 20 ⌝ }
-    ensures { λ r. ⌜ r ≡ (at + length (now (word .entry))) + length (numeral n) ⌝ }
+    ensures { λ r. ⌜ r ≡ (at + length (now (word .entry))) + length (decimal n) ⌝ }
     ensures { λ r. ⌜ now (out .exit) ≡ with-field (take at (now (out .entry))) (now (word .entry)) n ++ drop r (now (out .entry)) ⌝ }
 {
     let a = put_text(out, at, word);

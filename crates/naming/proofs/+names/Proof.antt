@@ -8,7 +8,7 @@ use borrow.Author.Needs.{needs}
 use lib.ListN.{length, getD}
 use Rattle.nodes.specs.Table.{formula-in}
 use Rattle.nodes.proofs.Nodes.{word-in}
-use Rattle.naming.specs.Ranges.{forall-in}
+use Rattle.naming.specs.Ranges.{forall-of-node}
 use Rattle.naming.proofs.Nodes.{none-in, negate-in, range-in}
 use Rattle.naming.proofs.Named.{named-none, named-negate, two-inside, named-two, named-here, named-range, named-rest, named-deep}
 use borrow.Fn.Kinds.{In}
@@ -53,7 +53,7 @@ module _ (t : ℕ) (n : Coded t) where
   inside : (k : ℕ) → n .node-word .result ≡ suc k → start .args .i < length ns
   inside k e = word-in ns (start .args .i) k (sym (n .node-word .ensures) ∙ e)
 
-  is-range : n .node-word .result ≡ 5 → formula-in (start .args .left) ns (start .args .m) (start .args .i) ≡ forall-in (start .args .left - 1) ns (start .args .m) (start .args .i)
+  is-range : n .node-word .result ≡ 5 → formula-in (start .args .left) ns (start .args .m) (start .args .i) ≡ forall-of-node (start .args .left - 1) ns (start .args .m) (start .args .i)
   is-range e = range-in (start .args .left) ns (start .args .m) (start .args .i) some (sym (n .node-word .ensures) ∙ e)
 
   less : start .args .left - 1 < t

@@ -7,7 +7,7 @@ use lib.ListN.{length, set}
 use Rattle.words.specs.Words.{byte}
 use Rattle.rule.specs.Body.{head}
 use Rattle.formula_bytes.specs.Checks.{check-number}
-use Rattle.reader.specs.Written.{Headed, place}
+use Rattle.reader.specs.Written.{Headed, node-start}
 use Rattle.rule.proofs.Heads.{Accepts, Tested, accepts-tested, flag-room, forall-room}
 use Rattle.reader.specs.Filled.{Filled}
 use Rattle.reader.proofs.Ends.{head-accepts}
@@ -59,7 +59,7 @@ abbrev Known : ℕ → Type 0
 Known t = read-formula-lts.After-shared-slice-known2 (read-formula-claims t) (read-formula-at t) read-formula.Post
 
 module _ (t : ℕ) (n : Known t) where
-  headed : Headed (n .before .before .before .before .before .before .before .before .before .before .before .args .s .now) (n .before .before .before .before .before .before .before .before .before .before .before .args .at) (place (n .before .before .before .before .before .before .before .before .before .before .before .args .left)) (n .before .before .before .before .before .before .before .before .before .before .before .args .nodes .now) (n .before .before .before .write-head .last .1 .1 .0)
+  headed : Headed (n .before .before .before .before .before .before .before .before .before .before .before .args .s .now) (n .before .before .before .before .before .before .before .before .before .before .before .args .at) (node-start (n .before .before .before .before .before .before .before .before .before .before .before .args .left)) (n .before .before .before .before .before .before .before .before .before .before .before .args .nodes .now) (n .before .before .before .write-head .last .1 .1 .0)
   headed = subst (λ (i : ℕ). Headed (n .before .before .before .before .before .before .before .before .before .before .before .args .s .now) (n .before .before .before .before .before .before .before .before .before .before .before .args .at) i (n .before .before .before .before .before .before .before .before .before .before .before .args .nodes .now) (n .before .before .before .write-head .last .1 .1 .0)) (n .before .before .before .before .before .node-place .ensures) (n .before .before .before .write-head .ensures)
 
   room₁ : 768 ≤ length (n .before .before .before .write-head .last .1 .1 .0)
@@ -88,7 +88,7 @@ module _ (t : ℕ) (e : Second t) where
       (e .before .before .before .before .before .before .before .before .before .before .before .before .before .write-head .last .1 .1 .0) (headed t (e .before .before .before .before .before .before .before .before .before .before)) (low t (e .before .before .before .before .before .before)) (high t (e .before .before .before .before .before .before)) (e .before .before .before .before .before .read-formula3 .result) (e .before .before .before .before .before .read-formula3 .last .1 .0)
       (e .before .before .before .before .before .read-formula3 .ensures) (e .before .first2 .given .0 .0) (e .before .first2 .given .0 .1 .0) (e .before .first2 .given .1)
 
-  room₂ : place (e .before .before .before .before .before .before .before .before .before .before .before .before .before .before .before .before .before .before .before .before .before .args .left) + 12 ≤ length (e .before .before .before .before .before .read-formula3 .last .1 .0)
+  room₂ : node-start (e .before .before .before .before .before .before .before .before .before .before .before .before .before .before .before .before .before .before .before .before .before .args .left) + 12 ≤ length (e .before .before .before .before .before .read-formula3 .last .1 .0)
   room₂ = omega (arith, e .before .before .before .before .before .read-formula3 .kept .1 .0, room₁ t (e .before .before .before .before .before .before .before .before .before .before), (facts t (e .before .before .before .before .before .before .before .before .before .before .before .before .before .before .before .before)) .some-left, e .before .before .before .before .before .before .before .before .before .before .before .before .before .before .before .before .before .before .before .before .before .pre .1 .0)
 
 read-formula-head-check-requires : (t : ℕ) → read-formula-lts.Need-head-check-requires (read-formula-claims t) (read-formula-at t) read-formula.Post
@@ -113,7 +113,7 @@ read-formula-node-place-requires t c κs =
 read-formula-write-head-requires : (t : ℕ) → read-formula-lts.Need-write-head-requires (read-formula-claims t) (read-formula-at t) read-formula.Post
 read-formula-write-head-requires t c κs =
     let s₀ = c .before .before .before .before .before .before .before in
-    let h : place (s₀ .args .left) + 12 ≤ length (s₀ .args .nodes .now) = omega (arith, s₀ .pre .1 .1, s₀ .pre .1 .0, (facts t (c .before .before)) .some-left) in
+    let h : node-start (s₀ .args .left) + 12 ≤ length (s₀ .args .nodes .now) = omega (arith, s₀ .pre .1 .1, s₀ .pre .1 .0, (facts t (c .before .before)) .some-left) in
     ((facts t (c .before .before)) .there, subst (λ (i : ℕ). i + 12 ≤ length (s₀ .args .nodes .now)) (sym (c .before .node-place .ensures)) h)
 
 read-formula-shared-slice-read-code : (t : ℕ) → read-formula-lts.Need-shared-slice-read-code (read-formula-claims t) (read-formula-at t) read-formula.Post
@@ -223,7 +223,7 @@ read-formula-returns-6 t c =
     second-fill (s₀ .args .s .now) (s₀ .args .at) (s₀ .args .m) (s₀ .args .left) (s₀ .pre .1 .0) (acc t (c .before .before .before .before .before .before .before .before .before .before .before .before .before .before .before .before .before .before .before .before .before .before .before .before)) (s₀ .args .nodes .now) (c .before .before .before .before .before .before .before .before .before .before .before .before .before .before .before .before .before .before .before .before .before .write-head .last .1 .1 .0) (headed t (c .before .before .before .before .before .before .before .before .before .before .before .before .before .before .before .before .before .before)) (low t (c .before .before .before .before .before .before .before .before .before .before .before .before .before .before)) (high t (c .before .before .before .before .before .before .before .before .before .before .before .before .before .before)) (c .before .before .before .before .before .before .before .before .before .before .before .before .before .read-formula3 .result) (c .before .before .before .before .before .before .before .before .before .before .before .before .before .read-formula3 .last .1 .0) (c .before .before .before .before .before .before .before .before .before .before .before .before .before .read-formula3 .ensures) x y (c .before .before .before .before .before .before .before .before .before .first2 .given .1) (room₂ t (c .before .before .before .before .before .before .before .before))
     (c .before .before .read-formula4 .result) (c .before .before .read-formula4 .last .1 .0)
     (subst (λ (z : List ℕ). Filled (s₀ .args .s .now) x (s₀ .args .m) y z (c .before .before .read-formula4 .result) (c .before .before .read-formula4 .last .1 .0))
-    (c .before .before .before .before .before .before .write-second .ensures ∙ ap (λ (i : ℕ). set (c .before .before .before .before .before .before .before .before .before .before .before .before .before .read-formula3 .last .1 .0) (i + 7) (place y)) (c .before .before .before .before .before .before .before .before .before .before .before .before .before .before .before .before .before .before .before .before .before .before .before .node-place .ensures)) (c .before .before .read-formula4 .ensures))
+    (c .before .before .before .before .before .before .write-second .ensures ∙ ap (λ (i : ℕ). set (c .before .before .before .before .before .before .before .before .before .before .before .before .before .read-formula3 .last .1 .0) (i + 7) (node-start y)) (c .before .before .before .before .before .before .before .before .before .before .before .before .before .before .before .before .before .before .before .before .before .before .before .node-place .ensures)) (c .before .before .read-formula4 .ensures))
 
 pub +read-formula-spec : {M : Type 1} → statement M
 +read-formula-spec = close μ-read-formula λ t. read-formula-lts.spec (read-formula-claims t)

@@ -5,7 +5,7 @@ use lib.ListN.{length, take, drop}
 use mathlib.Core.Path.{_≡_, ap, _∙_}
 use mathlib.Core.List.{List, _++_}
 use native.Mathlib.Omega.{arith}
-use Rattle.watch_lines.specs.Lines.{numeral}
+use Rattle.watch_lines.specs.Lines.{decimal}
 use Rattle.watch_lines.proofs.Numerals.{most-digits, numeral-of}
 use borrow.Author.Needs.{needs}
 use Rattle.watch_lines.proofs.put_number.Statement.{statement}
@@ -43,7 +43,7 @@ returns c =
     let shown = d .ensures .1 .1 ∙ is in
     let at = start .args .at in
     let bytes = now (start .args .out) in
-    let long : p .result ≡ at + length (numeral n) = p .ensures .0 ∙ ap (λ (l : List ℕ). at + length l) shown in
+    let long : p .result ≡ at + length (decimal n) = p .ensures .0 ∙ ap (λ (l : List ℕ). at + length l) shown in
     let whole = p .ensures .1 ∙ ap (λ (l : List ℕ). (take at bytes ++ l) ++ drop (p .result) bytes) shown in
     (omega (arith, p .ensures .0, d .ensures .0 .1), (long, whole))
 

@@ -4,7 +4,7 @@ use mathlib.Core.Path.{_≡_, sym, ap, _∙_}
 use denote.Ref.{now}
 use Rattle.refusal.specs.Answer.{Answer, or-kept}
 use Rattle.rule.specs.declared.Figures.{Figures}
-use Rattle.figures.specs.Prepared.{told}
+use Rattle.figures.specs.Prepared.{figures-answer}
 use Rattle.exports.specs.Answers.{number}
 use borrow.Author.Needs.{needs}
 use Rattle.exports.proofs.bodies.sw_figures.Statement.{statement}
@@ -25,13 +25,13 @@ number-requires c κs = search needs
 returns : tie.Need-returns
 returns c =
     let a = c .before .before .before .before .before .args in
-    let e = sym (c .before .before .before .figures .ensures) ∙ ap told (c .before .answer .given .1) in
+    let e = sym (c .before .before .before .figures .ensures) ∙ ap figures-answer (c .before .answer .given .1) in
     (sym (ap number e), (sym (ap (λ (w : Answer Figures). or-kept (λ f. f .history) w (now (a .history))) e), (sym (ap (λ (w : Answer Figures). or-kept (λ f. f .delay) w (now (a .delay))) e), sym (ap (λ (w : Answer Figures). or-kept (λ f. f .cells) w (now (a .cells))) e))))
 
 returns-2 : tie.Need-returns-2
 returns-2 c =
     let a = c .before .before .before .before .before .before .args in
-    let e = sym (c .before .before .before .before .figures .ensures) ∙ ap told (c .before .before .answer2 .given .1) in
+    let e = sym (c .before .before .before .before .figures .ensures) ∙ ap figures-answer (c .before .before .answer2 .given .1) in
     (c .number .ensures ∙ sym (ap number e), (sym (ap (λ (w : Answer Figures). or-kept (λ f. f .history) w (now (a .history))) e), (sym (ap (λ (w : Answer Figures). or-kept (λ f. f .delay) w (now (a .delay))) e), sym (ap (λ (w : Answer Figures). or-kept (λ f. f .cells) w (now (a .cells))) e))))
 
 pub sw-figures-spec : {M : Type 1} → statement M

@@ -4,7 +4,7 @@ use mathlib.Core.Path.{_≡_, sym, ap, _∙_}
 use denote.Ref.{now}
 use Rattle.refusal.specs.Answer.{Answer, or-kept}
 use Rattle.rule.specs.declared.Outcome.{Outcome}
-use Rattle.recording.specs.Answers.{told}
+use Rattle.recording.specs.Answers.{outcome-answer}
 use Rattle.exports.specs.Answers.{number, verdict-number, step-number}
 use borrow.Author.Needs.{needs}
 use Rattle.exports.proofs.bodies.sw_outcome.Statement.{statement}
@@ -31,13 +31,13 @@ number-requires c κs = search needs
 returns : tie.Need-returns
 returns c =
     let a = c .before .before .before .before .before .before .before .before .args in
-    let e = sym (c .before .before .before .before .before .outcome-at .ensures) ∙ ap told (c .before .before .before .answer .given .1) in
+    let e = sym (c .before .before .before .before .before .outcome-at .ensures) ∙ ap outcome-answer (c .before .before .before .answer .given .1) in
     (sym (ap number e), (c .before .verdict-number .ensures ∙ sym (ap (λ (w : Answer Outcome). or-kept verdict-number w (now (a .verdict))) e), c .step-number .ensures ∙ sym (ap (λ (w : Answer Outcome). or-kept step-number w (now (a .step))) e)))
 
 returns-2 : tie.Need-returns-2
 returns-2 c =
     let a = c .before .before .before .before .before .before .before .args in
-    let e = sym (c .before .before .before .before .outcome-at .ensures) ∙ ap told (c .before .before .answer2 .given .1) in
+    let e = sym (c .before .before .before .before .outcome-at .ensures) ∙ ap outcome-answer (c .before .before .answer2 .given .1) in
     (c .number .ensures ∙ sym (ap number e), (sym (ap (λ (w : Answer Outcome). or-kept verdict-number w (now (a .verdict))) e), sym (ap (λ (w : Answer Outcome). or-kept step-number w (now (a .step))) e)))
 
 pub sw-outcome-spec : {M : Type 1} → statement M

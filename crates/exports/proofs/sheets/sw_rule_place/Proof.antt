@@ -3,7 +3,7 @@
 use mathlib.Core.Path.{_≡_, sym, ap, _∙_}
 use denote.Ref.{now}
 use Rattle.refusal.specs.Answer.{Answer, or-kept}
-use Rattle.sheet.specs.Sheet.{Place, found}
+use Rattle.sheet.specs.Sheet.{BodyPlace, found}
 use Rattle.exports.specs.Answers.{number}
 use borrow.Author.Needs.{needs}
 use Rattle.exports.proofs.sheets.sw_rule_place.Statement.{statement}
@@ -25,13 +25,13 @@ returns : tie.Need-returns
 returns c =
     let a = c .before .before .before .before .before .args in
     let e = sym (c .before .before .before .find-rule .ensures) ∙ ap found (c .before .place .given .1) in
-    (sym (ap number e), (sym (ap (λ (w : Answer Place). or-kept (λ p. p .start) w (now (a .start))) e), sym (ap (λ (w : Answer Place). or-kept (λ p. p .size) w (now (a .size))) e)))
+    (sym (ap number e), (sym (ap (λ (w : Answer BodyPlace). or-kept (λ p. p .start) w (now (a .start))) e), sym (ap (λ (w : Answer BodyPlace). or-kept (λ p. p .size) w (now (a .size))) e)))
 
 returns-2 : tie.Need-returns-2
 returns-2 c =
     let a = c .before .before .before .before .before .before .args in
     let e = sym (c .before .before .before .before .find-rule .ensures) ∙ ap found (c .before .before .place2 .given .1) in
-    (c .number .ensures ∙ sym (ap number e), (sym (ap (λ (w : Answer Place). or-kept (λ p. p .start) w (now (a .start))) e), sym (ap (λ (w : Answer Place). or-kept (λ p. p .size) w (now (a .size))) e)))
+    (c .number .ensures ∙ sym (ap number e), (sym (ap (λ (w : Answer BodyPlace). or-kept (λ p. p .start) w (now (a .start))) e), sym (ap (λ (w : Answer BodyPlace). or-kept (λ p. p .size) w (now (a .size))) e)))
 
 pub sw-rule-place-spec : {M : Type 1} → statement M
 sw-rule-place-spec =

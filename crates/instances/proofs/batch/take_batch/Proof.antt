@@ -16,8 +16,8 @@ enum-known-admitted c = search needs
 enum-known-admitted-2 : tie.Need-enum-known-admitted-2
 enum-known-admitted-2 c = search needs
 
-take-flags-requires : tie.Need-take-flags-requires
-take-flags-requires c κs =
+move-flags-requires : tie.Need-move-flags-requires
+move-flags-requires c κs =
     let s₀ = c .before .before .before .before .before .before .before .before .before .before .before .before .before .before in
     let step = c .before .before .before .before .before .before .before .admit-step in
     flags-fit (s₀ .args .body .now) (s₀ .args .opened) (s₀ .args .tick) (length (s₀ .args .history .now)) (length (s₀ .args .cells .now)) 256 (step .result) (step .last .1 .1 .1 .1 .1 .1 .0) (step .ensures) (c .before .before .before .before .before .admitted2 .given .0 .0) (c .before .before .before .before .before .admitted2 .given .1)
@@ -45,7 +45,7 @@ returns-2 c =
     let sized = c .before .before .before .before .before .before .before .before .before .before .before .before .admitted2 .given .1 in (
       f,
       admitted-as (s₀ .args .body .now) (s₀ .args .opened) (s₀ .args .tick) (length (s₀ .args .history .now)) (length (s₀ .args .cells .now)) 256 (step .result) (step .last .1 .1 .1 .1 .1 .1 .0) (step .ensures) sized,
-      c .before .before .before .before .before .before .take-flags .ensures .takes (state-at (s₀ .args .body .now) (s₀ .args .opened) (s₀ .args .tick) (s₀ .args .live)) (table-of (s₀ .args .body .now) (s₀ .args .opened) (s₀ .args .tick) (length (s₀ .args .history .now)) (length (s₀ .args .cells .now)) 256 (step .result) (step .last .1 .1 .1 .1 .1 .1 .0) (step .ensures) f sized (s₀ .args .live)) refl,
+      c .before .before .before .before .before .before .move-flags .ensures .takes (state-at (s₀ .args .body .now) (s₀ .args .opened) (s₀ .args .tick) (s₀ .args .live)) (table-of (s₀ .args .body .now) (s₀ .args .opened) (s₀ .args .tick) (length (s₀ .args .history .now)) (length (s₀ .args .cells .now)) 256 (step .result) (step .last .1 .1 .1 .1 .1 .1 .0) (step .ensures) f sized (s₀ .args .live)) refl,
     )
 
 pub take-batch-spec : {M : Type 1} → statement M
@@ -55,7 +55,7 @@ take-batch-spec =
     admit-step-requires
     enum-known-admitted
     enum-known-admitted-2
-    take-flags-requires
+    move-flags-requires
     returns
     same-length
     same-length-2

@@ -3,7 +3,7 @@
 use native.Mathlib.Omega.{arith}
 use denote.Ref.{now}
 use lib.ListN.{drop}
-use Rattle.notation.specs.Reading.{base}
+use Rattle.notation.specs.Reading.{read-base}
 use Rattle.text_pieces.proofs.Finding.{found-some}
 use Rattle.text_pieces.proofs.Parsing.{end-none, end-there}
 use Rattle.text_pieces.proofs.bounds.bound_end.Statement.{statement}
@@ -19,7 +19,7 @@ offset-end-requires : tie.Need-offset-end-requires
 offset-end-requires c κs =
     let a = c .before .before .before .args in
     let z = c .if1 .left in
-    (omega arith, found-some (now (a .s)) (c .before .base-end .result) (base (drop (a .at) (now (a .s)))) z (c .before .base-end .ensures) .2)
+    (omega arith, found-some (now (a .s)) (c .before .base-end .result) (read-base (drop (a .at) (now (a .s)))) z (c .before .base-end .ensures) .2)
 
 returns-2 : tie.Need-returns-2
 returns-2 c =

@@ -9,7 +9,7 @@ use lib.ListN.{drop}
 use borrow.Author.Tests.{not-true, not-false}
 use Rattle.text_pieces.proofs.Finding.{word-fits, found-none}
 use Rattle.notation.specs.Notation.{forall-sign}
-use Rattle.notation.specs.Reading.{head, flag-head, forall-head}
+use Rattle.notation.specs.Reading.{read-token, read-flag, read-forall}
 use Rattle.text_pieces.proofs.Parsing.{head-flag, head-negate, head-open, head-none, head-forall, flag-piece, forall-piece}
 use borrow.Author.Needs.{needs}
 use Rattle.text_pieces.proofs.pieces.piece_at.Statement.{statement}
@@ -33,12 +33,12 @@ returns : tie.Need-returns
 returns c =
     let a = c .before .before .before .before .before .before .args in
     head-flag (now (a .s)) (a .at) (sym (c .before .before .before .starts-at .ensures) ∙ c .before .before .if1 .taken)
-    ∙ found-none (now (a .s)) (c .before .flag-end .result) (flag-head (drop (a .at + 1) (now (a .s)))) (c .if2 .taken) (c .before .flag-end .ensures)
+    ∙ found-none (now (a .s)) (c .before .flag-end .result) (read-flag (drop (a .at + 1) (now (a .s)))) (c .if2 .taken) (c .before .flag-end .ensures)
 
 returns-2 : tie.Need-returns-2
 returns-2 c =
     let a = c .before .before .before .before .before .before .args in
-    flag-piece (now (a .s)) (c .before .flag-end .result) (c .if2 .left) (head (drop (a .at) (now (a .s)))) (a .at + 1)
+    flag-piece (now (a .s)) (c .before .flag-end .result) (c .if2 .left) (read-token (drop (a .at) (now (a .s)))) (a .at + 1)
     (head-flag (now (a .s)) (a .at) (sym (c .before .before .before .starts-at .ensures) ∙ c .before .before .if1 .taken)) (c .before .flag-end .ensures)
 
 slice-aggregate-starts-at-2 : tie.Need-slice-aggregate-starts-at-2
@@ -108,7 +108,7 @@ returns-6 c =
     let f = sym (c .before .before .before .before .before .before .before .before .before .starts-at2 .ensures) ∙ c .before .before .before .before .before .before .before .before .if3 .left in
     let g = sym (c .before .before .before .before .before .before .starts-at3 .ensures) ∙ c .before .before .before .before .before .if4 .left in
     head-forall (now (a .s)) (a .at) e f g (sym (c .before .before .before .starts-at4 .ensures) ∙ not-false (c .before .before .before .starts-at4 .result) (c .before .before .if5 .left))
-    ∙ found-none (now (a .s)) (c .before .forall-end .result) (forall-head (drop (a .at + 7) (now (a .s)))) (c .if6 .taken) (c .before .forall-end .ensures)
+    ∙ found-none (now (a .s)) (c .before .forall-end .result) (read-forall (drop (a .at + 7) (now (a .s)))) (c .if6 .taken) (c .before .forall-end .ensures)
 
 returns-7 : tie.Need-returns-7
 returns-7 c =
@@ -117,7 +117,7 @@ returns-7 c =
     let f = sym (c .before .before .before .before .before .before .before .before .before .starts-at2 .ensures) ∙ c .before .before .before .before .before .before .before .before .if3 .left in
     let g = sym (c .before .before .before .before .before .before .starts-at3 .ensures) ∙ c .before .before .before .before .before .if4 .left in
     let h = sym (c .before .before .before .starts-at4 .ensures) ∙ not-false (c .before .before .before .starts-at4 .result) (c .before .before .if5 .left) in
-    forall-piece (now (a .s)) (c .before .forall-end .result) (c .if6 .left) (head (drop (a .at) (now (a .s)))) (a .at + 7)
+    forall-piece (now (a .s)) (c .before .forall-end .result) (c .if6 .left) (read-token (drop (a .at) (now (a .s)))) (a .at + 7)
     (head-forall (now (a .s)) (a .at) e f g h) (c .before .forall-end .ensures)
 
 pub piece-at-spec : {M : Type 1} → statement M

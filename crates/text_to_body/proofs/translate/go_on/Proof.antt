@@ -4,7 +4,7 @@ use mathlib.Core.Path.{_≡_, refl, _∙_}
 use native.Mathlib.Omega.{arith}
 use denote.Ref.{now}
 use lib.ListN.{length, take, drop}
-use Rattle.text_to_body.specs.Points.{answer-at, left, Within}
+use Rattle.text_to_body.specs.Cursors.{answer-at, left, CursorFits}
 use Rattle.text_to_body.proofs.Texts.{settles}
 use Rattle.text_to_body.specs.Work.{scope-of}
 use Rattle.text_to_body.proofs.translate.go_on.Statement.{statement}
@@ -12,7 +12,7 @@ use Rattle.text_to_body.proofs.translate.go_on.Tie as tie
 
 abbrev Inv-loop : tie.InvT-loop
 Inv-loop s frames₀ names₀ out₀ p₀ frames names out p =
-    (answer-at s frames₀ names₀ out₀ p₀ ≡ answer-at s frames names out p) × Within s p × (length frames ≡ length frames₀) × (length names ≡ length names₀) × (length out ≡ length out₀)
+    (answer-at s frames₀ names₀ out₀ p₀ ≡ answer-at s frames names out p) × CursorFits s p × (length frames ≡ length frames₀) × (length names ≡ length names₀) × (length out ≡ length out₀)
 
 abbrev μ-loop : tie.MeasureT-loop
 μ-loop s frames₀ names₀ out₀ p₀ frames names out p = left s p

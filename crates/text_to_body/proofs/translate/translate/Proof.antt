@@ -3,7 +3,7 @@
 use mathlib.Core.Path.{refl}
 use native.Mathlib.Omega.{arith}
 use denote.Ref.{now}
-use Rattle.text_to_body.specs.Points.{to-come}
+use Rattle.text_to_body.specs.Cursors.{to-come}
 use Rattle.text_to_body.specs.Work.{scope-of}
 use Rattle.text_to_body.proofs.Texts.{too-long, no-start, start-inside, start-least, from-start, translated-none, translated-at}
 use borrow.Author.Needs.{needs}

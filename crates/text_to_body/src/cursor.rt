@@ -1,11 +1,11 @@
-// A point of the way through a text.
+// A cursor in a text.
 ghost use mathlib.Core.Path.{_≡_};
 ghost use Prim.Native.Nat.{suc, _≤_};
-ghost use Rattle.text_to_body.specs.Points.{Nowhere};
+ghost use Rattle.text_to_body.specs.Cursors.{Nowhere};
 
 // Before a formula (mode 0), after one (1), at the text's end with nothing open (2), or misspelt (3); the position in the text, how many frames are
 // open, how many names are in scope, how many bytes of the body are written, and whether all names so far are bound.
-pub(crate) struct Point {
+pub(crate) struct Cursor {
     pub mode: u8,
     pub at: usize,
     pub depth: usize,
@@ -15,10 +15,10 @@ pub(crate) struct Point {
 }
 
 // Where a misspelt text leads.
-pub(crate) fn misspelt() -> Point
+pub(crate) fn misspelt() -> Cursor
     ensures { λ r. ⌜ Nowhere r ⌝ }
 {
-    Point {
+    Cursor {
         mode: 3,
         at: 0,
         depth: 0,

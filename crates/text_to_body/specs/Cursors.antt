@@ -1,4 +1,4 @@
--- A point of the way through a text: what will be answered from there, and what a step does.
+-- A cursor in a text: what will be answered from there, and what a step does.
 use Prim.Native.Nat.{ℕ, zero, suc, _+_, _-_, _*_, _≤_, _<_}
 use mathlib.Core.Path.{_≡_}
 use mathlib.Core.Bool.{Bool, cond}
@@ -7,32 +7,32 @@ use lib.Dec.{ltb, eqb}
 use lib.ListN.{length, drop, take}
 use Rattle.refusal.specs.Answer.{Answer, refused, accepted}
 use Rattle.notation.specs.Bodies.{if-bound, translated, length-of}
-use Rattle.text_to_body.specs.Work.{before, after, scope-of}
-use Rattle.text_to_body.specs.declared.point.Point.{Point}
+use Rattle.text_to_body.specs.Work.{before-formula, after-formula, scope-of}
+use Rattle.text_to_body.specs.declared.cursor.Cursor.{Cursor}
 
 -- By the mode: 0 before a formula, 1 after one, 2 at the text's end with nothing open, 3 where the text is misspelt.
 unfoldable pub to-come : ℕ → ℕ → List ℕ → List (List ℕ) → List ℕ → Bool → List ℕ → Answer (List ℕ)
-to-come zero d frames scope l u s = before d frames scope l u s
-to-come (suc zero) d frames scope l u s = after d frames scope l u s
+to-come zero d frames scope l u s = before-formula d frames scope l u s
+to-come (suc zero) d frames scope l u s = after-formula d frames scope l u s
 to-come (suc (suc zero)) d frames scope l u s = if-bound u l
 to-come (suc (suc (suc n))) d frames scope l u s = refused 25
 
--- What will be answered, from the text, the open frames, where the names in scope stand, the bytes written and the point.
-abbrev pub answer-at : List ℕ → List ℕ → List ℕ → List ℕ → Point → Answer (List ℕ)
+-- What will be answered, from the text, the open frames, where the names in scope stand, the bytes written and the cursor.
+abbrev pub answer-at : List ℕ → List ℕ → List ℕ → List ℕ → Cursor → Answer (List ℕ)
 answer-at s frames names out p =
     to-come (p .mode) (p .depth) frames (scope-of s names (p .scope)) (take (p .written) out) (p .resolved) (drop (p .at) s)
 
 -- Where the text is misspelt.
-abbrev pub Nowhere : Point → Type 0
+abbrev pub Nowhere : Cursor → Type 0
 Nowhere r = (r .mode ≡ 3) × (r .at ≡ 0) × (r .depth ≡ 0) × (r .scope ≡ 0) × (r .written ≡ 0)
 
 -- How far it is to the end: each step reads a byte or takes a frame away, and opens one frame at most.
-unfoldable pub left : List ℕ → Point → ℕ
+unfoldable pub left : List ℕ → Cursor → ℕ
 left s p = cond (ltb (p .mode) 2) (suc (2 * (length s - p .at) + p .depth)) 0
 
 -- A frame takes at least one byte of text, and so does a byte of the body. A name takes 19, the rule's own 12; that is 16 each after 4 more, so that
 -- 256 names are enough.
-pub record Within (s : List ℕ) (p : Point) : Type 0 where
+pub record CursorFits (s : List ℕ) (p : Cursor) : Type 0 where
   pub place : p .at ≤ length s
   pub frames-fit : p .depth ≤ p .at
   pub bytes-fit : p .written ≤ p .at
@@ -45,23 +45,23 @@ pub record Rooms (s frames names out : List ℕ) : Type 0 where
   pub names-room : 256 ≤ length names
   pub bytes-room : 4096 ≤ length out
 
--- What a step does: the answer stays, the way is shorter, and the point stays within the text.
-pub record Moved (s frames names out : List ℕ) (p : Point) (frames′ names′ out′ : List ℕ) (r : Point) : Type 0 where
+-- What a step does: the answer stays, the way is shorter, and the cursor stays within the text.
+pub record Moved (s frames names out : List ℕ) (p : Cursor) (frames′ names′ out′ : List ℕ) (r : Cursor) : Type 0 where
   pub same-answer : answer-at s frames names out p ≡ answer-at s frames′ names′ out′ r
   pub shorter : left s r < left s p
-  pub within : Within s r
+  pub within : CursorFits s r
   pub frames-kept : length frames′ ≡ length frames
   pub names-kept : length names′ ≡ length names
   pub bytes-kept : length out′ ≡ length out
 
--- The answer of a point past the last step, from its mode, whether all names are bound, and the bytes.
-unfoldable pub settled : ℕ → Bool → List ℕ → Answer (List ℕ)
-settled mode u l = cond (eqb mode 2) (if-bound u l) (refused 25)
+-- The answer of a cursor past the last step, from its mode, whether all names are bound, and the bytes.
+unfoldable pub answer-at-end : ℕ → Bool → List ℕ → Answer (List ℕ)
+answer-at-end mode u l = cond (eqb mode 2) (if-bound u l) (refused 25)
 
--- A point past the last step, where `x` is what was to be answered.
-pub record Reached (x : Answer (List ℕ)) (out : List ℕ) (r : Point) : Type 0 where
+-- A cursor past the last step, where `x` is what was to be answered.
+pub record Reached (x : Answer (List ℕ)) (out : List ℕ) (r : Cursor) : Type 0 where
   pub past : 2 ≤ r .mode
-  pub answer : x ≡ settled (r .mode) (r .resolved) (take (r .written) out)
+  pub answer : x ≡ answer-at-end (r .mode) (r .resolved) (take (r .written) out)
   pub room : r .written ≤ length out
 
 -- A text's body stands at the start of `out`, if it has one; so many bytes, or 25 or 26, are answered.

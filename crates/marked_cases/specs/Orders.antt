@@ -9,7 +9,7 @@ use Rattle.sheet.specs.Sheet.{rule-body}
 use Rattle.rule.specs.Formula.{flag}
 use Rattle.rule.specs.Body.{body}
 use Rattle.rule.specs.Figures.{body-figures}
-use Rattle.proving_ground.specs.Marked.{sized, example}
+use Rattle.marked_cases.specs.Marked.{figures-are, example}
 
 -- Flag 0 of variable v; a range and its body.
 abbrev pub up-at : ℕ → List ℕ
@@ -49,7 +49,7 @@ nested (suc n) = over start (var 0 0 0) (nested n)
 
 pub record Limits : Type 0 where
   -- Y in X-4,095..X-4,095, inside it Z in Y-1..Y-1: history 4,096; Y-2..Y-2: 14
-  pub history-within : body-figures (over (var 0 1 0xF0) (var 0 1 0xF0) (over (var 1 0xFF 0xFF) (var 1 0xFF 0xFF) (up-at 2))) ≡ sized 4096 0 5
+  pub history-within : body-figures (over (var 0 1 0xF0) (var 0 1 0xF0) (over (var 1 0xFF 0xFF) (var 1 0xFF 0xFF) (up-at 2))) ≡ figures-are 4096 0 5
   pub history-above : body-figures (over (var 0 1 0xF0) (var 0 1 0xF0) (over (var 1 0xFE 0xFF) (var 1 0xFE 0xFF) (up-at 2))) ≡ refused 14
   -- offset 4,096: 8, on either side of either bound
   pub offset-above : body (over (var 0 0 0x10) (var 0 0 0x10) (up-at 1)) ≡ refused 8
@@ -57,14 +57,14 @@ pub record Limits : Type 0 where
   pub second-offset-above : body (over (var 0 0 0) (var 0 0 0x10) (up-at 1)) ≡ refused 8
   pub offsets-within : body-figures (over (var 0 1 0xF0) (var 0 0xFF 0x0F) (up-at 1)) ≡ refused 12
   -- 64 formulas and 4 nested quantifiers are read, one more is not
-  pub formulas-within : body-figures (nots 63) ≡ sized 0 0 1
+  pub formulas-within : body-figures (nots 63) ≡ figures-are 0 0 1
   pub formulas-above : body (nots 64) ≡ refused 9
-  pub pairs-within : body-figures (besides 31) ≡ sized 0 0 32
+  pub pairs-within : body-figures (besides 31) ≡ figures-are 0 0 32
   pub pairs-above : body (besides 32) ≡ refused 9
   pub nested-within : body-figures (nested 4) ≡ refused 13
   pub nested-above : body (nested 5) ≡ refused 9
   -- W = 0 leaves one cell, whatever the body needs: X+1..X over X-4,095..X, whose own cells are 4,097
-  pub none-over-many : body-figures (over (var 0 1 0) (var 0 0 0) (over (var 0 1 0xF0) (var 0 0 0) (up-at 2))) ≡ sized 4095 0 2
+  pub none-over-many : body-figures (over (var 0 1 0) (var 0 0 0) (over (var 0 1 0xF0) (var 0 0 0) (up-at 2))) ≡ figures-are 4095 0 2
 
 pub record Orders : Type 0 where
   pub empty : body [] ≡ refused 4

@@ -14,8 +14,8 @@ use Rattle.rule.specs.Figures.{figures, body-figures}
 use Rattle.rule.specs.Meaning.{rule}
 
 -- The answer "history h, delay d, cells c".
-abbrev pub sized : ℕ → ℕ → ℕ → Answer Figures
-sized h d c = accepted (record { history = h; delay = d; cells = c })
+abbrev pub figures-are : ℕ → ℕ → ℕ → Answer Figures
+figures-are h d c = accepted (record { history = h; delay = d; cells = c })
 
 -- The figures of a rule of a sheet: 1 to 15, 23, 24.
 abbrev pub sheet-figures : List ℕ → ℕ → Answer Figures
@@ -44,21 +44,21 @@ example-rule = negate (beside (flag 0 0) (all-up (X-1- 0) (X+ 2)))
 pub record Marked : Type 0 where
   -- "is the example of document 000: history 1, delay 2, cells 21"
   pub example-is : and-then (rule-body example 0) body ≡ accepted example-rule
-  pub example-figures : sheet-figures example 0 ≡ sized 1 2 21
+  pub example-figures : sheet-figures example 0 ≡ figures-are 1 2 21
   -- "For all Y from X to X+10, for all Z from X to X, flag 0 at Z": history 10, delay 10, cells 385
-  pub later-start : figures (forall (X+ 0) (X+ 10) (forall (X+ 0) (X+ 0) (flag 2 0))) ≡ sized 10 10 385
+  pub later-start : figures (forall (X+ 0) (X+ 10) (forall (X+ 0) (X+ 0) (flag 2 0))) ≡ figures-are 10 10 385
   -- A for X..X+2, B for X-1..X, flag bodies: "A then B" 3, 2, 18; "A beside B" 1, 2, 27
-  pub A-then-B : figures (then (all-up (X+ 0) (X+ 2)) (all-up (X-1- 0) (X+ 0))) ≡ sized 3 2 18
-  pub A-beside-B : figures (beside (all-up (X+ 0) (X+ 2)) (all-up (X-1- 0) (X+ 0))) ≡ sized 1 2 27
+  pub A-then-B : figures (then (all-up (X+ 0) (X+ 2)) (all-up (X-1- 0) (X+ 0))) ≡ figures-are 3 2 18
+  pub A-beside-B : figures (beside (all-up (X+ 0) (X+ 2)) (all-up (X-1- 0) (X+ 0))) ≡ figures-are 1 2 27
   -- 0..X: 13. X..0: accepted, 0, 0, 3. X..infinity: 11. infinity..X: 0, 0, 2
   pub from-zero : figures (all-up (origin (pos 0)) (X+ 0)) ≡ refused 13
-  pub to-zero : figures (all-up (X+ 0) (origin (pos 0))) ≡ sized 0 0 3
+  pub to-zero : figures (all-up (X+ 0) (origin (pos 0))) ≡ figures-are 0 0 3
   pub to-infinity : figures (all-up (X+ 0) infinity) ≡ refused 11
-  pub from-infinity : figures (all-up infinity (X+ 0)) ≡ sized 0 0 2
+  pub from-infinity : figures (all-up infinity (X+ 0)) ≡ figures-are 0 0 2
   -- X..X+62: 4,095 cells; X..X+63: 15. X+255..X+255: 768 cells; X+256..X+256: 12
-  pub cells-within : figures (all-up (X+ 0) (X+ 62)) ≡ sized 0 62 4095
+  pub cells-within : figures (all-up (X+ 0) (X+ 62)) ≡ figures-are 0 62 4095
   pub cells-above : figures (all-up (X+ 0) (X+ 63)) ≡ refused 15
-  pub delay-within : figures (all-up (X+ 255) (X+ 255)) ≡ sized 0 255 768
+  pub delay-within : figures (all-up (X+ 255) (X+ 255)) ≡ figures-are 0 255 768
   pub delay-above : figures (all-up (X+ 256) (X+ 256)) ≡ refused 12
   -- X-3..X-1 at tick 0: true at step 0, whatever the flags and however many ticks there are
   pub before-the-stream : (flags : ℕ → ℕ) (t : ℕ) → rule (all-up (X-1- 2) (X-1- 0)) flags t 0 ≡ Decided True 0

@@ -1,4 +1,4 @@
--- `instances::batch::take_flags` meets its contract. Assumes nothing.
+-- `instances::batch::move_flags` meets its contract. Assumes nothing.
 use Prim.Native.Nat.{_*_, _-_}
 use mathlib.Core.Path.{refl}
 use mathlib.Core.Logic.{inl, inr}
@@ -7,8 +7,8 @@ use lib.ListN.{length, take, drop}
 use Rattle.cell_runs.proofs.Rules.{table-short}
 use Rattle.cell_runs.proofs.Batches.{Under, under-start, under-ends, under-all, next-fits, taken-words, under-more}
 use borrow.Author.Needs.{needs}
-use Rattle.instances.proofs.batch.take_flags.Statement.{statement}
-use Rattle.instances.proofs.batch.take_flags.Tie as tie
+use Rattle.instances.proofs.batch.move_flags.Statement.{statement}
+use Rattle.instances.proofs.batch.move_flags.Tie as tie
 
 abbrev Inv-loop : tie.InvT-loop
 Inv-loop nodes figures tick live flags history₀ cells₀ report₀ half n i₀ pairs₀ still-open₀ history cells report i pairs still-open =
@@ -172,8 +172,8 @@ returns-2 c =
     let count = c .before .before .flags-left .ensures in
     under-all (s₀ .args .nodes .now) (s₀ .args .figures) (s₀ .args .tick) (s₀ .args .live) (s₀ .args .flags .now) (s₀ .args .history .now) (s₀ .args .cells .now) (s₀ .args .report .now) (l .history) (l .cells) (l .report) (l .i) (l .pairs) (l .still-open) (l .inv) (c .before .before .flags-left .result) count (omega (arith, c .loop-test .left))
 
-pub take-flags-spec : {M : Type 1} → statement M
-take-flags-spec =
+pub move-flags-spec : {M : Type 1} → statement M
+move-flags-spec =
     tie.close
     (tie.spec
     Inv-loop

@@ -3,18 +3,18 @@
 use mathlib.Core.Path.{refl}
 use Rattle.refusal.specs.Answer.{and-then}
 use Rattle.words.specs.Words.{word}
-use Rattle.sheet.specs.Sheet.{has-contents, entry-fits, laid-out, offset, extent, rule-place, rule-body}
-use Rattle.rule.specs.Body.{require, signed, bound, require-bound, fixed, contents, head, one, two, parts, formula, formula-at, whole, body}
+use Rattle.sheet.specs.Sheet.{has-contents, entry-fits, laid-out, body-offset, extent, rule-place, rule-body}
+use Rattle.rule.specs.Body.{require, signed, bound, require-bound, fixed, after-code, head, one, two, parts, formula, formula-at, whole, body}
 use Rattle.rule.specs.Figures.{larger, plus, times, shift, at-tick, anywhere, bound-pair, range-pair, N, N-back, positions-from, width, delay, history, cells, needed, limit-cells, limit-history, limit-delay, figures, body-figures}
-use Rattle.rule.specs.Meaning.{opposite, after, both, up, place, up-to, positions, range, walk, seen, every, outcome, rule}
+use Rattle.rule.specs.Meaning.{opposite, after, both, up, point, up-to, positions, range, walk, seen, every, outcome, rule}
 use Rattle.rule.specs.Recording.{over-recording}
 use Rattle.rule.specs.Steps.{false-at, is-open, passing, report, live}
-use Rattle.proving_ground.specs.Marked.{Marked}
-use Rattle.proving_ground.specs.Orders.{nots, besides, nested, Limits, Orders, Bounds}
-use Rattle.proving_ground.specs.Runs.{Run, Recorded}
+use Rattle.marked_cases.specs.Marked.{Marked}
+use Rattle.marked_cases.specs.Orders.{nots, besides, nested, Limits, Orders, Bounds}
+use Rattle.marked_cases.specs.Runs.{ExampleRun, Recorded}
 
 pub marked : Marked
-unfolding and-then word has-contents entry-fits laid-out offset extent rule-place rule-body require signed bound require-bound fixed contents head one two parts formula formula-at whole body larger plus times shift at-tick anywhere bound-pair range-pair N N-back positions-from width delay history cells needed limit-cells limit-history limit-delay figures body-figures opposite after both up place up-to positions range walk seen every outcome rule
+unfolding and-then word has-contents entry-fits laid-out body-offset extent rule-place rule-body require signed bound require-bound fixed after-code head one two parts formula formula-at whole body larger plus times shift at-tick anywhere bound-pair range-pair N N-back positions-from width delay history cells needed limit-cells limit-history limit-delay figures body-figures opposite after both up point up-to positions range walk seen every outcome rule
 marked =
     record {
       example-is = refl;
@@ -34,7 +34,7 @@ marked =
     }
 
 pub limits : Limits
-unfolding and-then word has-contents entry-fits laid-out offset extent rule-place rule-body require signed bound require-bound fixed contents head one two parts formula formula-at whole body larger plus times shift at-tick anywhere bound-pair range-pair N N-back positions-from width delay history cells needed limit-cells limit-history limit-delay figures body-figures nots besides nested
+unfolding and-then word has-contents entry-fits laid-out body-offset extent rule-place rule-body require signed bound require-bound fixed after-code head one two parts formula formula-at whole body larger plus times shift at-tick anywhere bound-pair range-pair N N-back positions-from width delay history cells needed limit-cells limit-history limit-delay figures body-figures nots besides nested
 limits =
     record {
       history-within = refl;
@@ -53,7 +53,7 @@ limits =
     }
 
 pub orders : Orders
-unfolding and-then word has-contents entry-fits laid-out offset extent rule-place rule-body require signed bound require-bound fixed contents head one two parts formula formula-at whole body larger plus times shift at-tick anywhere bound-pair range-pair N N-back positions-from width delay history cells needed limit-cells limit-history limit-delay figures body-figures
+unfolding and-then word has-contents entry-fits laid-out body-offset extent rule-place rule-body require signed bound require-bound fixed after-code head one two parts formula formula-at whole body larger plus times shift at-tick anywhere bound-pair range-pair N N-back positions-from width delay history cells needed limit-cells limit-history limit-delay figures body-figures
 orders =
     record {
       empty = refl;
@@ -91,7 +91,7 @@ orders =
     }
 
 pub bounds : Bounds
-unfolding word require signed bound require-bound fixed contents head one two parts formula formula-at whole body
+unfolding word require signed bound require-bound fixed after-code head one two parts formula formula-at whole body
 bounds =
     record {
       start-byte = refl;
@@ -121,8 +121,8 @@ bounds =
       left-before-byte = refl;
     }
 
-pub run : Run
-unfolding opposite after both up place up-to positions range walk seen every outcome rule false-at is-open passing report live
+pub run : ExampleRun
+unfolding opposite after both up point up-to positions range walk seen every outcome rule false-at is-open passing report live
 run =
     record {
       step-0 = (refl, refl);
@@ -138,7 +138,7 @@ run =
     }
 
 pub evaluated : Recorded
-unfolding opposite after both up place up-to positions range walk seen every outcome rule over-recording
+unfolding opposite after both up point up-to positions range walk seen every outcome rule over-recording
 evaluated =
     record {
       tick-0 = refl;
