@@ -11,6 +11,11 @@ use nodes::TABLE_WORDS;
 use nodes::clear;
 use refusal::Refusal;
 use rule::Figures;
+use rule::LAST_TICK;
+use rule::MAX_HISTORY;
+
+// The bytes that a history can have at most.
+const LONGEST_HISTORY: usize = MAX_HISTORY as usize;
 
 // The opening of a rule with these figures: its history must have from the figure's bytes up to 4,096, and its table the needed cells.
 fn fit_opening(f: Figures, history: usize, table: usize) -> FigureAnswer
@@ -21,7 +26,7 @@ fn fit_opening(f: Figures, history: usize, table: usize) -> FigureAnswer
     if history < least {
         return FigureAnswer::Refused(Refusal::HistoryLength);
     }
-    if 4096 < history {
+    if LONGEST_HISTORY < history {
         return FigureAnswer::Refused(Refusal::HistoryLength);
     }
     let needed = 4 * f.cells as usize;
@@ -66,7 +71,7 @@ fn fit_step(
     if report < words {
         return FigureAnswer::Refused(Refusal::ReportTooShort);
     }
-    if tick == 4294967295 {
+    if tick == LAST_TICK {
         return FigureAnswer::Refused(Refusal::TicksUsedUp);
     }
     FigureAnswer::Sized(f)
@@ -104,7 +109,7 @@ pub fn admit_step(
 ) -> FigureAnswer
     ensures { λ r. ⌜ Admitted (now (body .entry)) opened tick history cells report r (now (nodes .exit)) ⌝ }
 {
-    if 4096 < opened {
+    if LONGEST_HISTORY < opened {
         clear(nodes);
         return FigureAnswer::Refused(Refusal::StateNotOpened);
     }

@@ -1,4 +1,4 @@
-// Sheets, the program `watch` over each of them with no flag byte: each refusal from 1 to 15, 23, 24, and rules just inside the limits. A case is a name
+// Sheets, the program `watch` over each of them with no flag byte: refusals 1, 2, 4 to 15, 23, 24, and rules just inside the limits. A case is a name
 // and a sheet. tests/oracle/watch.py works out the same.
 use outcome_text::text;
 

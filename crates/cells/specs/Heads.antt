@@ -3,7 +3,7 @@ use Prim.Native.Nat.{ℕ, _+_}
 use mathlib.Core.Bool.{cond}
 use lib.Dec.{eqb, leb}
 
--- The latest step, where the head's words are l and d.
+-- The latest step, where l leading positions are true and the head's word is d.
 unfoldable pub latest-of : ℕ → ℕ → ℕ → ℕ → ℕ
 latest-of p s l d = cond (eqb l 0) s (p + d)
 

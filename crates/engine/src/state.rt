@@ -3,10 +3,11 @@ ghost use mathlib.Core.Path.{_≡_};
 ghost use Prim.Native.Nat.{_≤_};
 ghost use lib.ListN.{length};
 ghost use Rattle.engine.specs.States.{fresh-code, blank-code, moved-code};
+use sheet::MAX_BODY;
 
 // The rule's body in the first `size` bytes, the length of the opened history, the tick to be taken, and how many ticks are live.
 pub struct State {
-    pub body: [u8; 512],
+    pub body: [u8; MAX_BODY],
     pub size: usize,
     pub opened: usize,
     pub next: u32,
@@ -18,7 +19,7 @@ pub(crate) fn fresh(body: &[u8], opened: usize) -> State
     requires { ⌜ length (now body) ≤ 512 ⌝ }
     ensures { λ r. ⌜ r ≡ fresh-code (now (body .entry)) opened ⌝ }
 {
-    let mut room = [0u8; 512];
+    let mut room = [0u8; MAX_BODY];
     bytes::copy(body, &mut room);
     State {
         body: room,
@@ -34,7 +35,7 @@ pub(crate) fn blank() -> State
     ensures { λ r. ⌜ r ≡ blank-code ⌝ }
 {
     State {
-        body: [0u8; 512],
+        body: [0u8; MAX_BODY],
         size: 0,
         opened: 0,
         next: 0,

@@ -8,6 +8,7 @@ use crate::state::moved;
 use instances::BatchAnswer;
 use instances::StepAnswer;
 use refusal::Refusal;
+use sheet::MAX_BODY;
 
 // The state after a step stands beside its answer; a refused step gives its own state back.
 pub struct StepResult {
@@ -33,7 +34,7 @@ pub fn step(
     ensures { λ r. ⌜ StepPromise Stands by-value state (step-of (step-answer (state-of state) (r .answer)) flag (now (history .entry)) (now (cells .entry)) (now (report .entry)) (now (history .exit)) (now (cells .exit)) (now (report .exit))) (r .state) ⌝ }
 {
     let size = state.size;
-    if 512 < size {
+    if MAX_BODY < size {
         return StepResult {
             answer: StepAnswer::Refused(Refusal::StateNotOpened),
             state,
@@ -67,7 +68,7 @@ pub fn steps(
     ensures { λ r. ⌜ BatchPromise Stands by-value state (batch-of (batch-answer (state-of state) (r .answer)) (now (flags .entry)) (now (history .entry)) (now (cells .entry)) (now (report .entry)) (now (history .exit)) (now (cells .exit)) (now (report .exit))) (r .state) ⌝ }
 {
     let size = state.size;
-    if 512 < size {
+    if MAX_BODY < size {
         return BatchResult {
             answer: BatchAnswer::Refused(Refusal::StateNotOpened),
             state,

@@ -12,6 +12,8 @@ use nodes::TABLE_WORDS;
 use nodes::clear;
 use refusal::Refusal;
 use rule::Figures;
+use rule::MAX_DELAY;
+use rule::MAX_HISTORY;
 use rule::Size;
 
 // A body's figures, or its refusal.
@@ -51,7 +53,7 @@ fn limit_history(h: Size, d: u16, c: u16) -> FigureAnswer
     match h {
         Size::Unbounded => FigureAnswer::Refused(Refusal::HistoryInfinite),
         Size::Finite(n) => {
-            if 4096 < n {
+            if MAX_HISTORY < n {
                 return FigureAnswer::Refused(Refusal::HistoryAboveLimit);
             }
             limit_cells(n, d, rule_cells(d, c))
@@ -66,7 +68,7 @@ pub(crate) fn limit_delay(h: Size, d: Size, c: u16) -> FigureAnswer
     match d {
         Size::Unbounded => FigureAnswer::Refused(Refusal::DelayInfinite),
         Size::Finite(n) => {
-            if 255 < n {
+            if MAX_DELAY < n {
                 return FigureAnswer::Refused(Refusal::DelayAboveLimit);
             }
             limit_history(h, n as u16, c)

@@ -350,14 +350,14 @@ fn advance_beside(
     ensures { λ r. ⌜ Advanced (beside-node (getD (now (nodes .entry)) (i + 9) 0) (tree-at left (now (nodes .entry)) (i + 12)) (tree-at left (now (nodes .entry)) (getD (now (nodes .entry)) (i + 7) 0))) (now (history .entry)) flag (env-of m (now (pos .entry)) (now (byte .entry))) s t (now (run .entry)) r (now (run .exit)) ⌝ }
 {
     let z = run.len();
-    let mid = 4 + node_word(nodes, i, FIRST_WORDS) as usize;
+    let mid = CELL_WORDS + node_word(nodes, i, FIRST_WORDS) as usize;
     let x = advance_part(
         nodes,
         left,
         i + NODE_WORDS,
         run,
         0,
-        4,
+        CELL_WORDS,
         mid,
         history,
         flag,

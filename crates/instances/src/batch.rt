@@ -12,9 +12,10 @@ use figures::FigureAnswer;
 use nodes::TABLE_WORDS;
 use refusal::Refusal;
 use rule::Figures;
+use rule::LAST_TICK;
 
-// How many ticks have a number.
-const TICKS: u32 = 4294967295;
+// How many ticks a state can take: those below the last number.
+const TICKS: u32 = LAST_TICK;
 
 // The words that one step of any rule can report.
 const REPORT_WORDS: usize = 256;

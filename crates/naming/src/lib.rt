@@ -37,7 +37,7 @@ fn has_second_part(code: u32) -> bool
     code == BESIDE_CODE
 }
 
-// The formula at word i, inside m quantifiers, with `left` formulas left: at a flag, or in a bound of a quantifier inside. It is that of any table.
+// The formula at word i, inside m quantifiers, with `left` formulas left: at a flag, or in a bound of a quantifier inside. This holds of every table, also of one that no body filled.
 pub fn names(nodes: &[u32], left: u64, m: usize, i: usize, v: u32) -> bool
     ensures { λ r. ⌜ r ≡ names v (formula-in left (now (nodes .entry)) m i) ⌝ }
 {
