@@ -76,8 +76,8 @@ fn run_sheet(sheet: &[u8]) -> bool {
     let place = sheet::find_rule(sheet, 0);
     match place {
         Found::Refused(x) => print_refusal(x),
-        Found::At { start: _, size: _ } => {
-            let a = figures::figures(sheet::rule_body(sheet, 0));
+        Found::At { start, size } => {
+            let a = figures::figures(&sheet[start..start + size]);
             match a {
                 FigureAnswer::Refused(x) => print_refusal(x),
                 FigureAnswer::Sized(f) => watch_rule(sheet, f),
