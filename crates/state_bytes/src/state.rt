@@ -35,7 +35,7 @@ fn load_body(state: &[u8], body: &mut [u8])
     bytes::copy(&state[..n], body);
 }
 
-// The engine's state that the bytes hold, with this next tick.
+// The engine's state that the bytes hold, with this next tick: a state's is of 32 bits and theirs of 64, so the caller has read it and tested that it fits.
 pub fn load(state: &[u8; 544], next: u32) -> State
     ensures { λ r. ⌜ r ≡ moved-code (loaded (now (state .entry))) next (number-at (now (state .entry)) 536) ⌝ }
 {
