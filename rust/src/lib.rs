@@ -62,7 +62,7 @@ mod watch;
 /// The version of this crate, which is that of the library.
 ///
 /// ```
-/// assert_eq!(station_watch::VERSION, "0.4.2");
+/// assert_eq!(station_watch::VERSION, "0.4.3");
 /// ```
 pub const VERSION: &str = env!("CARGO_PKG_VERSION");
 
