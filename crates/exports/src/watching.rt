@@ -8,13 +8,15 @@ use engine::OpenAnswer;
 use instances::BatchAnswer;
 use instances::StepAnswer;
 use refusal::Refusal;
+use rule::LAST_TICK;
+use state_bytes::STATE_BYTES;
 use state_bytes::load;
 use state_bytes::next_tick;
 use state_bytes::store;
 use state_bytes::store_progress;
 
-// The last tick number; a state can have it next, but no step takes it.
-const LAST_TICK: usize = 4294967295;
+// The highest next tick that a state can have.
+const LAST_NEXT: usize = LAST_TICK as usize;
 
 // Opens a rule of a sheet over a lent history, which is zeroed, and a lent cell table, which is only measured: refusals 1 to 15, 23, 24,
 // 17, 18.
@@ -24,7 +26,7 @@ pub extern "C" fn sw_open(
     rule: usize,
     history: &mut [u8],
     cells: &[u32],
-    state: &mut [u8; 544],
+    state: &mut [u8; STATE_BYTES],
 ) -> u32
     ensures { λ n. ⌜ OpenPromise Stands in-bytes (now (state .entry)) (opening-of (answered n (state-in (now (state .exit)))) (now (sheet .entry)) rule (now (history .entry)) (now (cells .entry)) (now (history .exit))) (now (state .exit)) ⌝ }
 {
@@ -42,7 +44,7 @@ pub extern "C" fn sw_open(
 // Takes one flag byte: refusals 21, 17 to 20.
 #[no_mangle]
 pub extern "C" fn sw_step(
-    state: &mut [u8; 544],
+    state: &mut [u8; STATE_BYTES],
     flag: u8,
     history: &mut [u8],
     cells: &mut [u32],
@@ -55,7 +57,7 @@ pub extern "C" fn sw_step(
     ensures { λ n. ⌜ KeptIfRefused n (now (live .entry)) (now (live .exit)) ⌝ }
 {
     let tick = next_tick(state);
-    if LAST_TICK < tick {
+    if LAST_NEXT < tick {
         return refusal::number(Refusal::StateNotOpened);
     }
     let stepped = engine::step(load(state, tick as u32), flag, history, cells, report);
@@ -75,7 +77,7 @@ pub extern "C" fn sw_step(
 // 2 * (delay + 1) report words are left, and where the tick numbers end; where its first step is refused by 21, 17, 18 or 20, it is refused itself.
 #[no_mangle]
 pub extern "C" fn sw_steps(
-    state: &mut [u8; 544],
+    state: &mut [u8; STATE_BYTES],
     flags: &[u8],
     history: &mut [u8],
     cells: &mut [u32],
@@ -90,7 +92,7 @@ pub extern "C" fn sw_steps(
     ensures { λ n. ⌜ KeptIfRefused n (now (live .entry)) (now (live .exit)) ⌝ }
 {
     let tick = next_tick(state);
-    if LAST_TICK < tick {
+    if LAST_NEXT < tick {
         return refusal::number(Refusal::StateNotOpened);
     }
     let stepped = engine::steps(load(state, tick as u32), flags, history, cells, report);

@@ -2,6 +2,9 @@
 mod number_bytes;
 mod state;
 
+// The bytes of a state.
+pub const STATE_BYTES: usize = 544;
+
 pub use state::load;
 pub use state::next_tick;
 pub use state::store;

@@ -5,12 +5,14 @@ ghost use lib.ListN.{length, take};
 ghost use Rattle.engine.specs.States.{moved-code};
 ghost use Rattle.state_bytes.specs.Numbers.{number-at};
 ghost use Rattle.state_bytes.specs.States.{loaded, stored, moved-bytes};
+use crate::STATE_BYTES;
 use crate::number_bytes::number_at;
 use crate::number_bytes::put_number;
 use engine::State;
+use sheet::MAX_BODY;
 
-// Where the numbers of a state lie, after the 512 bytes for its body.
-const SIZE_AT: usize = 512;
+// Where the numbers of a state lie, after the bytes for its body.
+const SIZE_AT: usize = MAX_BODY;
 
 const OPENED_AT: usize = 520;
 
@@ -19,7 +21,7 @@ const NEXT_AT: usize = 528;
 const LIVE_AT: usize = 536;
 
 // The next tick that the bytes hold; it may be above every tick that a state of the engine can have.
-pub fn next_tick(state: &[u8; 544]) -> usize
+pub fn next_tick(state: &[u8; STATE_BYTES]) -> usize
     ensures { λ r. ⌜ r ≡ number-at (now (state .entry)) 528 ⌝ }
     ensures { λ _. ⌜ length (now (state .entry)) ≡ 544 ⌝ }
 {
@@ -36,10 +38,10 @@ fn load_body(state: &[u8], body: &mut [u8])
 }
 
 // The engine's state that the bytes hold, with this next tick: a state's is of 32 bits and theirs of 64, so the caller has read it and tested that it fits.
-pub fn load(state: &[u8; 544], next: u32) -> State
+pub fn load(state: &[u8; STATE_BYTES], next: u32) -> State
     ensures { λ r. ⌜ r ≡ moved-code (loaded (now (state .entry))) next (number-at (now (state .entry)) 536) ⌝ }
 {
-    let mut body = [0u8; 512];
+    let mut body = [0u8; MAX_BODY];
     load_body(state, &mut body);
     State {
         body,
@@ -51,7 +53,7 @@ pub fn load(state: &[u8; 544], next: u32) -> State
 }
 
 // Stores a state.
-pub fn store(state: &mut [u8; 544], s: State)
+pub fn store(state: &mut [u8; STATE_BYTES], s: State)
     ensures { λ _. ⌜ now (state .exit) ≡ stored s ⌝ }
 {
     let body = s.body;
@@ -63,7 +65,7 @@ pub fn store(state: &mut [u8; 544], s: State)
 }
 
 // Stores another next tick and live count.
-pub fn store_progress(state: &mut [u8; 544], next: usize, live: usize)
+pub fn store_progress(state: &mut [u8; STATE_BYTES], next: usize, live: usize)
     ensures { λ _. ⌜ now (state .exit) ≡ moved-bytes (now (state .entry)) next live ⌝ }
 {
     put_number(state, NEXT_AT, next);
