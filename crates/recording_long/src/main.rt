@@ -23,7 +23,7 @@ fn nested() {
 }
 
 // Y from X to X+3, Z from 0 to 2, W from 0 on, of which only W is named: the last tick alone is down.
-fn wide(flags: &[u8]) {
+fn short_unnamed_ranges(flags: &[u8]) {
     let body =
         b"\x05\x02\x00\x00\x00\x02\x00\x03\x00\x05\x00\x00\x00\x00\x00\x00\x02\x00\x05\x00\x00\x00\x00\x01\x00\x00\x00\x01\x03\x00";
     outcome_text::outcome(body, flags, 0);
@@ -56,6 +56,6 @@ fn main() {
     let longer = io::large_buffer();
     outcome_text::outcome(onward, &longer, 0);
     nested();
-    wide(&flags);
+    short_unnamed_ranges(&flags);
     deep();
 }

@@ -11,6 +11,7 @@ use crate::cursor::misspelt;
 use crate::scope::put;
 use text_pieces::joint_end;
 use text_pieces::starts_at;
+use words::word_value;
 
 // The code of the connective at a position: 03 for "&&", 04 for "/\".
 fn joint_code(s: &[u8], at: usize) -> u8
@@ -20,13 +21,6 @@ fn joint_code(s: &[u8], at: usize) -> u8
         return 3;
     }
     4
-}
-
-// A frame as a number of the machine's width.
-fn wide(frame: u16) -> usize
-    ensures { λ r. ⌜ r ≡ frame ⌝ }
-{
-    frame as usize
 }
 
 // One less, and 0 for 0.
@@ -121,7 +115,7 @@ pub(crate) fn end_formula(s: &[u8], frames: &mut [u16], out: &mut [u8], p: Curso
         return end_text(s, p);
     }
     let inner = p.depth - 1;
-    let top = wide(frames[inner]);
+    let top = word_value(frames[inner]);
     if top == 0 {
         return end_bracket(s, p);
     }

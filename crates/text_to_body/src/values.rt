@@ -8,20 +8,14 @@ ghost use Rattle.notation.specs.Reading.{run, read-offset, got};
 ghost use Rattle.notation.specs.Bodies.{value-on, offset-word};
 use text_pieces::is_between;
 use text_pieces::starts_at;
-
-// A byte as a number of the machine's width.
-fn wide(c: u8) -> usize
-    ensures { λ r. ⌜ (r ≡ c) × (r < 256) ⌝ }
-{
-    c as usize
-}
+use words::byte_value;
 
 // The number with one more digit, in 16 bits.
 fn with_digit(n: usize, c: u8) -> usize
     requires { ⌜ (n < 65536) × (48 ≤ c) ⌝ }
     ensures { λ r. ⌜ (r ≡ (n * 10 + (c - 48)) % 65536) × (r < 65536) ⌝ }
 {
-    (n * 10 + (wide(c) - 48)) % 65536
+    (n * 10 + (byte_value(c) - 48)) % 65536
 }
 
 // The number that the digits at a position say.

@@ -16,28 +16,28 @@ returns c = let a = c .before .before .before .before .before .before .args in
 sub-inner : tie.Need-sub-inner
 sub-inner c = search needs
 
-mul-wide : tie.Need-mul-wide
-mul-wide c = search needs
+mul-word-value : tie.Need-mul-word-value
+mul-word-value c = search needs
 
-slice-read-wide : tie.Need-slice-read-wide
-slice-read-wide c = search needs
+slice-read-word-value : tie.Need-slice-read-word-value
+slice-read-word-value c = search needs
 
-wide-requires : tie.Need-wide-requires
-wide-requires c κs = search needs
+word-value-requires : tie.Need-word-value-requires
+word-value-requires c κs = search needs
 
 end-bracket-requires : tie.Need-end-bracket-requires
 end-bracket-requires c κs = search needs
 
 returns-2 : tie.Need-returns-2
 returns-2 c = let a = c .before .before .before .before .before .before .before .before .before .before .args in
-    λ names. c .end-bracket .ensures (now (a .frames)) names (now (a .out)) (sym (c .before .before .wide .ensures) ∙ c .before .if2 .taken)
+    λ names. c .end-bracket .ensures (now (a .frames)) names (now (a .out)) (sym (c .before .before .word-value .ensures .0) ∙ c .before .if2 .taken)
 
 end-range-requires : tie.Need-end-range-requires
 end-range-requires c κs = search needs
 
 returns-3 : tie.Need-returns-3
 returns-3 c = let a = c .before .before .before .before .before .before .before .before .before .before .before .args in
-    λ names. c .end-range .ensures (now (a .s)) (now (a .frames)) names (now (a .out)) (c .before .before .before .before .before .before .before .before .before .before .before .pre .1) (sym (c .before .before .before .wide .ensures) ∙ c .before .if3 .taken)
+    λ names. c .end-range .ensures (now (a .s)) (now (a .frames)) names (now (a .out)) (c .before .before .before .before .before .before .before .before .before .before .before .pre .1) (sym (c .before .before .before .word-value .ensures .0) ∙ c .before .if3 .taken)
 
 end-first-requires : tie.Need-end-first-requires
 end-first-requires c κs = search needs
@@ -58,9 +58,9 @@ end-formula-spec =
     end-text-requires
     returns
     sub-inner
-    mul-wide
-    slice-read-wide
-    wide-requires
+    mul-word-value
+    slice-read-word-value
+    word-value-requires
     end-bracket-requires
     returns-2
     end-range-requires
