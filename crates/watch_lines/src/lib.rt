@@ -13,12 +13,7 @@ fn put_text(out: &mut [u8], at: usize, text: &[u8]) -> usize
     ensures { λ r. ⌜ r ≡ at + length (now (text .entry)) ⌝ }
     ensures { λ r. ⌜ now (out .exit) ≡ (take at (now (out .entry)) ++ now (text .entry)) ++ drop r (now (out .entry)) ⌝ }
 {
-    let mut i: usize = 0;
-    while i < text.len() {
-        out[at + i] = text[i];
-        i += 1;
-    }
-    at + i
+    at + bytes::copy(text, &mut out[at..])
 }
 
 // Puts a number's digits after the first `at` bytes.
