@@ -1,8 +1,6 @@
 // A formula of the node table as text.
 ghost use mathlib.Core.Path.{_≡_};
-ghost use mathlib.Core.Bool.{_||_};
 ghost use Prim.Native.Nat.{_≤_, _<_};
-ghost use lib.Dec.{eqb};
 ghost use lib.ListN.{length};
 ghost use Rattle.body_to_text.specs.Storing.{Wrote};
 ghost use Rattle.body_to_text.specs.Parts.{sign-text, range-at, part-place, Printed};
@@ -11,7 +9,6 @@ use crate::pieces::put_flag;
 use crate::pieces::put_name;
 use crate::store::put;
 use crate::store::put_word;
-use nodes::BESIDE_CODE;
 use nodes::CODE;
 use nodes::FLAG;
 use nodes::FORALL_CODE;
@@ -20,6 +17,7 @@ use nodes::NOT_CODE;
 use nodes::SECOND_PART;
 use nodes::THEN_CODE;
 use nodes::VARIABLE;
+use nodes::has_second_part;
 use nodes::node_word;
 
 // A formula's place in the node table: the formulas left there, the quantifiers around it, and its word.
@@ -39,16 +37,6 @@ fn part_at(p: Place, m: u32, i: usize) -> Place
         m,
         i,
     }
-}
-
-// "then" and "beside" have two parts.
-fn has_two_parts(code: u32) -> bool
-    ensures { λ r. ⌜ r ≡ (eqb code 3 || eqb code 4) ⌝ }
-{
-    if code == THEN_CODE {
-        return true;
-    }
-    code == BESIDE_CODE
 }
 
 // Stores the sign between two parts.
@@ -87,7 +75,7 @@ pub(crate) fn put_formula(out: &mut [u8], at: usize, nodes: &[u32], p: Place) ->
         let part = put(out, at, b'~');
         return put_formula(out, part, nodes, part_at(p, p.m, p.i + NODE_WORDS));
     }
-    if has_two_parts(code) {
+    if has_second_part(code) {
         let first = put(out, at, b'(');
         let sign = put_formula(out, first, nodes, part_at(p, p.m, p.i + NODE_WORDS));
         let second = put_sign(out, sign, code);

@@ -1,10 +1,7 @@
 // Whether a formula of the node table names a variable.
 ghost use mathlib.Core.Path.{_≡_};
-ghost use mathlib.Core.Bool.{_||_};
-ghost use lib.Dec.{eqb};
 ghost use Rattle.rule.specs.Naming.{bound-names, names};
 ghost use Rattle.nodes.specs.Table.{bound-at, formula-in};
-use nodes::BESIDE_CODE;
 use nodes::CODE;
 use nodes::FORALL_CODE;
 use nodes::INFINITY_KIND;
@@ -12,8 +9,8 @@ use nodes::NESTED;
 use nodes::NODE_WORDS;
 use nodes::NOT_CODE;
 use nodes::SECOND_PART;
-use nodes::THEN_CODE;
 use nodes::VARIABLE;
+use nodes::has_second_part;
 use nodes::node_word;
 
 // The bound whose words start at word j: only one of kind 2 has a variable.
@@ -27,17 +24,8 @@ fn bound_names(nodes: &[u32], j: usize, v: u32) -> bool
     node_word(nodes, j, 1) == v
 }
 
-// "then" and "beside" have two parts.
-fn has_second_part(code: u32) -> bool
-    ensures { λ r. ⌜ r ≡ (eqb code 3 || eqb code 4) ⌝ }
-{
-    if code == THEN_CODE {
-        return true;
-    }
-    code == BESIDE_CODE
-}
-
-// The formula at word i, inside m quantifiers, with `left` formulas left: at a flag, or in a bound of a quantifier inside. This holds of every table, also of one that no body filled.
+// Whether the formula at word i, inside m quantifiers, with `left` formulas left, names v: at a flag, or in a bound of a quantifier inside. This holds of every
+// table, also of one that no body filled.
 pub fn names(nodes: &[u32], left: u64, m: usize, i: usize, v: u32) -> bool
     ensures { λ r. ⌜ r ≡ names v (formula-in left (now (nodes .entry)) m i) ⌝ }
 {

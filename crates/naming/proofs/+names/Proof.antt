@@ -16,9 +16,9 @@ use borrow.Fn.PlainCycle.{Measures, is, falls, and}
 use Rattle.naming.proofs.names.Reads as names
 use Rattle.naming.proofs.names.Kinds as names-kinds
 use Rattle.naming.proofs.+names.Lts-names as names-lts
+use Rattle.nodes.proofs.has_second_part.Reads as has-second-part-reads
 use Rattle.nodes.proofs.node_word.Reads as node-word-reads
 use Rattle.naming.proofs.bound_names.Reads as bound-names-reads
-use Rattle.naming.proofs.has_second_part.Reads as has-second-part-reads
 use Rattle.naming.proofs.+names.{statement}
 use Rattle.naming.proofs.+names.Tie.{close}
 

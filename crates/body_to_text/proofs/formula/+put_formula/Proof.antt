@@ -18,12 +18,12 @@ use borrow.Fn.PlainCycle.{Measures, is, falls, and}
 use Rattle.body_to_text.proofs.formula.put_formula.Reads as put-formula
 use Rattle.body_to_text.proofs.formula.put_formula.Kinds as put-formula-kinds
 use Rattle.body_to_text.proofs.formula.+put_formula.Lts-put_formula as put-formula-lts
-use Rattle.body_to_text.proofs.formula.has_two_parts.Reads as has-two-parts-reads
 use Rattle.body_to_text.proofs.formula.part_at.Reads as part-at-reads
 use Rattle.body_to_text.proofs.formula.put_range.Reads as put-range-reads
 use Rattle.body_to_text.proofs.formula.put_sign.Reads as put-sign-reads
 use Rattle.body_to_text.proofs.pieces.put_flag.Reads as put-flag-reads
 use Rattle.body_to_text.proofs.store.put.Reads as put-reads
+use Rattle.nodes.proofs.has_second_part.Reads as has-second-part-reads
 use Rattle.nodes.proofs.node_word.Reads as node-word-reads
 use Rattle.body_to_text.proofs.formula.+put_formula.{statement}
 use Rattle.body_to_text.proofs.formula.+put_formula.Tie.{close}
@@ -51,8 +51,8 @@ put-formula-claims t = (
   part-at-reads.Learnt,
   put-formula-below t,
   put-formula.Post,
-  has-two-parts-reads.Asked,
-  has-two-parts-reads.Learnt,
+  has-second-part-reads.Asked,
+  has-second-part-reads.Learnt,
   put-sign-reads.Asked,
   put-sign-reads.Learnt,
   put-range-reads.Asked,
@@ -137,8 +137,8 @@ put-formula-returns-2 t c =
     at-not (ns t n) (place t n) (some t n) (n .node-word .ensures) (past-if2 .if2 .taken) (past-put .put .ensures)
     (placed (past-part-at .part-at .ensures) (c .before .before .put-formula .ensures))
 
-put-formula-has-two-parts-requires : (t : ℕ) → put-formula-lts.Need-has-two-parts-requires (put-formula-claims t) (put-formula-at t) put-formula.Post
-put-formula-has-two-parts-requires t c κs = search needs
+put-formula-has-second-part-requires : (t : ℕ) → put-formula-lts.Need-has-second-part-requires (put-formula-claims t) (put-formula-at t) put-formula.Post
+put-formula-has-second-part-requires t c κs = search needs
 
 put-formula-put-requires-2 : (t : ℕ) → put-formula-lts.Need-put-requires-2 (put-formula-claims t) (put-formula-at t) put-formula.Post
 put-formula-put-requires-2 t c κs = search needs
@@ -146,9 +146,9 @@ put-formula-put-requires-2 t c κs = search needs
 put-formula-add-part-at-2 : (t : ℕ) → put-formula-lts.Need-add-part-at-2 (put-formula-claims t) (put-formula-at t) put-formula.Post
 put-formula-add-part-at-2 t c =
     let past-if3 = c .before .before .before .before .before .before in
-    let past-has-two-parts = past-if3 .before in
-    let n = past-has-two-parts .before .before in
-    omega (arith, two-inside t n (past-has-two-parts .has-two-parts .ensures) (past-if3 .if3 .taken), short t n)
+    let past-has-second-part = past-if3 .before in
+    let n = past-has-second-part .before .before in
+    omega (arith, two-inside t n (past-has-second-part .has-second-part .ensures) (past-if3 .if3 .taken), short t n)
 
 put-formula-part-at-requires-2 : (t : ℕ) → put-formula-lts.Need-part-at-requires-2 (put-formula-claims t) (put-formula-at t) put-formula.Post
 put-formula-part-at-requires-2 t c κs = one-left t (c .before .before .before .before .before .before .before .before .before)
@@ -193,12 +193,12 @@ put-formula-returns-3 t c =
     let past-part-at2 = past-put-formula2 .before in
     let past-put2 = past-part-at2 .before .before .before .before .before in
     let past-if3 = past-put2 .before .before in
-    let past-has-two-parts = past-if3 .before in
-    let n = past-has-two-parts .before .before in
+    let past-has-second-part = past-if3 .before in
+    let n = past-has-second-part .before .before in
     at-two (ns t n) (place t n) (some t n) (n .node-word .ensures) (past-node-word2 .node-word2 .ensures) (past-put2 .put2 .ensures)
     (placed (past-part-at2 .part-at2 .ensures) (past-put-formula2 .put-formula2 .ensures)) (past-put-sign .put-sign .ensures)
     (placed (past-part-at3 .part-at3 .ensures) (past-put-formula3 .put-formula3 .ensures)) (c .before .before .put3 .ensures)
-    (past-has-two-parts .has-two-parts .ensures) (past-if3 .if3 .taken)
+    (past-has-second-part .has-second-part .ensures) (past-if3 .if3 .taken)
 
 put-formula-put-flag-requires-2 : (t : ℕ) → put-formula-lts.Need-put-flag-requires-2 (put-formula-claims t) (put-formula-at t) put-formula.Post
 put-formula-put-flag-requires-2 t c κs = search needs
@@ -272,10 +272,10 @@ put-formula-returns-6 t c =
     let past-node-word3 = past-node-word4 .before in
     let past-if4 = past-node-word3 .before in
     let past-if3 = past-if4 .before in
-    let past-has-two-parts = past-if3 .before in
-    let past-if2 = past-has-two-parts .before in
+    let past-has-second-part = past-if3 .before in
+    let past-if2 = past-has-second-part .before in
     let n = past-if2 .before in
-    at-flag (ns t n) (place t n) (some t n) (n .node-word .ensures) (past-if2 .if2 .left) (past-has-two-parts .has-two-parts .ensures) (past-if3 .if3 .left)
+    at-flag (ns t n) (place t n) (some t n) (n .node-word .ensures) (past-if2 .if2 .left) (past-has-second-part .has-second-part .ensures) (past-if3 .if3 .left)
     (past-if4 .if4 .left) (past-node-word3 .node-word3 .ensures) (past-node-word4 .node-word4 .ensures) (c .before .before .put-flag3 .ensures)
 
 pub +put-formula-spec : {M : Type 1} → statement M
@@ -292,7 +292,7 @@ pub +put-formula-spec : {M : Type 1} → statement M
     (put-formula-put-formula-requires t)
     (put-formula-same-length-2 t)
     (put-formula-returns-2 t)
-    (put-formula-has-two-parts-requires t)
+    (put-formula-has-second-part-requires t)
     (put-formula-put-requires-2 t)
     (put-formula-add-part-at-2 t)
     (put-formula-part-at-requires-2 t)

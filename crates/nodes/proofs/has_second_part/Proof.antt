@@ -1,7 +1,7 @@
--- `naming::has_second_part` meets its contract. Assumes nothing.
+-- `nodes::has_second_part` meets its contract. Assumes nothing.
 use borrow.Author.Tests.{eq-eqb, ne-eqb}
-use Rattle.naming.proofs.has_second_part.Statement.{statement}
-use Rattle.naming.proofs.has_second_part.Tie as tie
+use Rattle.nodes.proofs.has_second_part.Statement.{statement}
+use Rattle.nodes.proofs.has_second_part.Tie as tie
 
 returns : tie.Need-returns
 returns c = simp (eq-eqb _ 3 (c .if1 .taken))
