@@ -10,10 +10,12 @@ use crate::pieces::put_name;
 use crate::store::put;
 use crate::store::put_word;
 use nodes::CODE;
+use nodes::FIRST_BOUND;
 use nodes::FLAG;
 use nodes::FORALL_CODE;
 use nodes::NODE_WORDS;
 use nodes::NOT_CODE;
+use nodes::SECOND_BOUND;
 use nodes::SECOND_PART;
 use nodes::THEN_CODE;
 use nodes::VARIABLE;
@@ -57,9 +59,9 @@ fn put_range(out: &mut [u8], at: usize, nodes: &[u32], i: usize, v: u32) -> usiz
     let name = put_word(out, at, b"forall ");
     let in_sign = put_name(out, name, v);
     let first = put_word(out, in_sign, b" in ");
-    let to_sign = put_bound(out, first, nodes, i + 1);
+    let to_sign = put_bound(out, first, nodes, i + FIRST_BOUND);
     let second = put_word(out, to_sign, b"..");
-    let colon = put_bound(out, second, nodes, i + 4);
+    let colon = put_bound(out, second, nodes, i + SECOND_BOUND);
     put_word(out, colon, b" : ")
 }
 

@@ -9,7 +9,10 @@ ghost use Rattle.notation.specs.Printing.{variable-name, digit-of, digits, offs
 ghost use Rattle.body_to_text.specs.Storing.{Wrote};
 use crate::store::put;
 use crate::store::put_word;
+use nodes::BOUND_VARIABLE;
 use nodes::INFINITY_KIND;
+use nodes::KIND;
+use nodes::OFFSET;
 use nodes::ORIGIN_KIND;
 use nodes::node_word;
 
@@ -107,16 +110,16 @@ fn put_offset(out: &mut [u8], at: usize, w: u32) -> usize
 pub(crate) fn put_bound(out: &mut [u8], at: usize, nodes: &[u32], j: usize) -> usize
     ensures { λ r. ⌜ Wrote (end-text (end-named (bound-at (now (nodes .entry)) j)) []) (now (out .entry)) at (now (out .exit)) r ⌝ }
 {
-    let kind = node_word(nodes, j, 0);
+    let kind = node_word(nodes, j, KIND);
     if kind == ORIGIN_KIND {
         let next = put(out, at, b'0');
-        return put_offset(out, next, node_word(nodes, j, 2));
+        return put_offset(out, next, node_word(nodes, j, OFFSET));
     }
     if kind == INFINITY_KIND {
         return put_word(out, at, b"infinity");
     }
-    let next = put_name(out, at, node_word(nodes, j, 1));
-    put_offset(out, next, node_word(nodes, j, 2))
+    let next = put_name(out, at, node_word(nodes, j, BOUND_VARIABLE));
+    put_offset(out, next, node_word(nodes, j, OFFSET))
 }
 
 // Stores flag k at variable v.

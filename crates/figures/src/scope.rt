@@ -8,8 +8,13 @@ ghost use Rattle.rule.specs.Figures.{bound-pair, range-pair, anywhere};
 ghost use Rattle.nodes.specs.Table.{bound-at};
 ghost use Rattle.figures.specs.Distances.{inside, Near, farthest, AllNear, shift-pair};
 use crate::limits::shifted;
+use nodes::BOUND_VARIABLE;
+use nodes::FIRST_BOUND;
 use nodes::INFINITY_KIND;
+use nodes::KIND;
+use nodes::OFFSET;
 use nodes::ORIGIN_KIND;
+use nodes::SECOND_BOUND;
 use nodes::node_word;
 use rule::Limit;
 use rule::Pair;
@@ -62,8 +67,8 @@ fn pair_at(nodes: &[u32], j: usize, scope: Scope, m: usize) -> Pair
     requires { ⌜ (m ≤ 4) × AllNear (32768 * m) (inside scope m) ⌝ }
     ensures { λ r. ⌜ r ≡ bound-pair (bound-at (now (nodes .entry)) j) (inside scope m) ⌝ }
 {
-    let kind = node_word(nodes, j, 0);
-    let n = offset_of(node_word(nodes, j, 2));
+    let kind = node_word(nodes, j, KIND);
+    let n = offset_of(node_word(nodes, j, OFFSET));
     if kind == ORIGIN_KIND {
         return Pair {
             lower: Limit::Lowest,
@@ -76,7 +81,7 @@ fn pair_at(nodes: &[u32], j: usize, scope: Scope, m: usize) -> Pair
             upper: Limit::Highest,
         };
     }
-    let v = node_word(nodes, j, 1) as usize;
+    let v = node_word(nodes, j, BOUND_VARIABLE) as usize;
     let p = pair_of(scope, m, v);
     shifted_pair(p, n)
 }
@@ -86,8 +91,8 @@ pub(crate) fn range_pair(nodes: &[u32], i: usize, scope: Scope, m: usize) -> Pai
     requires { ⌜ (i < length (now nodes)) × ((m ≤ 4) × AllNear (32768 * m) (inside scope m)) ⌝ }
     ensures { λ r. ⌜ r ≡ range-pair (bound-at (now (nodes .entry)) (i + 1)) (bound-at (now (nodes .entry)) (i + 4)) (inside scope m) ⌝ }
 {
-    let b = pair_at(nodes, i + 1, scope, m);
-    let c = pair_at(nodes, i + 4, scope, m);
+    let b = pair_at(nodes, i + FIRST_BOUND, scope, m);
+    let c = pair_at(nodes, i + SECOND_BOUND, scope, m);
     let l = b.lower;
     let u = c.upper;
     Pair { lower: l, upper: u }

@@ -2,12 +2,16 @@
 ghost use mathlib.Core.Path.{_≡_};
 ghost use Rattle.rule.specs.Naming.{bound-names, names};
 ghost use Rattle.nodes.specs.Table.{bound-at, formula-in};
+use nodes::BOUND_VARIABLE;
 use nodes::CODE;
+use nodes::FIRST_BOUND;
 use nodes::FORALL_CODE;
 use nodes::INFINITY_KIND;
+use nodes::KIND;
 use nodes::NESTED;
 use nodes::NODE_WORDS;
 use nodes::NOT_CODE;
+use nodes::SECOND_BOUND;
 use nodes::SECOND_PART;
 use nodes::VARIABLE;
 use nodes::has_second_part;
@@ -17,11 +21,11 @@ use nodes::node_word;
 fn bound_names(nodes: &[u32], j: usize, v: u32) -> bool
     ensures { λ r. ⌜ r ≡ bound-names v (bound-at (now (nodes .entry)) j) ⌝ }
 {
-    let kind = node_word(nodes, j, 0);
+    let kind = node_word(nodes, j, KIND);
     if kind <= INFINITY_KIND {
         return false;
     }
-    node_word(nodes, j, 1) == v
+    node_word(nodes, j, BOUND_VARIABLE) == v
 }
 
 // Whether the formula at word i, inside m quantifiers, with `left` formulas left, names v: at a flag, or in a bound of a quantifier inside. This holds of every
@@ -47,10 +51,10 @@ pub fn names(nodes: &[u32], left: u64, m: usize, i: usize, v: u32) -> bool
         if NESTED <= m {
             return v == 0;
         }
-        if bound_names(nodes, i + 1, v) {
+        if bound_names(nodes, i + FIRST_BOUND, v) {
             return true;
         }
-        if bound_names(nodes, i + 4, v) {
+        if bound_names(nodes, i + SECOND_BOUND, v) {
             return true;
         }
         return names(nodes, left - 1, m + 1, i + NODE_WORDS, v);
