@@ -1,12 +1,13 @@
 // Numbers with a sign and infinite ones: 01's N(u), N(k - l) and W.
 ghost use mathlib.Core.Path.{_≡_};
-ghost use Prim.Native.Nat.{_*_, _≤_, max};
+ghost use Prim.Native.Nat.{_*_, _≤_};
 ghost use lib.IntN.{natAbs, pos, _+ℤ_, _-ℤ_};
 ghost use Rattle.rule.specs.Figures.{shift, N, N-back, positions-from, larger};
 ghost use Rattle.cell_count.specs.Counts.{cap};
 ghost use Rattle.figures.specs.Distances.{Near, farthest, Modest};
 use cell_count::ABOVE_LIMIT;
 use cell_count::capped;
+use outcomes::later;
 use rule::Limit;
 use rule::Size;
 use signed::at_least_zero;
@@ -33,13 +34,6 @@ fn as_signed(k: u64) -> i64
     k as i64
 }
 
-// The larger of two numbers.
-fn larger_number(a: u64, b: u64) -> u64
-    ensures { λ r. ⌜ r ≡ max a b ⌝ }
-{
-    if a < b { b } else { a }
-}
-
 // The larger of two sizes: infinite where one is.
 pub(crate) fn larger_size(a: Size, b: Size) -> Size
     ensures { λ r. ⌜ r ≡ larger a b ⌝ }
@@ -48,7 +42,7 @@ pub(crate) fn larger_size(a: Size, b: Size) -> Size
         Size::Unbounded => Size::Unbounded,
         Size::Finite(x) => match b {
             Size::Unbounded => Size::Unbounded,
-            Size::Finite(y) => Size::Finite(larger_number(x, y)),
+            Size::Finite(y) => Size::Finite(later(x, y)),
         },
     }
 }

@@ -18,8 +18,8 @@ enum-told-2 c = search needs
 enum-known-b : tie.Need-enum-known-b
 enum-known-b c = search needs
 
-larger-number-requires : tie.Need-larger-number-requires
-larger-number-requires c κs = search needs
+later-requires : tie.Need-later-requires
+later-requires c κs = search needs
 
 returns : tie.Need-returns
 unfolding larger
@@ -32,7 +32,7 @@ returns-2 c = rw (c .before .before .before .a .given .1, c .enum-told2 .given .
 returns-3 : tie.Need-returns-3
 unfolding larger
 returns-3 c =
-    rw (c .before .before .before .before .before .a .given .1, c .before .before .b .given .1) (ap Finite (c .larger-number .ensures))
+    rw (c .before .before .before .before .before .a .given .1, c .before .before .b .given .1) (ap Finite (c .later .ensures))
 
 pub larger-size-spec : {M : Type 1} → statement M
 larger-size-spec =
@@ -42,7 +42,7 @@ larger-size-spec =
     enum-known-a
     enum-told-2
     enum-known-b
-    larger-number-requires
+    later-requires
     returns
     returns-2
     returns-3)
