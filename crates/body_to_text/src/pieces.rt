@@ -47,7 +47,7 @@ fn digit(n: u32, worth: u32) -> u8
     requires { ⌜ 1 ≤ worth ⌝ }
     ensures { λ r. ⌜ r ≡ digit-of n worth ⌝ }
 {
-    48 + (n / worth % 10) as u8
+    b'0' + (n / worth % 10) as u8
 }
 
 // Stores the last two digits.

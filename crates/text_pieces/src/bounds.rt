@@ -17,7 +17,7 @@ pub fn base_end(s: &[u8], at: usize) -> usize
         return at + 1;
     }
     if is_word(s, at, b"infinity") {
-        return run_end(s, at, 97, 122);
+        return run_end(s, at, b'a', b'z');
     }
     name_end(s, at)
 }

@@ -11,7 +11,7 @@ use crate::scan::starts_at;
 pub fn is_word(s: &[u8], at: usize, w: &[u8]) -> bool
     ensures { λ r. ⌜ r ≡ same (run letter (drop at (now (s .entry)))) (now (w .entry)) ⌝ }
 {
-    let e = run_end(s, at, 97, 122);
+    let e = run_end(s, at, b'a', b'z');
     if e - at != w.len() {
         return false;
     }
@@ -52,7 +52,7 @@ fn is_name(s: &[u8], at: usize, n: usize) -> bool
 pub(crate) fn name_end(s: &[u8], at: usize) -> usize
     ensures { λ r. ⌜ Found (now (s .entry)) r (read-name (drop at (now (s .entry)))) ⌝ }
 {
-    let e = run_end(s, at, 97, 122);
+    let e = run_end(s, at, b'a', b'z');
     if !is_name(s, at, e - at) {
         return 0;
     }
@@ -63,7 +63,7 @@ pub(crate) fn name_end(s: &[u8], at: usize) -> usize
 pub(crate) fn numeral_end(s: &[u8], at: usize) -> usize
     ensures { λ r. ⌜ Found (now (s .entry)) r (read-numeral (drop at (now (s .entry)))) ⌝ }
 {
-    let e = run_end(s, at, 48, 57);
+    let e = run_end(s, at, b'0', b'9');
     if e - at < 1 {
         return 0;
     }

@@ -59,7 +59,7 @@ pub(crate) fn digit_end(s: &[u8], at: usize) -> usize
         return 0;
     }
     let c = s[at];
-    if !is_between(48, 57, c) {
+    if !is_between(b'0', b'9', c) {
         return 0;
     }
     at + 1

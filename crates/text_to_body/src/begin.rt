@@ -6,6 +6,7 @@ ghost use lib.ListN.{length, drop};
 ghost use Rattle.notation.specs.Reading.{read-token};
 ghost use Rattle.text_pieces.specs.Spots.{FlagAt, ForallAt};
 ghost use Rattle.text_to_body.specs.Cursors.{CursorFits, Rooms, Moved};
+use crate::codes::NOT_CODE_BYTE;
 use crate::cursor::Cursor;
 use crate::cursor::bracket_frame;
 use crate::cursor::misspelt;
@@ -78,7 +79,7 @@ pub(crate) fn begin_formula(
         Piece::Flag(q) => begin_flag(s, names, out, p, q),
         Piece::Forall(q) => begin_range(s, frames, names, out, p, q),
         Piece::Negate(q) => {
-            out[written] = 2;
+            out[written] = NOT_CODE_BYTE;
             Cursor {
                 mode: 0,
                 at: q,

@@ -6,6 +6,8 @@ ghost use lib.ListN.{length, drop, getD};
 ghost use Rattle.notation.specs.Reading.{Joint, joint, got};
 ghost use Rattle.notation.specs.Bodies.{joint-code};
 ghost use Rattle.text_to_body.specs.Cursors.{CursorFits, Moved};
+use crate::codes::BESIDE_CODE_BYTE;
+use crate::codes::THEN_CODE_BYTE;
 use crate::cursor::Cursor;
 use crate::cursor::misspelt;
 use crate::scope::put;
@@ -18,9 +20,9 @@ fn joint_code(s: &[u8], at: usize) -> u8
     ensures { λ r. ⌜ ((j : Joint) (t : List ℕ) → joint (drop at (now (s .entry))) ≡ got j t → r ≡ joint-code j) ⌝ }
 {
     if starts_at(s, at, b" && ") {
-        return 3;
+        return THEN_CODE_BYTE;
     }
-    4
+    BESIDE_CODE_BYTE
 }
 
 // One less, and 0 for 0.

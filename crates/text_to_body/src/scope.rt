@@ -14,7 +14,7 @@ fn same_name(s: &[u8], a: usize, b: usize) -> bool
     requires { ⌜ b ≤ length (now s) ⌝ }
     ensures { λ r. ⌜ r ≡ same (run letter (drop a (now (s .entry)))) (run letter (drop b (now (s .entry)))) ⌝ }
 {
-    let f = run_end(s, b, 97, 122);
+    let f = run_end(s, b, b'a', b'z');
     is_word(s, a, &s[b..f])
 }
 

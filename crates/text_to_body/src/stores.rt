@@ -8,6 +8,11 @@ ghost use Rattle.notation.specs.Notation.{Base, End};
 ghost use Rattle.notation.specs.Reading.{got, read-base, read-end, flag-token, read-flag, forall-token, read-forall};
 ghost use Rattle.notation.specs.Bodies.{base-bound, base-bytes, end-bound, end-bytes, is-bound, flag-bytes, forall-bytes};
 ghost use Rattle.text_to_body.specs.Work.{scope-of};
+use crate::codes::FLAG_CODE_BYTE;
+use crate::codes::FORALL_CODE_BYTE;
+use crate::codes::INFINITY_KIND_BYTE;
+use crate::codes::ORIGIN_KIND_BYTE;
+use crate::codes::VARIABLE_KIND_BYTE;
 use crate::scope::lookup;
 use crate::values::offset_at;
 use text_pieces::base_end;
@@ -41,15 +46,15 @@ fn write_base(s: &[u8], at: usize, names: &[usize], m: usize, out: &mut [u8], o:
     ensures { λ r. ⌜ (length (now (out .exit)) ≡ length (now (out .entry))) × ((b : Base) (t : List ℕ) → read-base (drop at (now (s .entry))) ≡ got b t → (r ≡ base-bound (scope-of (now (s .entry)) (now (names .entry)) m) b) × (take (o + 2) (now (out .exit)) ≡ take o (now (out .entry)) ++ base-bytes (scope-of (now (s .entry)) (now (names .entry)) m) b)) ⌝ }
 {
     if starts_at(s, at, b"0") {
-        put_two(out, o, 0, 0);
+        put_two(out, o, ORIGIN_KIND_BYTE, 0);
         return true;
     }
     if is_word(s, at, b"infinity") {
-        put_two(out, o, 1, 0);
+        put_two(out, o, INFINITY_KIND_BYTE, 0);
         return true;
     }
     let v = lookup(s, names, m, at);
-    put_two(out, o, 2, variable_byte(v));
+    put_two(out, o, VARIABLE_KIND_BYTE, variable_byte(v));
     1 <= v
 }
 
@@ -85,9 +90,9 @@ pub(crate) fn write_flag(
     ensures { λ r. ⌜ (length (now (out .exit)) ≡ length (now (out .entry))) × ((n : List ℕ) (k : ℕ) (t : List ℕ) → read-flag (drop at (now (s .entry))) ≡ got (flag-token n k) t → (r ≡ is-bound (scope-of (now (s .entry)) (now (names .entry)) m) n) × (take (o + 3) (now (out .exit)) ≡ take o (now (out .entry)) ++ flag-bytes (scope-of (now (s .entry)) (now (names .entry)) m) n k)) ⌝ }
 {
     let v = lookup(s, names, m, at);
-    let e = run_end(s, at, 97, 122);
+    let e = run_end(s, at, b'a', b'z');
     let k = digit_value(s, e);
-    out[o] = 1;
+    out[o] = FLAG_CODE_BYTE;
     put_two(out, o + 1, variable_byte(v), k);
     1 <= v
 }
@@ -103,10 +108,10 @@ fn digit_value(s: &[u8], e: usize) -> u8
         return 0;
     }
     let c = s[e + 1];
-    if c < 48 {
+    if c < b'0' {
         return 0;
     }
-    c - 48
+    c - b'0'
 }
 
 // Writes a quantifier's nine bytes, from the position of its name, and answers whether the names of its bounds are bound.
@@ -121,9 +126,9 @@ pub(crate) fn write_forall(
     requires { ⌜ (at ≤ length (now s)) × (m ≤ length (now names)) × (m ≤ 4096) × (o + 9 ≤ length (now out)) × ((n : List ℕ) × (A : End) × (B : End) × (t : List ℕ) × (read-forall (drop at (now s)) ≡ got (forall-token n A B) t)) ⌝ }
     ensures { λ r. ⌜ (length (now (out .exit)) ≡ length (now (out .entry))) × ((n : List ℕ) (A B : End) (t : List ℕ) → read-forall (drop at (now (s .entry))) ≡ got (forall-token n A B) t → (r ≡ (end-bound (scope-of (now (s .entry)) (now (names .entry)) m) A && end-bound (scope-of (now (s .entry)) (now (names .entry)) m) B)) × (take (o + 9) (now (out .exit)) ≡ take o (now (out .entry)) ++ forall-bytes (scope-of (now (s .entry)) (now (names .entry)) m) A B)) ⌝ }
 {
-    let e = run_end(s, at, 97, 122);
+    let e = run_end(s, at, b'a', b'z');
     let q = bound_end(s, e + 4);
-    out[o] = 5;
+    out[o] = FORALL_CODE_BYTE;
     let first = write_bound(s, e + 4, names, m, out, o + 1);
     let second = write_bound(s, q + 2, names, m, out, o + 5);
     both(first, second)

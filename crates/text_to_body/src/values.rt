@@ -15,7 +15,7 @@ fn with_digit(n: usize, c: u8) -> usize
     requires { ⌜ (n < 65536) × (48 ≤ c) ⌝ }
     ensures { λ r. ⌜ (r ≡ (n * 10 + (c - 48)) % 65536) × (r < 65536) ⌝ }
 {
-    (n * 10 + (byte_value(c) - 48)) % 65536
+    (n * 10 + byte_value(c - b'0')) % 65536
 }
 
 // The number that the digits at a position say.
@@ -26,7 +26,7 @@ fn value_at(s: &[u8], at: usize) -> usize
     let mut n: usize = 0;
     while i < s.len() {
         let c = s[i];
-        if !is_between(48, 57, c) {
+        if !is_between(b'0', b'9', c) {
             return n;
         }
         n = with_digit(n, c);
