@@ -1,5 +1,5 @@
 -- The library's claims hold. Assumes nothing.
-use Rattle.sheet.proofs.RoundTrip.{round-trip}
+use Rattle.sheet.proofs.RoundTrip as sheets
 use Rattle.rule.proofs.Every.{forall-said}
 use Rattle.rule.proofs.Progress as progress
 use Rattle.rule.proofs.Delay.{delay-law}
@@ -8,7 +8,8 @@ use Rattle.rule.proofs.Window.{rule-window}
 use Rattle.rule.proofs.OneBody as bodies
 use Rattle.rule.proofs.BodyNumbers as numbers
 use Rattle.rule.proofs.BodyLengths as lengths
-use Rattle.marked_cases.proofs.Cases.{marked}
+use Rattle.marked_cases.proofs.Cases as cases
+use Rattle.notation.specs.Notation.{monitor}
 use Rattle.notation.proofs.OneReading as reading
 use Rattle.notation.proofs.Answered as answered
 use Rattle.notation.proofs.RoundTrip as printed
@@ -36,16 +37,24 @@ claimed =
       in-time = delay-law;
       none-later = locality;
       none-older = rule-window;
-      sheet-back = round-trip;
+      sheet-back = sheets.round-trip;
+      sheet-front = sheets.buffer-front;
+      sheet-rest = sheets.buffer-rest;
       one-body = bodies.one-body;
       body-refusals = numbers.body-refusals;
       body-short = lengths.body-short;
       one-reading = reading.one-reading;
       text-answered = answered.reading-answered;
+      text-accepted = λ s b room e. let (c, i, F, f, l) = answered.acceptances s b room e in (monitor (c .0) (c .1), c .3, F, f, l);
       text-25 = λ s room. (answered.only-misspelt s room, answered.misspelt s room);
       text-26 = λ s room. (answered.only-unbound s room, answered.unbound s room);
       text-back = printed.text-back;
       body-room = answered.fits-always;
       text-room = printed.text-fits;
-      marked-cases = marked;
+      marked-cases = cases.marked;
+      at-limits = cases.limits;
+      refusal-order = cases.orders;
+      bound-order = cases.bounds;
+      example-run = cases.run;
+      example-recorded = cases.evaluated;
     }
