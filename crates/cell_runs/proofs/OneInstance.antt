@@ -40,7 +40,6 @@ slot-fit F t p len f =
       formed = f .formed;
       room = f .room;
       low = omega arith;
-      near = omega arith;
       come = f .come;
       past = λ v. omega (arith, zeros v);
       unbound = λ v h. zeros v;

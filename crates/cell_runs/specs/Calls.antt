@@ -59,7 +59,6 @@ pub record Fit (F : Tree) (e : Env) (t : ℕ) (len : ℕ) : Type 0 where
   pub formed : Formed pairs F
   pub room : words pairs F ≤ len
   pub low : t < 4294967296
-  pub near : t < own-tick (places e) + 4294967296
   pub past : (v : ℕ) → getD (e .pos) v 0 ≤ t
   pub unbound : (v : ℕ) → e .n ≤ v → getD (e .pos) v 0 ≡ 0
   pub five-places : length (e .pos) ≡ 5
@@ -75,7 +74,6 @@ pub record SlotFit (F : Tree) (e : Env) (t q : ℕ) (len : ℕ) : Type 0 where
   pub formed : Formed pairs F
   pub room : 4 + words pairs F ≤ len
   pub low : t < 4294967296
-  pub near : t < own-tick (with-position (places e) q) + 4294967296
   pub come : q ≤ t
   pub past : (v : ℕ) → getD (e .pos) v 0 ≤ t
   pub unbound : (v : ℕ) → e .n ≤ v → getD (e .pos) v 0 ≡ 0

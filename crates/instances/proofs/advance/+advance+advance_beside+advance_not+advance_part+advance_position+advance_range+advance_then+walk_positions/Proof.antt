@@ -850,7 +850,7 @@ advance-range-returns measure c =
     let at-both = c .both in
     let plan = plan-here (bound-at nodes (i + 1)) (bound-at nodes (i + 4)) env t s (at-plan-up-to .result .first) (at-plan-up-to .result .n) (at-plan-up-to .result .end) (at-range-at .result) (s₀ .pre .1 .1 .low) (s₀ .pre .1 .1 .past) (s₀ .pre .1 .1 .unbound) (at-range-at .ensures) (at-plan-up-to .ensures) in
     range-of (at-plan-up-to .result .first) (at-plan-up-to .result .n) (at-load-head .result .leading) (at-load-head .result .latest) (at-own-tick .result) (at-node-word .result) (at-plan-up-to .result .end) (at-walk-positions .result) (at-both .result) (at-walk-positions .last .1 .1 .1 .0) (putMid 4 (length run - 4) run (at-walk-positions .last .1 .1 .1 .0)) (at-move-head .last .0)
-    (at-node-word .ensures) (fit-head (s₀ .pre .1 .1)) plan (at-own-tick .ensures ∙ tick-is env (s₀ .pre .1 .1 .some)) (omega (arith, fit-long (s₀ .pre .1 .1), s₀ .pre .1 .1 .some)) (s₀ .pre .1 .1 .near)
+    (at-node-word .ensures) (fit-head (s₀ .pre .1 .1)) plan (at-own-tick .ensures ∙ tick-is env (s₀ .pre .1 .1 .some)) (omega (arith, fit-long (s₀ .pre .1 .1), s₀ .pre .1 .1 .some)) (omega (arith, s₀ .pre .1 .1 .low))
     (fit-short (s₀ .pre .1 .1) s (at-plan-up-to .result .first) (at-plan-up-to .result .n) (at-plan-up-to .result .end) plan)
     (at-load-head .ensures .0) (at-load-head .ensures .1) (at-walk-positions .ensures) refl (at-move-head .ensures) (at-both .ensures)
 
