@@ -12,10 +12,10 @@ use lib.Seq.{take-all, take-take, take-at, drop-at, drop-drop, drop-cons, drop-a
 use borrow.Rule.Slice.PartMut.{putMid}
 use Rattle.refusal.specs.Answer.{accepted}
 use Rattle.rule.specs.declared.Figures.{Figures}
-use Rattle.demand.specs.Contract.{State, Step, step-of, paired, Takes, Stepped, Chain, none, more}
+use Rattle.demand.specs.Contract.{State, state-at, Step, step-of, paired, Takes, Stepped, Chain, none, more}
 use Rattle.demand.proofs.Admission.{step-admits}
 use Rattle.rule.proofs.Order.{by-order}
-use Rattle.cell_runs.specs.States.{state-at, taken-from}
+use Rattle.cell_runs.specs.States.{taken-from}
 use Rattle.cell_runs.specs.Moves.{Stands, TableOf, TickMoved}
 use Rattle.cell_runs.specs.Batches.{PairsFit, PairsMoved, BatchFit, FlagsTaken}
 

@@ -53,7 +53,7 @@ pub moved-of : (F : Tree) (hist : List ℕ) (b t p : ℕ) (pos byte cell cell′
 unfolding SlotReady rule
 moved-of F hist b t p pos byte cell cell′ r x = record {
   gives = λ flags H same reach found.
-      let hon : AtHand flags H hist b (record { n = 0; pos = pos; byte = byte }) t = record { history = same .history; current = same .current; saved = λ v l. absurd (omega arith) } in
+      let hon : AtHand flags H hist b (record { n = 0; pos = pos; byte = byte }) t = record { stream = same; saved = λ v l. absurd (omega arith) } in
       let y = x .gives flags H hon (rw (max-self p) (omega arith, reach)) (⊎-elim (λ z. inl z) (λ z. inr (z .0, z .1, z .2, λ g. z .3)) found) in
       (y .0 ∙ ap (λ (s : ℕ). out flags t (p ∷ []) s F) (max-self p), y .1);
 }

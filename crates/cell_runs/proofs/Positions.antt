@@ -26,8 +26,7 @@ module _ (e : Env) (q b : ℕ) (deep : e .n < 5) (five : length (e .pos) ≡ 5) 
 
   at-hand-entered : (flags : ℕ → ℕ) (H : ℕ) (hist : List ℕ) (c t : ℕ) → AtHand flags H hist c e t → b ≡ flags q → AtHand flags H hist c (with-byte e q b) t
   at-hand-entered flags H hist c t h eb = record {
-    history = h .history;
-    current = h .current;
+    stream = h .stream;
     saved = λ v l. elim (decLt v (e .n)) [
       | yes m ↦
           let ne : v ≢ e .n = omega arith in
@@ -41,8 +40,8 @@ module _ (e : Env) (q b : ℕ) (deep : e .n < 5) (five : length (e .pos) ≡ 5) 
 -- the byte that is read when a body starts
 byte-right : (flags : ℕ → ℕ) (H : ℕ) (hist : List ℕ) (b : ℕ) (e : Env) (t q : ℕ) → AtHand flags H hist b e t → q ≤ t → t ≤ q + H → byte-of hist b t q ≡ flags q
 byte-right flags H hist b e t q hon h g = elim (decLt q t) [
-  | yes l ↦ simp (ne-eqb q t (omega arith)) (hon .history q l g)
-  | no l ↦ let eq : q ≡ t = omega arith in simp (eq-eqb q t eq) (hon .current ∙ ap flags (sym eq))
+  | yes l ↦ simp (ne-eqb q t (omega arith)) (hon .stream .history q l g)
+  | no l ↦ let eq : q ≡ t = omega arith in simp (eq-eqb q t eq) (hon .stream .current ∙ ap flags (sym eq))
 ]
 
 module _ (F : Tree) (hist : List ℕ) (b : ℕ) (e : Env) (s t q : ℕ) where

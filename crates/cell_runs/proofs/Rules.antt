@@ -20,7 +20,7 @@ use Rattle.rule.proofs.Reach.{rule-reach}
 use Rattle.rule.proofs.Recent.{report-recent, live-recent}
 use Rattle.refusal.specs.Answer.{accepted}
 use Rattle.rule.proofs.Reading.{body-scoped}
-use Rattle.demand.specs.Contract.{State, next-state, Kept}
+use Rattle.demand.specs.Contract.{State, next-state, HistoryHolds}
 use Rattle.cell_runs.specs.Tree.{Tree, formula-of, tree-at, words}
 use Rattle.cell_runs.specs.Slots.{slot}
 use Rattle.cell_runs.specs.Sized.{sized}
@@ -127,7 +127,7 @@ module _ (ns : List ℕ) (f : Figures) (L t : ℕ) (s : State) (at : TableOf ns 
 module _ (ns : List ℕ) (f : Figures) (c : ℕ) (hist : List ℕ) (b t low : ℕ) (table report₀ : List ℕ) (reported live-count : ℕ) (table′ report′ : List ℕ)
     (ec : c ≡ f .cells / (f .delay + 1) * 4) (el : low ≡ t + 1 - (f .delay + 1)) (room : 4 * f .cells ≤ length table) (long : length table′ ≡ length table)
     (moved : TicksMoved (tree-at 64 ns 0) (f .delay + 1) c hist b t low table report₀ reported live-count table′ report′) where
-  rule-means : (F : Formula) → Prepares F f ns → (flags : ℕ → ℕ) → flags t ≡ b → Kept flags (length hist) (f .history) t hist
+  rule-means : (F : Formula) → Prepares F f ns → (flags : ℕ → ℕ) → flags t ≡ b → HistoryHolds flags (length hist) (f .history) t hist
       → InstancesHold (sized F (at-tick ∷ [])) (f .delay + 1) (4 + words (at-tick ∷ []) (sized F (at-tick ∷ []))) flags t (take (4 * f .cells) table)
       → (take reported report′ ≡ report F flags t) × (reported ≡ length (report F flags t)) × (live-count ≡ length (live F flags t))
       × InstancesHold (sized F (at-tick ∷ [])) (f .delay + 1) (4 + words (at-tick ∷ []) (sized F (at-tick ∷ []))) flags (suc t) (take (4 * f .cells) table′)

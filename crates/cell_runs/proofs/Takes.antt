@@ -14,10 +14,9 @@ use Rattle.figures.specs.declared.answer.FigureAnswer.{FigureAnswer}
 use Rattle.figures.specs.declared.answer.FigureAnswer.the-variants.{Sized, Refused}
 use Rattle.figures.specs.Measured.{SizesAt}
 use Rattle.figures.specs.Prepared.{figures-answer, SizedTable, Leaves}
-use Rattle.demand.specs.Contract.{admit-lengths}
+use Rattle.demand.specs.Contract.{state-at, admit-lengths}
 use Rattle.demand.proofs.Admission.{StepAdmitted, step-admitted}
 use Rattle.admission.specs.Admitted.{Admitted}
-use Rattle.cell_runs.specs.States.{state-at}
 use Rattle.cell_runs.specs.Moves.{TableOf, TickFit}
 use Rattle.cell_runs.specs.Batches.{BatchFit}
 

@@ -13,8 +13,8 @@ use Rattle.rule.specs.declared.Outcome.the-variants.{Decided, Open}
 use Rattle.rule.specs.declared.Pair.{Pair}
 use Rattle.rule.specs.Meaning.{up, verdict, walk}
 use Rattle.rule.specs.Positions.{Fits}
-use Rattle.ring.specs.Ring.{history-byte}
 use Rattle.rule.specs.Started.{From, Before, Reach}
+use Rattle.demand.specs.Contract.{HistoryHolds}
 use Rattle.cell_runs.specs.Tree.{Tree, formula-of, words, Formed}
 use Rattle.cells.specs.Cells.{held, CellHolds}
 use Rattle.cell_runs.specs.Slots.{window, slot}
@@ -44,10 +44,14 @@ with-byte e q b = record { n = e .n + 1; pos = set (e .pos) (e .n) q; byte = set
 abbrev pub flagged : List ℕ → ℕ → ℕ → ℕ → Outcome
 flagged bytes v k s = Decided (verdict (up k (getD bytes v 0))) s
 
--- The bytes at hand are those of the stream: the history has the last H ticks before t, b is the byte of t, and each variable's is saved.
-pub record AtHand (flags : ℕ → ℕ) (H : ℕ) (hist : List ℕ) (b : ℕ) (e : Env) (t : ℕ) : Type 0 where
-  pub history : (q : ℕ) → q < t → t ≤ q + H → history-byte hist q ≡ flags q
+-- The bytes at hand are those of the stream: the history holds the last H ticks before t, b is the byte of t.
+pub record FlagsAtHand (flags : ℕ → ℕ) (H : ℕ) (hist : List ℕ) (b t : ℕ) : Type 0 where
+  pub history : HistoryHolds flags (length hist) H t hist
   pub current : b ≡ flags t
+
+-- And each variable's byte is saved.
+pub record AtHand (flags : ℕ → ℕ) (H : ℕ) (hist : List ℕ) (b : ℕ) (e : Env) (t : ℕ) : Type 0 where
+  pub stream : FlagsAtHand flags H hist b t
   pub saved : (v : ℕ) → v < e .n → getD (e .byte) v 0 ≡ flags (getD (e .pos) v 0)
 
 -- ---- what the functions require: nothing of what the cells hold

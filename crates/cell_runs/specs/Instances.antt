@@ -12,18 +12,13 @@ use Rattle.rule.specs.Started.{Before, Reach}
 use Rattle.cell_runs.specs.Tree.{Tree, formula-of, words, Formed}
 use Rattle.cell_runs.specs.Slots.{slot}
 use Rattle.cell_runs.specs.Run.{SlotHolds}
-use Rattle.ring.specs.Ring.{history-byte}
+use Rattle.cell_runs.specs.Calls.{FlagsAtHand}
 
 -- ---- one instance: a range's position p with no variable before it, started at p
 
 -- The run of the instance of tick p at the horizon t: its cell, then the formula's run.
 abbrev pub InstanceHolds : (ℕ → ℕ) → Tree → ℕ → ℕ → List ℕ → Type 0
 InstanceHolds flags F t p cell = SlotHolds flags t [] p F p cell
-
--- The bytes at hand are those of the stream: the history has the last H ticks before t, b is the byte of t.
-pub record FlagsAtHand (flags : ℕ → ℕ) (H : ℕ) (hist : List ℕ) (b t : ℕ) : Type 0 where
-  pub history : (q : ℕ) → q < t → t ≤ q + H → history-byte hist q ≡ flags q
-  pub current : b ≡ flags t
 
 pub record InstanceFit (F : Tree) (t p len : ℕ) : Type 0 where
   pub formed : Formed (at-tick ∷ []) F

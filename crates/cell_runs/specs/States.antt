@@ -1,11 +1,7 @@
 -- The states that a step and a batch start from and leave.
 use Prim.Native.Nat.{ℕ, _+_}
 use mathlib.Core.List.{List}
-use Rattle.demand.specs.Contract.{State, Taken, Counts, next-state}
-
--- A state with this body, opened length, next tick and live count.
-abbrev pub state-at : List ℕ → ℕ → ℕ → ℕ → State
-state-at b L t live = record { body-bytes = b; opened = L; next = t; live-count = live }
+use Rattle.demand.specs.Contract.{State, Taken, Counts, state-at, next-state}
 
 -- A step from state s that took its tick and reported n ticks.
 abbrev pub taken-from : State → ℕ → ℕ → Taken

@@ -14,14 +14,13 @@ use Rattle.refusal.specs.Answer.{refused, and-then}
 use Rattle.rule.specs.declared.Figures.{Figures}
 use Rattle.rule.specs.Body.{require, head, parts, formula, formula-at, whole, body}
 use Rattle.rule.specs.Figures.{body-figures}
-use Rattle.demand.specs.Contract.{State, step-of, batch-of, must, as-21, admit-lengths, StepPromise, BatchPromise}
+use Rattle.demand.specs.Contract.{State, state-at, step-of, batch-of, must, as-21, admit-lengths, StepPromise, BatchPromise}
 use Rattle.demand.proofs.Admission.{step-admitted}
 use Rattle.demand.proofs.Lines.{chain-low}
 use Rattle.instances.specs.declared.stepping.StepAnswer.{StepAnswer}
 use Rattle.instances.specs.declared.stepping.StepAnswer.the-variants as steps
 use Rattle.instances.specs.declared.batch.BatchAnswer.{BatchAnswer}
 use Rattle.instances.specs.declared.batch.BatchAnswer.the-variants as batches
-use Rattle.cell_runs.specs.States.{state-at}
 use Rattle.instances.specs.Answers.{step-answer, batch-answer}
 use Rattle.cell_runs.specs.Moves.{Stands}
 use Rattle.instances.specs.Answers.{StepOf, BatchOf}

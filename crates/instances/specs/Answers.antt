@@ -3,8 +3,8 @@ use Prim.Native.Nat.{ℕ}
 use mathlib.Core.List.{List}
 use Rattle.refusal.specs.Answer.{Answer, refused, accepted}
 use Rattle.refusal.specs.Numbers.{number-of}
-use Rattle.demand.specs.Contract.{State, Taken, Counts, step-of, batch-of, Stepped, Batched}
-use Rattle.cell_runs.specs.States.{state-at, taken-from, counts-from}
+use Rattle.demand.specs.Contract.{State, state-at, Taken, Counts, step-of, batch-of, Stepped, Batched}
+use Rattle.cell_runs.specs.States.{taken-from, counts-from}
 use Rattle.cell_runs.specs.Moves.{Stands}
 use Rattle.instances.specs.declared.stepping.StepAnswer.{StepAnswer}
 use Rattle.instances.specs.declared.stepping.StepAnswer.the-variants as steps

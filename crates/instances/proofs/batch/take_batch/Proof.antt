@@ -1,7 +1,7 @@
 -- `instances::batch::take_batch` meets its contract. Assumes nothing.
 use mathlib.Core.Path.{refl}
 use lib.ListN.{length}
-use Rattle.cell_runs.specs.States.{state-at}
+use Rattle.demand.specs.Contract.{state-at}
 use Rattle.cell_runs.proofs.Takes.{admitted-as, refused-as, table-of, flags-fit}
 use borrow.Author.Needs.{needs}
 use Rattle.instances.proofs.batch.take_batch.Statement.{statement}

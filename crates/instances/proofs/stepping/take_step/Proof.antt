@@ -1,7 +1,7 @@
 -- `instances::stepping::take_step` meets its contract. Assumes nothing.
 use mathlib.Core.Path.{refl}
 use lib.ListN.{length}
-use Rattle.cell_runs.specs.States.{state-at}
+use Rattle.demand.specs.Contract.{state-at}
 use Rattle.cell_runs.proofs.Takes.{admitted-as, refused-as, table-of, tick-fits}
 use borrow.Author.Needs.{needs}
 use Rattle.instances.proofs.stepping.take_step.Statement.{statement}
