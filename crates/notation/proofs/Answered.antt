@@ -156,9 +156,6 @@ acceptances s b room e = go (texts s)
 
 -- ---- how long a body is
 
-pub answered-short : (s b : List ℕ) (room : ℕ) → body-of-text s room ≡ accepted b → length b ≤ 432
-answered-short s b room e = let (c, i, F, f, l) = acceptances s b room e in body-short b F f
-
 pub fits-always : (s : List ℕ) (room : ℕ) → 432 ≤ room → body-of-text s room ≡ refused 22 → ⊥
 fits-always s room h e = go (refusals s room 22 e)
   where
