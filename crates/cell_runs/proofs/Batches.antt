@@ -1,13 +1,13 @@
 -- Laws of the batch: ticks become pairs in place, and one tick more is one link more of the chain.
 -- Assumes nothing.
-use Prim.Native.Nat.{ℕ, zero, suc, _+_, _*_, _-_, _≤_, _<_, min}
+use Prim.Native.Nat.{ℕ, suc, _+_, _*_, _-_, _≤_, _<_, min}
 use mathlib.Core.Path.{_≡_, refl, sym, ap, subst, _∙_}
 use mathlib.Core.Logic.{_⊎_, inl, inr}
 use mathlib.Core.List.{List, [], _∷_, _++_, append-assoc, append-nil}
 use native.Mathlib.Numerals.{add-one}
 use native.Mathlib.Nat.{add-zero, add-suc}
 use native.Mathlib.Omega.{arith}
-use lib.ListN.{length, getD, take, drop, set, length-append, length-drop, take-append-drop, drop-of-length-le}
+use lib.ListN.{length, getD, take, drop, set, length-append, length-drop, length-take, take-append-drop, drop-of-length-le}
 use lib.Seq.{take-all, take-take, take-at, drop-at, drop-drop, drop-cons, drop-append-le, take-append-le, getD-take, length-take-le, sets-eq}
 use borrow.Rule.Slice.PartMut.{putMid}
 use Rattle.refusal.specs.Answer.{accepted}
@@ -58,13 +58,8 @@ module _ (report₀ report : List ℕ) (n step j : ℕ) (below : j < n) (fits : 
 
 pub spread-none : (report₀ : List ℕ) (n step : ℕ) → drop (2 * n) report₀ ≡ paired step (drop n (take n report₀)) ++ drop (2 * n) report₀
 spread-none report₀ n step =
-    let e : drop n (take n report₀) ≡ [] = drop-of-length-le (take n report₀) (length-take-most n report₀) in
+    let e : drop n (take n report₀) ≡ [] = drop-of-length-le (take n report₀) {i = n} (omega (arith, length-take n report₀)) in
     rw e
-  where
-    length-take-most : (n : ℕ) (l : List ℕ) → length (take n l) ≤ n
-    length-take-most zero l = omega arith
-    length-take-most (suc n) [] = omega arith
-    length-take-most (suc n) (x ∷ l) = let h = length-take-most n l in omega arith
 
 -- ---- one tick of a batch
 

@@ -3,10 +3,9 @@
 use Prim.Native.Nat.{ℕ, zero, suc, _+_, _*_, _/_, _%_, _≤_, _<_}
 use mathlib.Core.Path.{_≡_, refl, sym, ap, ap₂, _∙_}
 use mathlib.Core.List.{List, [], _∷_, _++_, append-nil}
-use native.Mathlib.Nat.{zero-add, suc-add}
 use native.Mathlib.Omega.{arith}
 use lib.ListN.{length, take, drop, length-append, length-drop, take-append-drop, drop-of-length-le}
-use lib.Seq.{take-nil, getD-drop, take-length, take-at, take-all, take-take, take-append-le, length-take-le}
+use lib.Seq.{take-add, getD-drop, take-length, take-at, take-all, take-take, take-append-le, length-take-le}
 use Rattle.words.specs.Words.{Bytes}
 use Rattle.sheet.specs.Writing.{splice}
 use Rattle.sheet.proofs.Stores.{take-splice, length-splice}
@@ -131,11 +130,6 @@ bytes-taken (suc n) [] h i = omega arith
 bytes-taken (suc n) (b ∷ l) h zero = h 0
 bytes-taken (suc n) (b ∷ l) h (suc i) = bytes-taken n l (λ j. h (suc j)) i
 
-take-more : (n m : ℕ) (l : List ℕ) → take n l ++ take m (drop n l) ≡ take (n + m) l
-take-more zero m l = rw zero-add
-take-more (suc n) m [] = rw (suc-add, take-nil)
-take-more (suc n) m (x ∷ l) = rw suc-add (ap (λ (k : List ℕ). x ∷ k) (take-more n m l))
-
 -- The bytes of the number at a position are the bytes there.
 module _ (st : List ℕ) (bytes : Bytes st) where
   there : (at : ℕ) → at + 8 ≤ length st → low-bytes 8 (number-at st at) ≡ take 8 (drop at st)
@@ -147,7 +141,7 @@ module _ (st : List ℕ) (bytes : Bytes st) where
       ∙ low-value (take 8 (drop at st)) (bytes-taken 8 (drop at st) (λ i. rw (getD-drop at st i 0) (bytes (at + i))))
 
   after : (at : ℕ) → at + 8 ≤ length st → take at st ++ low-bytes 8 (number-at st at) ≡ take (at + 8) st
-  after at h = ap (λ (l : List ℕ). take at st ++ l) (there at h) ∙ take-more at 8 st
+  after at h = ap (λ (l : List ℕ). take at st ++ l) (there at h) ∙ sym (take-add at 8 st)
 
   -- Bytes that are given their own next tick and live count again stay as they are.
   pub moved-own : length st ≡ 544 → moved-bytes st (number-at st 528) (number-at st 536) ≡ st

@@ -87,11 +87,6 @@ module _ (s : List ℕ) (at : ℕ) (o : Offset) (t : List ℕ) (e : read-offset 
 
 -- ---- stores
 
-pub set-beyond : (l : List ℕ) (i v : ℕ) → length l ≤ i → l ≡ set l i v
-set-beyond [] i v h = refl
-set-beyond (x ∷ l) zero v h = absurd (omega arith)
-set-beyond (x ∷ l) (suc i) v h = ap {B = List ℕ} (λ t. x ∷ t) (set-beyond l i v (omega arith))
-
 pub take-two : (l : List ℕ) (o a b : ℕ) → o + 2 ≤ length l → take (o + 2) (set (set l o a) (o + 1) b) ≡ take o l ++ (a ∷ b ∷ [])
 take-two l o a b h =
     let e : o + 2 ≡ suc (suc o) = omega arith in

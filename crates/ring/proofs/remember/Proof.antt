@@ -1,20 +1,16 @@
 -- `ring::remember` meets its contract; in a history of no bytes there is nothing to set.
-use Prim.Native.Nat.{ℕ}
-use mathlib.Core.Path.{_≡_, refl}
-use mathlib.Core.List.{List, [], _∷_}
+use Prim.Native.Nat.{_%_}
+use mathlib.Core.Path.{refl, sym}
 use native.Mathlib.Nat.{mod-lt}
 use native.Mathlib.Omega.{arith}
-use lib.ListN.{length, set}
+use lib.ListN.{length}
+use lib.Seq.{set-out}
 use borrow.Author.Needs.{needs}
 use Rattle.ring.proofs.remember.Statement.{statement}
 use Rattle.ring.proofs.remember.Tie as tie
 
-set-none : (l : List ℕ) (i x : ℕ) → length l ≡ 0 → l ≡ set l i x
-set-none [] i x h = refl
-set-none (y ∷ l) i x h = absurd (omega arith)
-
 returns : tie.Need-returns
-returns c = set-none (c .before .args .history .now) _ (c .before .args .flag) (c .if1 .taken)
+returns c = sym (set-out (c .before .args .history .now) (c .before .args .t % length (c .before .args .history .now)) (c .before .args .flag) (omega (arith, c .if1 .taken)))
 
 rem-at : tie.Need-rem-at
 rem-at c = search needs

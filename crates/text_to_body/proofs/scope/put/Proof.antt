@@ -1,13 +1,14 @@
 -- `text_to_body::scope::put` meets its contract.
 -- Assumes nothing.
 use denote.Ref.{now}
-use Rattle.text_to_body.proofs.Scopes.{set-beyond}
+use mathlib.Core.Path.{sym}
+use lib.Seq.{set-out}
 use borrow.Author.Needs.{needs}
 use Rattle.text_to_body.proofs.scope.put.Statement.{statement}
 use Rattle.text_to_body.proofs.scope.put.Tie as tie
 
 returns : tie.Need-returns
-returns c = set-beyond (now (c .before .args .out)) (c .before .args .i) (c .before .args .b) (c .if1 .taken)
+returns c = sym (set-out (now (c .before .args .out)) (c .before .args .i) (c .before .args .b) (c .if1 .taken))
 
 slice-write-out : tie.Need-slice-write-out
 slice-write-out c = search needs
