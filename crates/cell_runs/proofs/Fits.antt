@@ -5,10 +5,10 @@ use mathlib.Core.Logic.{⊎-elim}
 use mathlib.Core.List.{List, [], _∷_, _++_}
 use native.Mathlib.Omega.{arith}
 use native.Mathlib.Numerals.{add-one}
-use native.Mathlib.Nat.{add-sub-cancel-left, mul-le-mul-right}
+use native.Mathlib.Nat.{mul-le-mul-right}
 use native.Mathlib.Decide.{decLt}
-use lib.ListN.{length, getD, take, drop, set, length-set, length-drop, length-append, List·getD-append}
-use lib.Seq.{length-take-le, getD-set-same, getD-set-other}
+use lib.ListN.{length, take, drop, length-set, length-drop, length-append, List·getD-append}
+use lib.Seq.{length-take-le, getD-set-other}
 use Rattle.rule.specs.Formula.{Bound}
 use Rattle.rule.specs.Meaning.{range}
 use Rattle.rule.specs.Figures.{range-pair, width}
@@ -19,42 +19,22 @@ use Rattle.rule.proofs.Reach.{at-most}
 use Rattle.cell_count.specs.Counts.{cap}
 use Rattle.cell_count.proofs.Saturation.{cap-most}
 use Rattle.ranges.specs.Plans.{Plans}
+use Rattle.ranges.proofs.Places.{set-within}
 use Rattle.cell_runs.specs.Tree.{Tree, flag-node, not-node, then-node, beside-node, range-node, words, Formed}
 use Rattle.cell_runs.specs.Leading.{HeadFit}
 use Rattle.cell_runs.specs.Run.{with-position, own-tick}
 use Rattle.cell_runs.specs.Calls.{Env, places, with-byte, Fit, SlotFit, WalkFit, PartFit}
-use Rattle.cell_runs.proofs.Slots.{slot-before}
 use Rattle.cell_runs.proofs.Parts.{tick-is}
 use Rattle.cell_runs.proofs.Positions.{places-entered}
 
--- ---- lengths of parts
-
-pub tail-length : (cell : List ℕ) → length (take (length cell - 4) (drop 4 cell)) ≡ length cell - 4
-tail-length cell =
-    let d : length (drop 4 cell) ≡ length cell - 4 = length-drop 4 cell in
-    length-take-le (length cell - 4) (drop 4 cell) (omega arith)
+-- ---- length of a part
 
 pub window-length : (a z : ℕ) (run : List ℕ) → z ≤ length run → length (take (z - a) (drop a run)) ≡ z - a
 window-length a z run h =
     let d : length (drop a run) ≡ length run - a = length-drop a run in
     length-take-le (z - a) (drop a run) (omega arith)
 
-pub slot-length : (z n j : ℕ) (run : List ℕ) → 0 < j → j ≤ n → n * z ≤ length run → length (take ((j - 1) * z + z - (j - 1) * z) (drop ((j - 1) * z) run)) ≡ z
-slot-length z n j run pos h room =
-    let b : (j - 1) * z + z ≤ n * z = slot-before z (j - 1) n (omega arith) in
-    let d : length (drop ((j - 1) * z) run) ≡ length run - (j - 1) * z = length-drop ((j - 1) * z) run in
-    rw (add-sub-cancel-left ((j - 1) * z) z) (length-take-le z (drop ((j - 1) * z) run) (omega arith))
-
 -- ---- one more position
-
-past-set : (t : ℕ) (ps : List ℕ) (n q : ℕ) → n < length ps → q ≤ t → ((v : ℕ) → getD ps v 0 ≤ t) → (v : ℕ) → getD (set ps n q) v 0 ≤ t
-past-set t ps n q h g s v = elim (decLt v n) [
-  | yes l ↦ rw (getD-set-other ps n v q 0 (omega arith)) (s v)
-  | no l ↦ elim (decLt n v) [
-    | yes m ↦ rw (getD-set-other ps n v q 0 (omega arith)) (s v)
-    | no m ↦ let e : v ≡ n = omega arith in rw (e, getD-set-same ps n q 0 h) g
-  ]
-]
 
 pub fit-entered : (F : Tree) (e : Env) (t q b len n : ℕ) → SlotFit F e t q len → n ≡ len → PartFit F (with-byte e q b) t 0 4 n n
 fit-entered F e t q b len n f en =
@@ -71,7 +51,7 @@ fit-entered F e t q b len n f en =
         formed = f .formed;
         room = omega arith;
         low = f .low;
-        past = past-set t (e .pos) (e .n) q (omega arith) (f .come) (f .past);
+        past = set-within (e .pos) (e .n) q t (f .past) (f .come);
         unbound = λ v h. getD-set-other (e .pos) (e .n) v q 0 (omega arith) ∙ f .unbound v (omega arith);
         five-places = length-set (e .pos) (e .n) q ∙ f .five-places;
         five-bytes = length-set (e .byte) (e .n) b ∙ f .five-bytes;

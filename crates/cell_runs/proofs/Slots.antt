@@ -13,6 +13,13 @@ use Rattle.cell_runs.specs.Slots.{slot}
 pub slot-before : (z j k : ℕ) → j < k → j * z + z ≤ k * z
 slot-before z j k h = rw (← suc-mul j z) (mul-le-mul-right z h)
 
+-- slot k of n, each of z words, has z
+pub slot-length : (z n k : ℕ) (run : List ℕ) → k < n → n * z ≤ length run → length (take (k * z + z - k * z) (drop (k * z) run)) ≡ z
+slot-length z n k run h room =
+    let b : k * z + z ≤ n * z = slot-before z k n h in
+    let d : length (drop (k * z) run) ≡ length run - k * z = length-drop (k * z) run in
+    rw (add-sub-cancel-left (k * z) z) (length-take-le z (drop (k * z) run) (omega arith))
+
 -- what lies after the first k words, by way of what lies after n of them
 pub drop-far : (n k : ℕ) (l : List ℕ) → n ≤ k → drop k l ≡ drop (k - n) (drop n l)
 drop-far n k l h = sym (drop-drop (k - n) n l ∙ ap (λ (m : ℕ). drop m l) (add-sub-of-le h))

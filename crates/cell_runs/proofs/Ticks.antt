@@ -158,13 +158,6 @@ pub record MovedUntil (F : Tree) (n c : ℕ) (hist : List ℕ) (b t low : ℕ) (
   pub report-rest : drop reported report ≡ drop reported report₀
   pub moved : MovedTo F n c hist b t low table₀ report₀ (p - low) reported live table report
 
-pub slot-length-at : (n c p : ℕ) (table : List ℕ) → 0 < n → n * c ≤ length table → length (take (p % n * c + c - p % n * c) (drop (p % n * c) table)) ≡ c
-slot-length-at n c p table some room =
-    let jn : p % n < n = mod-lt p some in
-    let fits : p % n * c + c ≤ n * c = slot-before c (p % n) n jn in
-    let d : length (drop (p % n * c) table) ≡ length table - p % n * c = length-drop (p % n * c) table in
-    rw (add-sub-cancel-left (p % n * c) c) (length-take-le c (drop (p % n * c) table) (omega arith))
-
 -- the words after the slots stay
 pub rest-more : (n c p : ℕ) (table ys : List ℕ) → 0 < n → n * c ≤ length table
     → length ys ≡ length (take (p % n * c + c - p % n * c) (drop (p % n * c) table))

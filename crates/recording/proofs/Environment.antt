@@ -1,13 +1,14 @@
 -- Laws of the environment: the positions that are bound, one more, and that it stays ready.
-use Prim.Native.Nat.{ℕ, zero, suc, _+_, _*_, _-_, _≤_, _<_}
+use Prim.Native.Nat.{ℕ, suc, _+_, _*_, _-_, _≤_, _<_}
 use mathlib.Core.Path.{_≡_, sym, ap, _∙_, subst}
 use mathlib.Core.Logic.{_⊎_, inl, inr}
-use mathlib.Core.List.{List, [], _∷_, _++_}
+use mathlib.Core.List.{[], _∷_, _++_}
 use native.Mathlib.Numerals.{add-one}
 use native.Mathlib.Omega.{arith}
-use lib.ListN.{length, getD, take, set, length-take, length-set, List·getD-eq-default}
+use lib.ListN.{length, getD, take, length-take, length-set, List·getD-eq-default}
 use lib.Seq.{take-suc-set, getD-take, getD-set-other}
 use Rattle.rule.proofs.Order.{by-order}
+use Rattle.ranges.proofs.Places.{set-within}
 use Rattle.recording.specs.declared.env.Env.{Env}
 use Rattle.recording.specs.Evaluating.{bound-positions, entered, Evaluable}
 
@@ -23,13 +24,6 @@ place-at {left} {i} {t} {e} r v = go (by-order v (e .nested))
 
 pub places-more : (e : Env) (q : ℕ) → length (e .pos) ≡ 5 → e .nested < 4 → bound-positions (entered e q) ≡ bound-positions e ++ (q ∷ [])
 places-more e q l h = take-suc-set (e .pos) (e .nested + 1) q (omega arith) ∙ ap (λ (n : ℕ). take n (e .pos) ++ (q ∷ [])) (add-one (e .nested))
-
-set-within : (l : List ℕ) (j q t : ℕ) → ((v : ℕ) → getD l v 0 ≤ t) → q ≤ t → (v : ℕ) → getD (set l j q) v 0 ≤ t
-set-within [] j q t h k v = omega (arith, h v)
-set-within (x ∷ l) zero q t h k zero = k
-set-within (x ∷ l) zero q t h k (suc v) = h (suc v)
-set-within (x ∷ l) (suc j) q t h k zero = h zero
-set-within (x ∷ l) (suc j) q t h k (suc v) = set-within l j q t (λ w. h (suc w)) k v
 
 -- ---- ready for a part
 

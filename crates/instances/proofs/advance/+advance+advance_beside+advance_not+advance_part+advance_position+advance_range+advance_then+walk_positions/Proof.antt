@@ -11,8 +11,8 @@ use Rattle.nodes.specs.Table.{bound-at}
 use Rattle.nodes.proofs.Nodes.{word-in}
 use Rattle.nodes.proofs.Nots.{nots-less}
 use Rattle.cell_runs.specs.Tree.{Tree, then-node, beside-node, tree-at}
-use Rattle.cell_runs.specs.Calls.{env-of, places, Fit, SlotFit, Advanced}
-use Rattle.cell_runs.proofs.Slots.{slot-before}
+use Rattle.cell_runs.specs.Calls.{env-of, Fit, SlotFit, Advanced}
+use Rattle.cell_runs.proofs.Slots.{slot-before, slot-length}
 use Rattle.cell_runs.proofs.PutBack.{tail-take}
 use Rattle.cells.proofs.Heads.{leading-least}
 use Rattle.cell_runs.proofs.Walks.{WalkedTo, walk-begun, walk-done, walk-more, walk-stopped}
@@ -23,7 +23,7 @@ use Rattle.cell_runs.proofs.Besides.{beside-of, beside-stopped}
 use Rattle.cell_runs.proofs.Foralls.{plan-here, range-of}
 use Rattle.cell_runs.proofs.Formulas.{flag-of, is-then, is-beside, is-range}
 use Rattle.cell_runs.proofs.Nots.{fit-nots, nots-of}
-use Rattle.cell_runs.proofs.Fits.{tail-length, window-length, slot-length, fit-entered, fit-head, fit-short, fit-long, fit-walk, fit-store, fit-first, fit-second, fit-beside, fit-left, fit-right, fit-flag, fit-come}
+use Rattle.cell_runs.proofs.Fits.{window-length, fit-entered, fit-head, fit-short, fit-long, fit-walk, fit-store, fit-first, fit-second, fit-beside, fit-left, fit-right, fit-flag, fit-come}
 use borrow.Fn.Kinds.{In}
 use borrow.Fn.PlainCycle.{Measures, is, falls, and}
 use Rattle.instances.proofs.advance.advance.Reads as advance
@@ -798,7 +798,7 @@ advance-range-walk-positions-requires measure c κs =
     let plan = plan-here (bound-at nodes (i + 1)) (bound-at nodes (i + 4)) env t s (at-plan-up-to .result .first) (at-plan-up-to .result .n) (at-plan-up-to .result .end) (at-range-at .result) (s₀ .pre .1 .1 .low) (s₀ .pre .1 .1 .past) (s₀ .pre .1 .1 .unbound) (at-range-at .ensures) (at-plan-up-to .ensures) in (
       omega (arith, s₀ .pre .0),
       fit-walk (s₀ .pre .1 .1) s (at-plan-up-to .result .first) (at-load-head .result .leading) (at-plan-up-to .result .n) (at-node-word .result) (length (take (length run - 4) (drop 4 run))) (at-plan-up-to .result .end)
-          (subst (λ (x : ℕ). x ≤ at-plan-up-to .result .n) (sym (at-load-head .ensures .0)) (leading-least s t (at-plan-up-to .result .n) (getD run 0 0))) (at-node-word .ensures) (tail-length run) plan,
+          (subst (λ (x : ℕ). x ≤ at-plan-up-to .result .n) (sym (at-load-head .ensures .0)) (leading-least s t (at-plan-up-to .result .n) (getD run 0 0))) (at-node-word .ensures) (window-length 4 (length run) run (omega arith)) plan,
     )
 
 advance-range-move-head-requires : (t : ℕ) → advance-range-lts.Need-move-head-requires (advance-range-claims t) (advance-range-at t) advance-range.Post
@@ -907,7 +907,7 @@ advance-then-advance-requires measure c κs =
     let at-advance-part = c .before .before .before .before .before .before .before .before .before .before .advance-part in
     let at-node-word = c .before .node-word in
     let mid = at-advance-part .last .1 .1 .1 .0 in
-    let long = tail-length mid ∙ ap (λ (n : ℕ). n - 4) (at-advance-part .kept .1 .1 .1 .0) in (
+    let long = window-length 4 (length mid) mid (omega arith) ∙ ap (λ (n : ℕ). n - 4) (at-advance-part .kept .1 .1 .1 .0) in (
       omega (arith, s₀ .pre .0),
       subst (λ (n : ℕ). Fit (tree-at left nodes n) env t (length (take (length mid - 4) (drop 4 mid)))) (sym (at-node-word .ensures))
           (subst (Fit (tree-at left nodes (getD nodes (s₀ .args .i + 7) 0)) env t) (sym long) (fit-second (s₀ .pre .1 .1))),
@@ -1072,7 +1072,7 @@ walk-positions-advance-position-requires measure c κs =
     let n = s₀ .args .n in
     let at-loop = c .before .before .loop in
     let at-loop-test = c .before .loop-test in
-    (omega (arith, s₀ .pre .0), subst (SlotFit (tree-at left nodes i) env t (first + (at-loop .j - 1))) (sym (slot-length z n (at-loop .j) (at-loop .run) (omega (arith, at-loop-test .taken)) (at-loop .inv .0) (omega (arith, at-loop .inv .1 .1 .0, s₀ .pre .1 .room)))) (s₀ .pre .1 .slots (at-loop .j - 1) (omega (arith, at-loop-test .taken, at-loop .inv .0))))
+    (omega (arith, s₀ .pre .0), subst (SlotFit (tree-at left nodes i) env t (first + (at-loop .j - 1))) (sym (slot-length z n (at-loop .j - 1) (at-loop .run) (omega (arith, at-loop-test .taken, at-loop .inv .0)) (omega (arith, at-loop .inv .1 .1 .0, s₀ .pre .1 .room)))) (s₀ .pre .1 .slots (at-loop .j - 1) (omega (arith, at-loop-test .taken, at-loop .inv .0))))
 
 walk-positions-both-requires : (t : ℕ) → walk-positions-lts.Need-both-requires (walk-positions-claims t) (walk-positions-at t) walk-positions.Post walk-positions-Inv-loop walk-positions-μ-loop
 walk-positions-both-requires t c κs = search needs

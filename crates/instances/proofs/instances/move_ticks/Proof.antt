@@ -4,13 +4,15 @@ use mathlib.Core.Path.{_≡_, refl, sym, ap, subst, _∙_}
 use mathlib.Core.Bool.{cond}
 use mathlib.Core.List.{[], _∷_}
 use native.Mathlib.Omega.{arith}
+use native.Mathlib.Nat.{mod-lt}
 use lib.Dec.{eqb}
 use lib.ListN.{length, take, drop}
 use borrow.Rule.Slice.PartMut.{putMid}
 use Rattle.rule.specs.Figures.{at-tick}
 use Rattle.cell_runs.specs.Tree.{tree-at, words}
 use Rattle.cell_runs.specs.Instances.{InstanceMoved}
-use Rattle.cell_runs.proofs.Ticks.{MovedUntil, slot-inside, slot-length-at, slot-next, until-none, until-more, until-all}
+use Rattle.cell_runs.proofs.Slots.{slot-length}
+use Rattle.cell_runs.proofs.Ticks.{MovedUntil, slot-inside, slot-next, until-none, until-more, until-all}
 use borrow.Author.Needs.{needs}
 use Rattle.instances.proofs.instances.move_ticks.Statement.{statement}
 use Rattle.instances.proofs.instances.move_ticks.Tie as tie
@@ -66,7 +68,7 @@ move-instance-requires c κs =
     let now = c .before .before .loop in
     let fits = s₀ .pre .0 in
     let z = s₀ .args .c in
-    let long = subst (λ (x : ℕ). length (take (x * z + z - x * z) (drop (x * z) (now .table))) ≡ z) (sym (now .inv .1)) (slot-length-at (s₀ .args .n) z (now .p) (now .table) (fits .some) (omega (arith, now .inv .0 .table-length, fits .table))) in
+    let long = subst (λ (x : ℕ). length (take (x * z + z - x * z) (drop (x * z) (now .table))) ≡ z) (sym (now .inv .1)) (slot-length z (s₀ .args .n) (now .p % s₀ .args .n) (now .table) (mod-lt (now .p) (fits .some)) (omega (arith, now .inv .0 .table-length, fits .table))) in
     record {
       formed = fits .formed;
       room = subst (λ (k : ℕ). 4 + words (at-tick ∷ []) (tree-at (s₀ .args .left) (s₀ .args .nodes .now) 0) ≤ k) (sym long) (fits .room);
