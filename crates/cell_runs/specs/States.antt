@@ -1,6 +1,5 @@
 -- The states that a step and a batch start from and leave.
 use Prim.Native.Nat.{ℕ, _+_}
-use mathlib.Core.List.{List}
 use Rattle.demand.specs.Contract.{State, Taken, Counts, state-at, next-state}
 
 -- A step from state s that took its tick and reported n ticks.

@@ -1,7 +1,6 @@
 -- `case_file::digit` meets its contract.
 -- Assumes nothing.
 use mathlib.Core.Path.{refl}
-use lib.Dec.{ltb}
 use borrow.Author.Tests.{lt-ltb, le-ltb}
 use borrow.Author.Needs.{needs}
 use Rattle.case_file.specs.Digits.{digit-value}

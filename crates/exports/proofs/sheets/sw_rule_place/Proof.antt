@@ -1,6 +1,6 @@
 -- `exports::sw_rule_place` meets its contract: the reader's answer as numbers.
 -- Assumes nothing.
-use mathlib.Core.Path.{_≡_, sym, ap, _∙_}
+use mathlib.Core.Path.{sym, ap, _∙_}
 use denote.Ref.{now}
 use Rattle.refusal.specs.Answer.{Answer, or-kept}
 use Rattle.sheet.specs.Sheet.{BodyPlace, found}

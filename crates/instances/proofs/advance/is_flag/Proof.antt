@@ -1,5 +1,5 @@
 -- `advance::is_flag` meets its contract.
-use mathlib.Core.Path.{sym, _∙_}
+use mathlib.Core.Path.{sym}
 use mathlib.Core.Bool.{true≢false}
 use native.Mathlib.Omega.{arith}
 use Rattle.cell_runs.proofs.Formulas.{is-none, is-flag}
