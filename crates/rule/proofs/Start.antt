@@ -14,11 +14,9 @@ use Rattle.rule.specs.declared.Range.{Range}
 use Rattle.rule.specs.declared.Range.the-variants.{Empty, Through, Onward}
 use Rattle.rule.specs.Meaning.{verdict, up, opposite, both, after, range, walk, seen, every, outcome}
 use Rattle.rule.specs.Started.{raise}
+use Rattle.rule.proofs.Conjunction.{max-assoc}
 
 -- ---- `raise` goes through the operations
-
-max-max : (r s d : ℕ) → max r (max s d) ≡ max (max r s) d
-max-max r s d = omega arith
 
 max-least : (s a b : ℕ) → max s (min a b) ≡ min (max s a) (max s b)
 max-least s a b = omega arith
@@ -32,7 +30,7 @@ max-start r s h = omega arith
 -- twice is once, to the larger step
 pub raise-twice : (r s : ℕ) (o : Outcome) → raise r (raise s o) ≡ raise (max r s) o
 unfolding raise
-raise-twice r s (Decided v d) = ap (Decided v) (max-max r s d)
+raise-twice r s (Decided v d) = ap (Decided v) (sym (max-assoc r s d))
 raise-twice r s Open = refl
 
 raise-opposite : (s : ℕ) (o : Outcome) → raise s (opposite o) ≡ opposite (raise s o)
