@@ -11,7 +11,7 @@ use borrow.Author.Tests.{le-leb, lt-leb, le-ltb, lt-ltb}
 use Rattle.words.specs.Words.{byte, word}
 use Rattle.rule.specs.Body.{Head, negate-head, forall-head, require, signed, bound, require-bound, fixed, after-code, head}
 use mathlib.Core.Logic.{_⊎_, inl, inr}
-use Rattle.rule.proofs.Reading.{and-true}
+use Rattle.refusal.proofs.Bools.{and-true}
 use Rattle.rule.proofs.Order.{by-order}
 use Rattle.formula_bytes.specs.Checks.{head-number}
 

@@ -1,20 +1,14 @@
 -- Laws of runs of letters and digits, of fixed words, and of what is read at the start of a text.
 use Prim.Native.Nat.{ℕ, _≤_}
 use mathlib.Core.Path.{_≡_, refl, ap, sym, _∙_}
-use mathlib.Core.Bool.{Bool, true, false, not, cond, _&&_, _||_, false≢true}
+use mathlib.Core.Bool.{Bool, true, false, not, cond, _&&_, false≢true}
 use mathlib.Core.List.{List, [], _∷_, _++_}
 use lib.Dec.{leb, eqb}
 use lib.ListN.{length, drop}
 use borrow.Author.Tests.{not-true, leb-true, eqb-true, ne-eqb}
-use Rattle.rule.proofs.Reading.{and-true}
+use Rattle.refusal.proofs.Bools.{and-true, or-false}
 use Rattle.notation.specs.Notation.{letter, digit, all, same, reserved, is-name, is-numeral, infinity-word, monitor-word, forall-word, in-word}
 use Rattle.notation.specs.Reading.{Got, none, got, and-read, starts, expect, run, past, read-name, read-numeral, one-digit}
-
--- ---- tests
-
-or-false : (a b : Bool) → (a || b) ≡ false → (a ≡ false) × (b ≡ false)
-or-false true b e = absurd (false≢true (sym e))
-or-false false b e = (refl, e)
 
 -- ---- runs
 

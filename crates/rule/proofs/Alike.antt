@@ -1,7 +1,7 @@
 -- A range whose body does not name the range's variable: its bodies are alike but for their start, so that the first and the last decide.
 use Prim.Native.Nat.{ℕ, zero, suc, _+_, _-_, _≤_, _<_, min, max}
 use mathlib.Core.Path.{_≡_, refl, sym, ap, ap₂, _∙_, fun-ext}
-use mathlib.Core.Bool.{Bool, true, false, true≢false, _||_}
+use mathlib.Core.Bool.{false, _||_}
 use mathlib.Core.List.{List, [], _∷_, _++_, append-assoc}
 use native.Mathlib.Omega.{arith}
 use lib.ListN.{length, getD}
@@ -16,19 +16,12 @@ use Rattle.rule.specs.declared.Range.{Range}
 use Rattle.rule.specs.Meaning.{verdict, up, opposite, both, after, point, positions, range, walk, seen, every, outcome}
 use Rattle.rule.specs.Started.{raise}
 use Rattle.rule.specs.Naming.{bound-names, names}
+use Rattle.refusal.proofs.Bools.{or-false}
 use Rattle.rule.proofs.Conjunction.{both-assoc, both-twice}
 use Rattle.rule.proofs.Every.{seen-in}
 use Rattle.rule.proofs.Start.{start-law, raise-twice}
 
 -- ---- the position of a variable that is not named does not matter
-
-not-first : (a b : Bool) → (a || b) ≡ false → a ≡ false
-not-first true b h = h
-not-first false b h = refl
-
-not-second : (a b : Bool) → (a || b) ≡ false → b ≡ false
-not-second true b h = absurd (true≢false h)
-not-second false b h = h
 
 other-place : (before behind : List ℕ) (p q v : ℕ) → (v ≡ length before → ⊥)
     → getD (before ++ (p ∷ behind)) v 0 ≡ getD (before ++ (q ∷ behind)) v 0
@@ -57,20 +50,20 @@ other-outcome (flag v k) flags t before behind p q s h =
     ap (λ (x : ℕ). Decided (verdict (up k (flags x))) s) (other-place before behind p q v (eqb-false v (length before) h))
 other-outcome (negate F) flags t before behind p q s h = ap opposite (other-outcome F flags t before behind p q s h)
 other-outcome (then F G) flags t before behind p q s h =
-    ap₂ after (other-outcome F flags t before behind p q s (not-first (names (length before) F) (names (length before) G) h))
-    (fun-ext (λ d. other-outcome G flags t before behind p q d (not-second (names (length before) F) (names (length before) G) h)))
+    ap₂ after (other-outcome F flags t before behind p q s (or-false (names (length before) F) (names (length before) G) h .0))
+    (fun-ext (λ d. other-outcome G flags t before behind p q d (or-false (names (length before) F) (names (length before) G) h .1)))
 other-outcome (beside F G) flags t before behind p q s h =
-    ap₂ both (other-outcome F flags t before behind p q s (not-first (names (length before) F) (names (length before) G) h))
-    (other-outcome G flags t before behind p q s (not-second (names (length before) F) (names (length before) G) h))
+    ap₂ both (other-outcome F flags t before behind p q s (or-false (names (length before) F) (names (length before) G) h .0))
+    (other-outcome G flags t before behind p q s (or-false (names (length before) F) (names (length before) G) h .1))
 other-outcome (forall B₁ B₂ F) flags t before behind p q s h =
     let k : (bound-names (length before) B₂ || names (length before) F) ≡ false
-    = not-second (bound-names (length before) B₁) (bound-names (length before) B₂ || names (length before) F) h in
+    = or-false (bound-names (length before) B₁) (bound-names (length before) B₂ || names (length before) F) h .1 in
     ap₂ (λ (x : Range) (f : ℕ → Outcome). every x f t s)
-    (other-range before behind p q B₁ B₂ (not-first (bound-names (length before) B₁) (bound-names (length before) B₂ || names (length before) F) h)
-    (not-first (bound-names (length before) B₂) (names (length before) F) k))
+    (other-range before behind p q B₁ B₂ (or-false (bound-names (length before) B₁) (bound-names (length before) B₂ || names (length before) F) h .0)
+    (or-false (bound-names (length before) B₂) (names (length before) F) k .0))
     (fun-ext (λ x.
     ap (λ (e : List ℕ). seen t x (outcome F flags t e (max s x))) (append-assoc before (p ∷ behind) (x ∷ []))
-    ∙ ap (seen t x) (other-outcome F flags t before (behind ++ (x ∷ [])) p q (max s x) (not-second (bound-names (length before) B₂) (names (length before) F) k))
+    ∙ ap (seen t x) (other-outcome F flags t before (behind ++ (x ∷ [])) p q (max s x) (or-false (bound-names (length before) B₂) (names (length before) F) k .1))
     ∙ ap (λ (e : List ℕ). seen t x (outcome F flags t e (max s x))) (sym (append-assoc before (q ∷ behind) (x ∷ [])))))
 
 -- ---- so a later position's body is that of an earlier one, raised

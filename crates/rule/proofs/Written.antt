@@ -13,6 +13,7 @@ use borrow.Author.Tests.{leb-true, eqb-true, eqb-false, eq-eqb, ne-eqb}
 use Rattle.words.specs.Words.{byte, Bytes, word}
 use Rattle.rule.specs.Formula.{Bound, origin, infinity, variable, Formula, flag, negate, then, beside, forall}
 use Rattle.rule.specs.Body.{Head, refuse, signed, bound, require-bound}
+use Rattle.refusal.proofs.Bools.{if-true}
 use Rattle.rule.proofs.Reading.{require-holds}
 
 -- ---- the bytes of a formula
@@ -73,10 +74,6 @@ pub record TestedBound (s : List ℕ) (at m : ℕ) : Type 0 where
   pub no-variable : (byte s at ≡ 2 → ⊥) → byte s (at + 1) ≡ 0
   pub no-offset : byte s at ≡ 1 → word s (at + 2) ≡ 0
   pub near : natAbs (signed (word s (at + 2))) ≤ 4095
-
-if-true : (x y : Bool) → x ≡ true → (not x || y) ≡ true → y ≡ true
-if-true true y e f = f
-if-true false y e f = absurd (false≢true e)
 
 if-false : (x y : Bool) → x ≡ false → (x || y) ≡ true → y ≡ true
 if-false true y e f = absurd (false≢true (sym e))

@@ -13,7 +13,7 @@ use Rattle.notation.specs.Reading.{Got, none, got, and-read, starts, Token, fla
 use Rattle.notation.specs.Bodies.{seek, value-on, offset-word, base-bytes, word-bytes, end-bytes}
 use Rattle.text_pieces.specs.Spots.{Found}
 use Rattle.text_to_body.specs.Work.{scope-of}
-use Rattle.rule.proofs.Reading.{and-true}
+use Rattle.refusal.proofs.Bools.{and-true}
 use Rattle.notation.proofs.Spelling.{run-past, Gets, gets-bind, gets-cond, gets-expect, gets-digit}
 use Rattle.text_pieces.proofs.Scanning.{run-rest}
 

@@ -7,7 +7,8 @@ use lib.Dec.{leb}
 use lib.ListN.{length}
 use Rattle.words.specs.Words.{byte}
 use Rattle.rule.specs.Body.{fixed}
-use Rattle.rule.proofs.Reading.{fixed-forall, and-true}
+use Rattle.refusal.proofs.Bools.{and-true}
+use Rattle.rule.proofs.Reading.{fixed-forall}
 use borrow.Author.Tests.{not-true, not-false, eq-eqb, ne-eqb, leb-true}
 use Rattle.formula_bytes.proofs.Refusals.{head-4, head-5, head-9, head-4b, head-contents}
 use borrow.Author.Needs.{needs}
