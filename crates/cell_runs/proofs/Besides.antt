@@ -15,11 +15,11 @@ use Rattle.cell_runs.specs.Tree.{Tree, beside-node, formula-of}
 use Rattle.cells.specs.Cells.{held}
 use Rattle.cell_runs.specs.Slots.{window}
 use Rattle.cell_runs.specs.Run.{out, own-tick, RunHolds, RunReady}
-use Rattle.cell_runs.specs.Calls.{Env, places, Advanced, PartAdvanced}
+use Rattle.cell_runs.specs.Calls.{Variables, places, Advanced, PartAdvanced}
 use Rattle.cell_runs.proofs.PutBack.{rest-take}
 use Rattle.cell_runs.proofs.Walks.{false-first}
 
-module _ {f : ℕ} {F G : Tree} {hist : List ℕ} {b : ℕ} {e : Env} {s t : ℕ} {run : List ℕ} where
+module _ {f : ℕ} {F G : Tree} {hist : List ℕ} {b : ℕ} {e : Variables} {s t : ℕ} {run : List ℕ} where
   pub beside-of : (mid run′ : List ℕ) (x y r : Outcome) → 4 + f ≤ length run
       → PartAdvanced F hist b e s t 0 4 (4 + f) run x mid → PartAdvanced G hist b e s t 1 (4 + f) (length run) mid y run′ → r ≡ both x y
       → Advanced (beside-node f F G) hist b e s t run r run′

@@ -23,7 +23,7 @@ use Rattle.ranges.proofs.Places.{set-within}
 use Rattle.cell_runs.specs.Tree.{Tree, flag-node, not-node, then-node, beside-node, range-node, words, Formed}
 use Rattle.cell_runs.specs.Leading.{HeadFit}
 use Rattle.cell_runs.specs.Run.{with-position, own-tick}
-use Rattle.cell_runs.specs.Calls.{Env, places, with-byte, Fit, SlotFit, WalkFit, PartFit}
+use Rattle.cell_runs.specs.Calls.{Variables, places, with-byte, Fit, SlotFit, WalkFit, PartFit}
 use Rattle.cell_runs.proofs.Parts.{tick-is}
 use Rattle.cell_runs.proofs.Positions.{places-entered}
 
@@ -36,7 +36,7 @@ window-length a z run h =
 
 -- ---- one more position
 
-pub fit-entered : (F : Tree) (e : Env) (t q b len n : ℕ) → SlotFit F e t q len → n ≡ len → PartFit F (with-byte e q b) t 0 4 n n
+pub fit-entered : (F : Tree) (e : Variables) (t q b len n : ℕ) → SlotFit F e t q len → n ≡ len → PartFit F (with-byte e q b) t 0 4 n n
 fit-entered F e t q b len n f en =
     let room : 4 + words (f .pairs) F ≤ len = f .room in
     let le : 4 ≤ len = omega arith in
@@ -66,7 +66,7 @@ fit-entered F e t q b len n f en =
 
 -- ---- the positions of a range
 
-module _ {F : Tree} {B₁ B₂ : Bound} {z : ℕ} {e : Env} {t len : ℕ} (f : Fit (range-node B₁ B₂ z F) e t len) where
+module _ {F : Tree} {B₁ B₂ : Bound} {z : ℕ} {e : Variables} {t len : ℕ} (f : Fit (range-node B₁ B₂ z F) e t len) where
   -- the positions that the run has slots for
   abbrev w : ℕ
   w = cap (width (range-pair B₁ B₂ (f .pairs)))
@@ -144,7 +144,7 @@ module _ {F : Tree} {B₁ B₂ : Bound} {z : ℕ} {e : Env} {t len : ℕ} (f : F
 -- ---- the other formulas
 
 -- another formula of the same variables
-fit-as : (F : Tree) {G : Tree} {e : Env} {t len : ℕ} (len′ : ℕ) (f : Fit G e t len) → Formed (f .pairs) F → words (f .pairs) F ≤ len′ → Fit F e t len′
+fit-as : (F : Tree) {G : Tree} {e : Variables} {t len : ℕ} (len′ : ℕ) (f : Fit G e t len) → Formed (f .pairs) F → words (f .pairs) F ≤ len′ → Fit F e t len′
 fit-as F len′ f h r = record {
   pairs = f .pairs;
   fits = f .fits;
@@ -160,43 +160,43 @@ fit-as F len′ f h r = record {
   some = f .some;
 }
 
-pub fit-first : {F G : Tree} {e : Env} {t len : ℕ} → Fit (then-node F G) e t len → PartFit F e t 0 4 len len
+pub fit-first : {F G : Tree} {e : Variables} {t len : ℕ} → Fit (then-node F G) e t len → PartFit F e t 0 4 len len
 unfolding words Formed
 fit-first {F} {G} {e} {t} {len} f =
     let r : 4 + max (words (f .pairs) F) (words (f .pairs) G) ≤ len = f .room in
     record { fit = fit-as F (len - 4) f (f .formed .0) (omega arith); cell = omega arith; after-cell = omega arith; start = omega arith; end = omega arith }
 
-pub fit-second : {F G : Tree} {e : Env} {t len : ℕ} → Fit (then-node F G) e t len → Fit G e t (len - 4)
+pub fit-second : {F G : Tree} {e : Variables} {t len : ℕ} → Fit (then-node F G) e t len → Fit G e t (len - 4)
 unfolding words Formed
 fit-second {F} {G} {e} {t} {len} f =
     let r : 4 + max (words (f .pairs) F) (words (f .pairs) G) ≤ len = f .room in
     fit-as G (len - 4) f (f .formed .1) (omega arith)
 
 -- the sizes and places that are read off the node are its own
-pub fit-beside : (e : Env) (t len : ℕ) (F : Tree) (G : ℕ → Tree) {w w′ g g′ : ℕ} → w′ ≡ w → g′ ≡ g → Fit (beside-node w F (G g)) e t len → Fit (beside-node w′ F (G g′)) e t len
+pub fit-beside : (e : Variables) (t len : ℕ) (F : Tree) (G : ℕ → Tree) {w w′ g g′ : ℕ} → w′ ≡ w → g′ ≡ g → Fit (beside-node w F (G g)) e t len → Fit (beside-node w′ F (G g′)) e t len
 fit-beside e t len F G ew eg f = rw (ew, eg) f
 
-pub fit-left : {w : ℕ} {F G : Tree} {e : Env} {t len : ℕ} → Fit (beside-node w F G) e t len → PartFit F e t 0 4 (4 + w) len
+pub fit-left : {w : ℕ} {F G : Tree} {e : Variables} {t len : ℕ} → Fit (beside-node w F G) e t len → PartFit F e t 0 4 (4 + w) len
 unfolding words Formed
 fit-left {w} {F} {G} {e} {t} {len} f =
     let r : 4 + w + words (f .pairs) G ≤ len = f .room in
     let g : words (f .pairs) F ≤ w = f .formed .0 in
     record { fit = fit-as F (4 + w - 4) f (f .formed .1 .0) (omega arith); cell = omega arith; after-cell = omega arith; start = omega arith; end = omega arith }
 
-pub fit-right : {w : ℕ} {F G : Tree} {e : Env} {t len : ℕ} (n : ℕ) → n ≡ len → Fit (beside-node w F G) e t len → PartFit G e t 1 (4 + w) len n
+pub fit-right : {w : ℕ} {F G : Tree} {e : Variables} {t len : ℕ} (n : ℕ) → n ≡ len → Fit (beside-node w F G) e t len → PartFit G e t 1 (4 + w) len n
 unfolding words Formed
 fit-right {w} {F} {G} {e} {t} {len} n en f =
     let r : 4 + w + words (f .pairs) G ≤ len = f .room in
     record { fit = fit-as G (len - (4 + w)) f (f .formed .1 .1) (omega arith); cell = omega arith; after-cell = omega arith; start = omega arith; end = omega arith }
 
-pub fit-not : {F : Tree} {e : Env} {t len : ℕ} → Fit (not-node F) e t len → Fit F e t len
+pub fit-not : {F : Tree} {e : Variables} {t len : ℕ} → Fit (not-node F) e t len → Fit F e t len
 unfolding words Formed
 fit-not {F} {e} {t} {len} f = fit-as F len f (f .formed) (f .room)
 
-pub fit-flag : {v k : ℕ} {e : Env} {t len : ℕ} → Fit (flag-node v k) e t len → v < e .n
+pub fit-flag : {v k : ℕ} {e : Variables} {t len : ℕ} → Fit (flag-node v k) e t len → v < e .n
 unfolding Formed
 fit-flag {v} {k} {e} {t} {len} f = subst (λ (n : ℕ). v < n) (f .size) (f .formed)
 
 -- the rule's tick has come
-pub fit-come : {F : Tree} {e : Env} {t len : ℕ} → Fit F e t len → own-tick (places e) ≤ t
+pub fit-come : {F : Tree} {e : Variables} {t len : ℕ} → Fit F e t len → own-tick (places e) ≤ t
 fit-come {F} {e} {t} {len} f = subst (λ (n : ℕ). n ≤ t) (tick-is e (f .some)) (f .past 0)

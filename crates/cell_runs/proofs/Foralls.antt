@@ -35,7 +35,7 @@ use Rattle.cell_runs.specs.Slots.{slot}
 use Rattle.cells.specs.Heads.{latest-of, leading-of}
 use Rattle.cell_runs.specs.Leading.{Leading, HeadMoved}
 use Rattle.cell_runs.specs.Run.{out, with-position, own-tick, RunHolds, SlotHolds, RunReady, SlotReady}
-use Rattle.cell_runs.specs.Calls.{Env, places, Advanced, PositionsWalked}
+use Rattle.cell_runs.specs.Calls.{Variables, places, Advanced, PositionsWalked}
 use Rattle.cell_runs.proofs.PutBack.{tail-drop, tail-take}
 use Rattle.cell_runs.proofs.Walks.{walk-false}
 use Rattle.cells.proofs.Heads.{leading-start, leading-kept, latest-back}
@@ -44,7 +44,7 @@ use Rattle.cell_runs.proofs.Heads.{leading-walk, leading-on, leading-at
 bind-tick : (env : List ℕ) (q : ℕ) → 0 < length env → own-tick (with-position env q) ≡ own-tick env
 bind-tick env q h = List·getD-append env (q ∷ []) 0 0 h
 
-module _ (B₁ B₂ : Bound) (z : ℕ) (F : Tree) (e : Env) (s t : ℕ) (run : List ℕ) (first n leading latest own : ℕ) (end : Outcome)
+module _ (B₁ B₂ : Bound) (z : ℕ) (F : Tree) (e : Variables) (s t : ℕ) (run : List ℕ) (first n leading latest own : ℕ) (end : Outcome)
     (p : Plans (range B₁ B₂ (places e)) t s first n end) (eo : own ≡ own-tick (places e))
     (el : leading ≡ leading-of s t n (getD run 0 0)) (ec : latest ≡ latest-of own s leading (getD run 2 0)) (flags : ℕ → ℕ) where
   -- what the head says holds now, and the leading slots need no flag-node
@@ -93,7 +93,7 @@ module _ (B₁ B₂ : Bound) (z : ℕ) (F : Tree) (e : Env) (s t : ℕ) (run : L
             (sl .0, (now ∙ sym (was .1) ∙ sl .1 .0, λ x. clash _ x now)),
       )
 
-module _ (B₁ B₂ : Bound) (z : ℕ) (F : Tree) (hist : List ℕ) (b : ℕ) (e : Env) (s t : ℕ) (run : List ℕ) where
+module _ (B₁ B₂ : Bound) (z : ℕ) (F : Tree) (hist : List ℕ) (b : ℕ) (e : Variables) (s t : ℕ) (run : List ℕ) where
   started-by : (flags : ℕ → ℕ) → RunReady flags t (places e) s (range-node B₁ B₂ z F) run → s ≤ t
   unfolding RunReady
   started-by flags x = ⊎-elim (λ y. omega arith) (λ y. let et : t ≡ y .0 + 1 = y .1 in let le : s ≤ y .0 = y .2 in omega arith) x
@@ -216,7 +216,7 @@ module _ (B₁ B₂ : Bound) (z : ℕ) (F : Tree) (hist : List ℕ) (b : ℕ) (e
         (walked .gives .1 flags H hon (λ j g h. reach (first + j) (p .inside j h)) (λ j g h. subst (λ (l : List ℕ). SlotReady flags t (places e) s F (first + j) (slot z j l)) (sym er) (slots-ready first n end p flags ready j h)));
   }
 
-module _ {B₁ B₂ : Bound} {z : ℕ} {F : Tree} {hist : List ℕ} {b : ℕ} {e : Env} {s t : ℕ} {run : List ℕ} where
+module _ {B₁ B₂ : Bound} {z : ℕ} {F : Tree} {hist : List ℕ} {b : ℕ} {e : Variables} {s t : ℕ} {run : List ℕ} where
   pub range-of : (first n leading latest own z′ : ℕ) (end r o : Outcome) (ys mid run′ : List ℕ) → z′ ≡ z → 4 ≤ length run → Plans (range B₁ B₂ (places e)) t s first n end
       → own ≡ own-tick (places e) → 0 < length (places e) → t < own-tick (places e) + 4294967296 → n < 4294967296
       → leading ≡ leading-of s t n (getD run 0 0) → latest ≡ latest-of own s leading (getD run 2 0)
@@ -240,7 +240,7 @@ bound-alone ps n h v = elim (decLt v n) [
       h v (omega arith) ∙ sym (List·getD-eq-default (take n ps) 0 e)
 ]
 
-pub plan-here : (B₁ B₂ : Bound) (e : Env) (t s first n : ℕ) (end : Outcome) (r : Range) → t < 4294967296 → ((v : ℕ) → getD (e .pos) v 0 ≤ t)
+pub plan-here : (B₁ B₂ : Bound) (e : Variables) (t s first n : ℕ) (end : Outcome) (r : Range) → t < 4294967296 → ((v : ℕ) → getD (e .pos) v 0 ≤ t)
     → ((v : ℕ) → e .n ≤ v → getD (e .pos) v 0 ≡ 0) → r ≡ range B₁ B₂ (ranges.clamped (e .pos)) → Plans r (ranges.clamped-at t) s first n end
     → Plans (range B₁ B₂ (places e)) t s first n end
 plan-here B₁ B₂ e t s first n end r low past unbound er p =

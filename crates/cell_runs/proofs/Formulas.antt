@@ -15,14 +15,14 @@ use Rattle.nodes.specs.Table.{bound-at}
 use Rattle.nodes.proofs.Nodes.{some-left}
 use Rattle.cell_runs.specs.Tree.{Tree, flag-node, not-node, then-node, beside-node, range-node, formula-of, tree-at}
 use Rattle.cell_runs.specs.Run.{RunHolds, RunReady}
-use Rattle.cell_runs.specs.Calls.{Env, places, flagged, Advanced}
+use Rattle.cell_runs.specs.Calls.{Variables, places, flagged, Advanced}
 
 opposite-open : (o : Outcome) → opposite o ≡ Open → o ≡ Open
 unfolding opposite
 opposite-open Open q = refl
 opposite-open (Decided v d) q = clash _ q refl
 
-module _ {hist : List ℕ} {b : ℕ} {e : Env} {s t : ℕ} {run : List ℕ} where
+module _ {hist : List ℕ} {b : ℕ} {e : Variables} {s t : ℕ} {run : List ℕ} where
   pub flag-of : (v k : ℕ) (r : Outcome) → v < e .n → r ≡ flagged (e .byte) v k s → Advanced (flag-node v k) hist b e s t run r run
   unfolding outcome RunHolds formula-of
   flag-of v k r h er = record {

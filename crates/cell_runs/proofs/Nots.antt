@@ -10,17 +10,17 @@ use Rattle.nodes.specs.declared.operand.Operand.{Operand}
 use Rattle.nodes.specs.Nots.{past-nots}
 use Rattle.nodes.proofs.Nots.{over-nots}
 use Rattle.cell_runs.specs.Tree.{Tree, tree-at}
-use Rattle.cell_runs.specs.Calls.{Env, Fit, Advanced}
+use Rattle.cell_runs.specs.Calls.{Variables, Fit, Advanced}
 use Rattle.cell_runs.proofs.Formulas.{is-not, not-of}
 use Rattle.cell_runs.proofs.Fits.{fit-not}
 
 module _ (ns : List ℕ) (left i : ℕ) (u : Operand) (e : u ≡ past-nots left ns i false) where
-  pub fit-nots : {env : Env} {t len : ℕ} → Fit (tree-at left ns i) env t len → Fit (tree-at (u .left) ns (u .i)) env t len
+  pub fit-nots : {env : Variables} {t len : ℕ} → Fit (tree-at left ns i) env t len → Fit (tree-at (u .left) ns (u .i)) env t len
   fit-nots {env} {t} {len} =
       over-nots ns (λ odd n j. Fit (tree-at n ns j) env t len → Fit (tree-at (u .left) ns (u .i)) env t len)
       (λ odd n j c below f. below (fit-not (subst (λ (F : Tree). Fit F env t len) (is-not ns j n c) f))) left i false u e (λ f. f)
 
-  pub nots-of : {hist : List ℕ} {b : ℕ} {env : Env} {s t : ℕ} {run : List ℕ} (o r : Outcome) (run′ : List ℕ)
+  pub nots-of : {hist : List ℕ} {b : ℕ} {env : Variables} {s t : ℕ} {run : List ℕ} (o r : Outcome) (run′ : List ℕ)
       → Advanced (tree-at (u .left) ns (u .i)) hist b env s t run o run′ → r ≡ cond (u .odd) (opposite o) o → Advanced (tree-at left ns i) hist b env s t run r run′
   nots-of {hist} {b} {env} {s} {t} {run} o r run′ adv er =
       over-nots ns (λ odd n j. Advanced (tree-at n ns j) hist b env s t run (cond odd (opposite r) r) run′)

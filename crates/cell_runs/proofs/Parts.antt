@@ -17,14 +17,14 @@ use Rattle.cell_runs.specs.Tree.{Tree, formula-of}
 use Rattle.cells.specs.Cells.{held, CellHolds, mark}
 use Rattle.cell_runs.specs.Slots.{window}
 use Rattle.cell_runs.specs.Run.{out, own-tick, RunHolds, RunReady}
-use Rattle.cell_runs.specs.Calls.{Env, places, PartFit, Advanced, Untouched, PartAdvanced}
+use Rattle.cell_runs.specs.Calls.{Variables, places, PartFit, Advanced, Untouched, PartAdvanced}
 use Rattle.cells.proofs.Marks.{mark-drop, mark-held, Small}
 use Rattle.cell_runs.proofs.PutBack.{part-window, part-kept, same-kept}
 
-pub tick-is : (e : Env) → 0 < e .n → getD (e .pos) 0 0 ≡ own-tick (places e)
+pub tick-is : (e : Variables) → 0 < e .n → getD (e .pos) 0 0 ≡ own-tick (places e)
 tick-is e h = sym (getD-take (e .n) (e .pos) 0 0 h)
 
-module _ (F : Tree) (hist : List ℕ) (b : ℕ) (e : Env) (s t k a z : ℕ) (run : List ℕ) where
+module _ (F : Tree) (hist : List ℕ) (b : ℕ) (e : Variables) (s t k a z : ℕ) (run : List ℕ) where
   fresh-now : (flags : ℕ → ℕ) (l : List ℕ) (r : Outcome) → RunReady flags t (places e) s F l → r ≡ out flags t (places e) s F
       → (v : Verdict) (d : ℕ) → r ≡ Decided v d → t ≡ d
   unfolding RunReady

@@ -17,10 +17,10 @@ use Rattle.cells.specs.Cells.{CellHolds}
 use Rattle.cell_runs.specs.Slots.{window}
 use Rattle.cell_runs.specs.Run.{out, with-position, own-tick, RunHolds, SlotHolds, SlotReady}
 use Rattle.ring.specs.Ring.{byte-of}
-use Rattle.cell_runs.specs.Calls.{Env, places, with-byte, AtHand, PositionAdvanced, PartAdvanced}
+use Rattle.cell_runs.specs.Calls.{Variables, places, with-byte, AtHand, PositionAdvanced, PartAdvanced}
 use Rattle.cell_runs.proofs.PutBack.{tail-take, rest-take}
 
-module _ (e : Env) (q b : ℕ) (deep : e .n < 5) (five : length (e .pos) ≡ 5) (five₂ : length (e .byte) ≡ 5) where
+module _ (e : Variables) (q b : ℕ) (deep : e .n < 5) (five : length (e .pos) ≡ 5) (five₂ : length (e .byte) ≡ 5) where
   pub places-entered : places (with-byte e q b) ≡ with-position (places e) q
   places-entered = rw (add-one (e .n)) (take-suc-set (e .pos) (e .n) q (omega arith))
 
@@ -38,13 +38,13 @@ module _ (e : Env) (q b : ℕ) (deep : e .n < 5) (five : length (e .pos) ≡ 5) 
   }
 
 -- the byte that is read when a body starts
-byte-right : (flags : ℕ → ℕ) (H : ℕ) (hist : List ℕ) (b : ℕ) (e : Env) (t q : ℕ) → AtHand flags H hist b e t → q ≤ t → t ≤ q + H → byte-of hist b t q ≡ flags q
+byte-right : (flags : ℕ → ℕ) (H : ℕ) (hist : List ℕ) (b : ℕ) (e : Variables) (t q : ℕ) → AtHand flags H hist b e t → q ≤ t → t ≤ q + H → byte-of hist b t q ≡ flags q
 byte-right flags H hist b e t q hon h g = elim (decLt q t) [
   | yes l ↦ simp (ne-eqb q t (omega arith)) (hon .stream .history q l g)
   | no l ↦ let eq : q ≡ t = omega arith in simp (eq-eqb q t eq) (hon .stream .current ∙ ap flags (sym eq))
 ]
 
-module _ (F : Tree) (hist : List ℕ) (b : ℕ) (e : Env) (s t q : ℕ) where
+module _ (F : Tree) (hist : List ℕ) (b : ℕ) (e : Variables) (s t q : ℕ) where
   -- what was so a tick ago, where the body doesn't start now
   slot-before-now : (flags : ℕ → ℕ) (cell : List ℕ) → q ≤ t → (t ≡ max s q → ⊥) → SlotReady flags t (places e) s F q cell
       → (k : ℕ) × (t ≡ k + 1) × (max s q ≤ k) × SlotHolds flags k (places e) s F q cell

@@ -17,14 +17,14 @@ use Rattle.cell_runs.specs.Tree.{Tree, then-node, formula-of}
 use Rattle.cells.specs.Cells.{CellHolds}
 use Rattle.cell_runs.specs.Slots.{window}
 use Rattle.cell_runs.specs.Run.{out, own-tick, RunHolds, RunReady}
-use Rattle.cell_runs.specs.Calls.{Env, places, Advanced, DecidedNow, PartAdvanced}
+use Rattle.cell_runs.specs.Calls.{Variables, places, Advanced, DecidedNow, PartAdvanced}
 use Rattle.cell_runs.proofs.PutBack.{tail-drop, tail-head, tail-take, rest-take}
 
 after-open : (o : Outcome) (g : ℕ → Outcome) (d : ℕ) → o ≡ Decided True d → after o g ≡ Open → g d ≡ Open
 unfolding after
 after-open o g d e q = rw e at q
 
-module _ (F G : Tree) (hist : List ℕ) (b : ℕ) (e : Env) (s t : ℕ) (run : List ℕ) where
+module _ (F G : Tree) (hist : List ℕ) (b : ℕ) (e : Variables) (s t : ℕ) (run : List ℕ) where
   then-before : (flags : ℕ → ℕ) → RunReady flags t (places e) s (then-node F G) run
       → Before s t (λ k. CellHolds (own-tick (places e)) 0 (out flags k (places e) s F) (RunHolds flags k (places e) s F (window 4 (length run) run)) run)
   unfolding RunReady RunHolds

@@ -19,7 +19,7 @@ use Rattle.rule.proofs.Progress.{within}
 use Rattle.cell_runs.specs.Tree.{Tree, formula-of}
 use Rattle.cell_runs.specs.Slots.{slot}
 use Rattle.cell_runs.specs.Run.{out, with-position, SlotHolds, SlotReady}
-use Rattle.cell_runs.specs.Calls.{Env, places, AtHand, PositionAdvanced, PositionsWalked}
+use Rattle.cell_runs.specs.Calls.{Variables, places, AtHand, PositionAdvanced, PositionsWalked}
 use Rattle.cell_runs.proofs.Slots.{slot-same, slot-below, slot-above, slot-before}
 use Rattle.cell_runs.proofs.Heads.{walk-last}
 
@@ -47,7 +47,7 @@ walk-false f (suc j) first b =
 
 -- ---- the walk
 
-pub record WalkedTo (F : Tree) (hist : List ℕ) (b : ℕ) (e : Env) (s t first leading n : ℕ) (end : Outcome) (z : ℕ) (run₀ : List ℕ) (j : ℕ) (acc : Outcome) (run : List ℕ) : Type 0 where
+pub record WalkedTo (F : Tree) (hist : List ℕ) (b : ℕ) (e : Variables) (s t first leading n : ℕ) (end : Outcome) (z : ℕ) (run₀ : List ℕ) (j : ℕ) (acc : Outcome) (run : List ℕ) : Type 0 where
   pub gives :
       ((k : ℕ) → k < j → slot z k run ≡ slot z k run₀)
       × ((flags : ℕ → ℕ) (H : ℕ) → AtHand flags H hist b e t
@@ -57,7 +57,7 @@ pub record WalkedTo (F : Tree) (hist : List ℕ) (b : ℕ) (e : Env) (s t first 
       × ((From s end → From s acc)
       × ((k : ℕ) → j ≤ k → k < n → SlotHolds flags t (places e) s F (first + k) (slot z k run))))
 
-module _ {F : Tree} {hist : List ℕ} {b : ℕ} {e : Env} {s t first leading n : ℕ} {end : Outcome} {z : ℕ} {run₀ : List ℕ} where
+module _ {F : Tree} {hist : List ℕ} {b : ℕ} {e : Variables} {s t first leading n : ℕ} {end : Outcome} {z : ℕ} {run₀ : List ℕ} where
   pub walk-begun : WalkedTo F hist b e s t first leading n end z run₀ n end run₀
   walk-begun = record { gives = ((λ k g. refl), λ flags H h reach ready. (refl, ((λ x. x), λ k g l. absurd (omega arith)))) }
 

@@ -21,21 +21,21 @@ use Rattle.cell_runs.specs.Run.{out, with-position, own-tick, RunHolds, 
 -- ---- the variables and their bytes
 
 -- The first n variables are bound: the position of each, and the flag byte at it.
-pub record Env : Type 0 where
+pub record Variables : Type 0 where
   pub n : ℕ
   pub pos : List ℕ
   pub byte : List ℕ
 
 -- The code has them as a number and two arrays.
-abbrev pub env-of : ℕ → List ℕ → List ℕ → Env
-env-of n pos byte = record { n = n; pos = pos; byte = byte }
+abbrev pub variables-of : ℕ → List ℕ → List ℕ → Variables
+variables-of n pos byte = record { n = n; pos = pos; byte = byte }
 
 -- The positions of the variables that are bound.
-abbrev pub places : Env → List ℕ
+abbrev pub places : Variables → List ℕ
 places e = take (e .n) (e .pos)
 
 -- The environment with one more position and its byte.
-abbrev pub with-byte : Env → ℕ → ℕ → Env
+abbrev pub with-byte : Variables → ℕ → ℕ → Variables
 with-byte e q b = record { n = e .n + 1; pos = set (e .pos) (e .n) q; byte = set (e .byte) (e .n) b }
 
 -- The flag formula, by the byte that was saved for its variable.
@@ -48,13 +48,13 @@ pub record FlagsAtHand (flags : ℕ → ℕ) (H : ℕ) (hist : List ℕ) (b t : 
   pub current : b ≡ flags t
 
 -- And each variable's byte is saved.
-pub record AtHand (flags : ℕ → ℕ) (H : ℕ) (hist : List ℕ) (b : ℕ) (e : Env) (t : ℕ) : Type 0 where
+pub record AtHand (flags : ℕ → ℕ) (H : ℕ) (hist : List ℕ) (b : ℕ) (e : Variables) (t : ℕ) : Type 0 where
   pub stream : FlagsAtHand flags H hist b t
   pub saved : (v : ℕ) → v < e .n → getD (e .byte) v 0 ≡ flags (getD (e .pos) v 0)
 
 -- ---- what the functions require: nothing of what the cells hold
 
-pub record Fit (F : Tree) (e : Env) (t : ℕ) (len : ℕ) : Type 0 where
+pub record Fit (F : Tree) (e : Variables) (t : ℕ) (len : ℕ) : Type 0 where
   pub pairs : List Pair
   pub fits : Fits (own-tick (places e)) pairs (places e)
   pub size : length pairs ≡ e .n
@@ -69,7 +69,7 @@ pub record Fit (F : Tree) (e : Env) (t : ℕ) (len : ℕ) : Type 0 where
   pub some : 0 < e .n
 
 -- One position's slot.
-pub record SlotFit (F : Tree) (e : Env) (t q : ℕ) (len : ℕ) : Type 0 where
+pub record SlotFit (F : Tree) (e : Variables) (t q : ℕ) (len : ℕ) : Type 0 where
   pub pairs : List Pair
   pub fits : Fits (own-tick (with-position (places e) q)) pairs (with-position (places e) q)
   pub size : length pairs ≡ suc (e .n)
@@ -83,13 +83,13 @@ pub record SlotFit (F : Tree) (e : Env) (t q : ℕ) (len : ℕ) : Type 0 where
   pub five-bytes : length (e .byte) ≡ 5
   pub depth : e .n < 5
 
-pub record WalkFit (F : Tree) (e : Env) (t first leading n z : ℕ) (len : ℕ) : Type 0 where
+pub record WalkFit (F : Tree) (e : Variables) (t first leading n z : ℕ) (len : ℕ) : Type 0 where
   pub slots : (j : ℕ) → j < n → SlotFit F e t (first + j) z
   pub room : n * z ≤ len
   pub within : leading ≤ n
 
 -- The formula in the words from a to z of the run, its outcome in the words k and k + 2.
-pub record PartFit (F : Tree) (e : Env) (t k a z : ℕ) (len : ℕ) : Type 0 where
+pub record PartFit (F : Tree) (e : Variables) (t k a z : ℕ) (len : ℕ) : Type 0 where
   pub fit : Fit F e t (z - a)
   pub cell : k < 2
   pub after-cell : 4 ≤ a
@@ -99,19 +99,19 @@ pub record PartFit (F : Tree) (e : Env) (t k a z : ℕ) (len : ℕ) : Type 0 whe
 -- ---- what they give: for every stream whose bytes are at hand and whose cells were ready, the meaning's outcome, and, where that is open, cells that
 -- hold it
 
-pub record Advanced (F : Tree) (hist : List ℕ) (b : ℕ) (e : Env) (s t : ℕ) (run : List ℕ) (r : Outcome) (run′ : List ℕ) : Type 0 where
+pub record Advanced (F : Tree) (hist : List ℕ) (b : ℕ) (e : Variables) (s t : ℕ) (run : List ℕ) (r : Outcome) (run′ : List ℕ) : Type 0 where
   pub gives :
       (flags : ℕ → ℕ) (H : ℕ) → AtHand flags H hist b e t → Reach H flags (places e) s (formula-of F) → RunReady flags t (places e) s F run
       → (r ≡ out flags t (places e) s F) × (out flags t (places e) s F ≡ Open → RunHolds flags t (places e) s F run′)
 
-pub record PositionAdvanced (F : Tree) (hist : List ℕ) (b : ℕ) (e : Env) (s t q : ℕ) (cell : List ℕ) (r : Outcome) (cell′ : List ℕ) : Type 0 where
+pub record PositionAdvanced (F : Tree) (hist : List ℕ) (b : ℕ) (e : Variables) (s t q : ℕ) (cell : List ℕ) (r : Outcome) (cell′ : List ℕ) : Type 0 where
   pub gives :
       (flags : ℕ → ℕ) (H : ℕ) → AtHand flags H hist b e t → (max s q ≤ q + H) × Reach H flags (with-position (places e) q) (max s q) (formula-of F)
       → SlotReady flags t (places e) s F q cell
       → (r ≡ out flags t (with-position (places e) q) (max s q) F) × SlotHolds flags t (places e) s F q cell′
 
 -- Of n positions from `first` on, those after the leading ones: all of them; or the walk stopped at one that was false, and r is false.
-pub record PositionsWalked (F : Tree) (hist : List ℕ) (b : ℕ) (e : Env) (s t first leading n : ℕ) (end : Outcome) (z : ℕ) (run : List ℕ) (r : Outcome) (run′ : List ℕ) : Type 0 where
+pub record PositionsWalked (F : Tree) (hist : List ℕ) (b : ℕ) (e : Variables) (s t first leading n : ℕ) (end : Outcome) (z : ℕ) (run : List ℕ) (r : Outcome) (run′ : List ℕ) : Type 0 where
   pub gives :
       ((k : ℕ) → k < leading → slot z k run′ ≡ slot z k run)
       × ((flags : ℕ → ℕ) (H : ℕ) → AtHand flags H hist b e t
@@ -136,7 +136,7 @@ DecidedNow p s t k run r run′ =
     ((v : Verdict) (d : ℕ) → r ≡ Decided v d → t ≡ d)
     ⊎ ((run′ ≡ run) × ((t ≡ s → ⊥) × (r ≡ held p (getD run k 0) (getD run (k + 2) 0))))
 
-pub record PartAdvanced (F : Tree) (hist : List ℕ) (b : ℕ) (e : Env) (s t k a z : ℕ) (run : List ℕ) (r : Outcome) (run′ : List ℕ) : Type 0 where
+pub record PartAdvanced (F : Tree) (hist : List ℕ) (b : ℕ) (e : Variables) (s t k a z : ℕ) (run : List ℕ) (r : Outcome) (run′ : List ℕ) : Type 0 where
   pub gives :
       Untouched k a z run run′
       × ((flags : ℕ → ℕ) (H : ℕ) → AtHand flags H hist b e t → Reach H flags (places e) s (formula-of F)

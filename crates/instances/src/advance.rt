@@ -5,7 +5,7 @@ ghost use Prim.Native.Nat.{ℕ, _+_, _<_};
 ghost use lib.ListN.{length, getD};
 ghost use Rattle.nodes.specs.Table.{bound-at};
 ghost use Rattle.cell_runs.specs.Tree.{flag-node, then-node, beside-node, range-node, tree-at, HasParts};
-ghost use Rattle.cell_runs.specs.Calls.{env-of, flagged, Fit, SlotFit, WalkFit, PartFit, Advanced, PositionAdvanced, PositionsWalked, PartAdvanced};
+ghost use Rattle.cell_runs.specs.Calls.{variables-of, flagged, Fit, SlotFit, WalkFit, PartFit, Advanced, PositionAdvanced, PositionsWalked, PartAdvanced};
 use crate::head::load_head;
 use crate::head::move_head;
 use crate::marks::load_outcome;
@@ -90,8 +90,8 @@ fn advance_part(
     s: u64,
     t: u64,
 ) -> Outcome
-    requires { ⌜ PartFit (tree-at left (now nodes) i) (env-of m (now pos) (now byte)) t k a z (length (now run)) ⌝ }
-    ensures { λ r. ⌜ PartAdvanced (tree-at left (now (nodes .entry)) i) (now (history .entry)) flag (env-of m (now (pos .entry)) (now (byte .entry))) s t k a z (now (run .entry)) r (now (run .exit)) ⌝ }
+    requires { ⌜ PartFit (tree-at left (now nodes) i) (variables-of m (now pos) (now byte)) t k a z (length (now run)) ⌝ }
+    ensures { λ r. ⌜ PartAdvanced (tree-at left (now (nodes .entry)) i) (now (history .entry)) flag (variables-of m (now (pos .entry)) (now (byte .entry))) s t k a z (now (run .entry)) r (now (run .exit)) ⌝ }
 {
     let p = own_tick(pos);
     if t != s {
@@ -132,8 +132,8 @@ pub(crate) fn advance_position(
     t: u64,
     q: u64,
 ) -> Outcome
-    requires { ⌜ SlotFit (tree-at left (now nodes) i) (env-of m (now pos) (now byte)) t q (length (now slot)) ⌝ }
-    ensures { λ r. ⌜ PositionAdvanced (tree-at left (now (nodes .entry)) i) (now (history .entry)) flag (env-of m (now (pos .entry)) (now (byte .entry))) s t q (now (slot .entry)) r (now (slot .exit)) ⌝ }
+    requires { ⌜ SlotFit (tree-at left (now nodes) i) (variables-of m (now pos) (now byte)) t q (length (now slot)) ⌝ }
+    ensures { λ r. ⌜ PositionAdvanced (tree-at left (now (nodes .entry)) i) (now (history .entry)) flag (variables-of m (now (pos .entry)) (now (byte .entry))) s t q (now (slot .entry)) r (now (slot .exit)) ⌝ }
 {
     let start = outcomes::later(s, q);
     if t == start {
@@ -196,8 +196,8 @@ fn walk_positions(
     end: Outcome,
     z: usize,
 ) -> Outcome
-    requires { ⌜ WalkFit (tree-at left (now nodes) i) (env-of m (now pos) (now byte)) t first leading n z (length (now run)) ⌝ }
-    ensures { λ r. ⌜ PositionsWalked (tree-at left (now (nodes .entry)) i) (now (history .entry)) flag (env-of m (now (pos .entry)) (now (byte .entry))) s t first leading n end z (now (run .entry)) r (now (run .exit)) ⌝ }
+    requires { ⌜ WalkFit (tree-at left (now nodes) i) (variables-of m (now pos) (now byte)) t first leading n z (length (now run)) ⌝ }
+    ensures { λ r. ⌜ PositionsWalked (tree-at left (now (nodes .entry)) i) (now (history .entry)) flag (variables-of m (now (pos .entry)) (now (byte .entry))) s t first leading n end z (now (run .entry)) r (now (run .exit)) ⌝ }
 {
     let mut acc = end;
     let mut j = n;
@@ -241,8 +241,8 @@ fn advance_range(
     s: u64,
     t: u64,
 ) -> Outcome
-    requires { ⌜ (i < 768) × Fit (range-node (bound-at (now nodes) (i + 1)) (bound-at (now nodes) (i + 4)) (getD (now nodes) (i + 8) 0) (tree-at left (now nodes) (i + 12))) (env-of m (now pos) (now byte)) t (length (now run)) ⌝ }
-    ensures { λ r. ⌜ Advanced (range-node (bound-at (now (nodes .entry)) (i + 1)) (bound-at (now (nodes .entry)) (i + 4)) (getD (now (nodes .entry)) (i + 8) 0) (tree-at left (now (nodes .entry)) (i + 12))) (now (history .entry)) flag (env-of m (now (pos .entry)) (now (byte .entry))) s t (now (run .entry)) r (now (run .exit)) ⌝ }
+    requires { ⌜ (i < 768) × Fit (range-node (bound-at (now nodes) (i + 1)) (bound-at (now nodes) (i + 4)) (getD (now nodes) (i + 8) 0) (tree-at left (now nodes) (i + 12))) (variables-of m (now pos) (now byte)) t (length (now run)) ⌝ }
+    ensures { λ r. ⌜ Advanced (range-node (bound-at (now (nodes .entry)) (i + 1)) (bound-at (now (nodes .entry)) (i + 4)) (getD (now (nodes .entry)) (i + 8) 0) (tree-at left (now (nodes .entry)) (i + 12))) (now (history .entry)) flag (variables-of m (now (pos .entry)) (now (byte .entry))) s t (now (run .entry)) r (now (run .exit)) ⌝ }
 {
     let z = node_word(nodes, i, SLOT_WORDS) as usize;
     let span = ranges::range_at(nodes, i, pos);
@@ -288,8 +288,8 @@ fn advance_then(
     s: u64,
     t: u64,
 ) -> Outcome
-    requires { ⌜ (i < 768) × Fit (then-node (tree-at left (now nodes) (i + 12)) (tree-at left (now nodes) (getD (now nodes) (i + 7) 0))) (env-of m (now pos) (now byte)) t (length (now run)) ⌝ }
-    ensures { λ r. ⌜ Advanced (then-node (tree-at left (now (nodes .entry)) (i + 12)) (tree-at left (now (nodes .entry)) (getD (now (nodes .entry)) (i + 7) 0))) (now (history .entry)) flag (env-of m (now (pos .entry)) (now (byte .entry))) s t (now (run .entry)) r (now (run .exit)) ⌝ }
+    requires { ⌜ (i < 768) × Fit (then-node (tree-at left (now nodes) (i + 12)) (tree-at left (now nodes) (getD (now nodes) (i + 7) 0))) (variables-of m (now pos) (now byte)) t (length (now run)) ⌝ }
+    ensures { λ r. ⌜ Advanced (then-node (tree-at left (now (nodes .entry)) (i + 12)) (tree-at left (now (nodes .entry)) (getD (now (nodes .entry)) (i + 7) 0))) (now (history .entry)) flag (variables-of m (now (pos .entry)) (now (byte .entry))) s t (now (run .entry)) r (now (run .exit)) ⌝ }
 {
     let z = run.len();
     let o = advance_part(
@@ -346,8 +346,8 @@ fn advance_beside(
     s: u64,
     t: u64,
 ) -> Outcome
-    requires { ⌜ (i < 768) × Fit (beside-node (getD (now nodes) (i + 9) 0) (tree-at left (now nodes) (i + 12)) (tree-at left (now nodes) (getD (now nodes) (i + 7) 0))) (env-of m (now pos) (now byte)) t (length (now run)) ⌝ }
-    ensures { λ r. ⌜ Advanced (beside-node (getD (now (nodes .entry)) (i + 9) 0) (tree-at left (now (nodes .entry)) (i + 12)) (tree-at left (now (nodes .entry)) (getD (now (nodes .entry)) (i + 7) 0))) (now (history .entry)) flag (env-of m (now (pos .entry)) (now (byte .entry))) s t (now (run .entry)) r (now (run .exit)) ⌝ }
+    requires { ⌜ (i < 768) × Fit (beside-node (getD (now nodes) (i + 9) 0) (tree-at left (now nodes) (i + 12)) (tree-at left (now nodes) (getD (now nodes) (i + 7) 0))) (variables-of m (now pos) (now byte)) t (length (now run)) ⌝ }
+    ensures { λ r. ⌜ Advanced (beside-node (getD (now (nodes .entry)) (i + 9) 0) (tree-at left (now (nodes .entry)) (i + 12)) (tree-at left (now (nodes .entry)) (getD (now (nodes .entry)) (i + 7) 0))) (now (history .entry)) flag (variables-of m (now (pos .entry)) (now (byte .entry))) s t (now (run .entry)) r (now (run .exit)) ⌝ }
 {
     let z = run.len();
     let mid = CELL_WORDS + node_word(nodes, i, FIRST_WORDS) as usize;
@@ -404,8 +404,8 @@ fn advance_not(
     s: u64,
     t: u64,
 ) -> Outcome
-    requires { ⌜ (left ≡ 0 → ⊥) × ((getD (now nodes) (i + 0) 0 ≡ 2) × Fit (tree-at left (now nodes) i) (env-of m (now pos) (now byte)) t (length (now run))) ⌝ }
-    ensures { λ r. ⌜ Advanced (tree-at left (now (nodes .entry)) i) (now (history .entry)) flag (env-of m (now (pos .entry)) (now (byte .entry))) s t (now (run .entry)) r (now (run .exit)) ⌝ }
+    requires { ⌜ (left ≡ 0 → ⊥) × ((getD (now nodes) (i + 0) 0 ≡ 2) × Fit (tree-at left (now nodes) i) (variables-of m (now pos) (now byte)) t (length (now run))) ⌝ }
+    ensures { λ r. ⌜ Advanced (tree-at left (now (nodes .entry)) i) (now (history .entry)) flag (variables-of m (now (pos .entry)) (now (byte .entry))) s t (now (run .entry)) r (now (run .exit)) ⌝ }
 {
     let u = skip_nots(nodes, left, i);
     let o = advance(nodes, u.left, u.i, run, history, flag, m, pos, byte, s, t);
@@ -426,8 +426,8 @@ fn advance(
     s: u64,
     t: u64,
 ) -> Outcome
-    requires { ⌜ Fit (tree-at left (now nodes) i) (env-of m (now pos) (now byte)) t (length (now run)) ⌝ }
-    ensures { λ r. ⌜ Advanced (tree-at left (now (nodes .entry)) i) (now (history .entry)) flag (env-of m (now (pos .entry)) (now (byte .entry))) s t (now (run .entry)) r (now (run .exit)) ⌝ }
+    requires { ⌜ Fit (tree-at left (now nodes) i) (variables-of m (now pos) (now byte)) t (length (now run)) ⌝ }
+    ensures { λ r. ⌜ Advanced (tree-at left (now (nodes .entry)) i) (now (history .entry)) flag (variables-of m (now (pos .entry)) (now (byte .entry))) s t (now (run .entry)) r (now (run .exit)) ⌝ }
 {
     if is_flag(nodes, left, i) {
         return flag_in(nodes, i, byte, s);
