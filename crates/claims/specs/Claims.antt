@@ -89,7 +89,7 @@ pub record Claims : Type 0 where
   pub one-reading : (s : List ℕ) (M N : Rule) → Reads s M → Reads s N → M ≡ N
   pub text-answered : (s : List ℕ) (N : Rule) (room : ℕ) → length s ≤ 4096 → Reads s N
       → body-of-text s room ≡ and-then (and-then (named-body N) checked) (fitted room)
-  -- What it is answered as is a body, of a reading of the text, and fits.
+  -- Where bytes are answered, the text has a reading, and they are a body and fit.
   pub text-accepted : (s b : List ℕ) (room : ℕ) → body-of-text s room ≡ accepted b
       → (N : Rule) × Reads s N × (F : Formula) × (body b ≡ accepted F) × (length b ≤ room)
   -- 25 comes exactly where there is no reading or the text is too long, and 26 exactly where the reading names what is not bound.
