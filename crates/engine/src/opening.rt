@@ -1,7 +1,7 @@
 // Opening a rule of a sheet.
 ghost use mathlib.Core.Path.{_≡_};
 ghost use Prim.Native.Nat.{_≤_};
-ghost use lib.ListN.{length, replicate};
+ghost use lib.ListN.{length};
 ghost use Rattle.demand.specs.Contract.{opening-of, OpenPromise};
 ghost use Rattle.cell_runs.specs.Moves.{Stands};
 ghost use Rattle.engine.specs.States.{state-of, blank-code, by-value};
@@ -34,17 +34,6 @@ fn refused(x: Refusal) -> OpenResult
     }
 }
 
-// Zeroes a history.
-fn zero(history: &mut [u8])
-    ensures { λ _. ⌜ now (history .exit) ≡ replicate (length (now (history .entry))) 0 ⌝ }
-{
-    let mut i: usize = 0;
-    while i < history.len() {
-        history[i] = 0;
-        i += 1;
-    }
-}
-
 // Opens the rule with this body.
 fn open_body(body: &[u8], history: &mut [u8], cells: &[u32]) -> OpenResult
     requires { ⌜ length (now body) ≤ 512 ⌝ }
@@ -54,7 +43,7 @@ fn open_body(body: &[u8], history: &mut [u8], cells: &[u32]) -> OpenResult
     match a {
         FigureAnswer::Refused(x) => refused(x),
         FigureAnswer::Sized(_) => {
-            zero(history);
+            ring::zero(history);
             OpenResult {
                 answer: OpenAnswer::Opened,
                 state: fresh(body, history.len()),

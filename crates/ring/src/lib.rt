@@ -1,8 +1,19 @@
 // The history as a ring: tick q has its byte at q mod L.
 ghost use mathlib.Core.Path.{_≡_};
 ghost use Prim.Native.Nat.{_%_};
-ghost use lib.ListN.{length, set};
+ghost use lib.ListN.{length, set, replicate};
 ghost use Rattle.ring.specs.Ring.{byte-of};
+
+// Zeroes a history.
+pub fn zero(history: &mut [u8])
+    ensures { λ _. ⌜ now (history .exit) ≡ replicate (length (now (history .entry))) 0 ⌝ }
+{
+    let mut i: usize = 0;
+    while i < history.len() {
+        history[i] = 0;
+        i += 1;
+    }
+}
 
 // The byte of tick q: the flag byte given where q is t, else that of the history.
 pub fn byte_of(history: &[u8], flag: u8, t: u64, q: u64) -> u8

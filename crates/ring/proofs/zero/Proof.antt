@@ -1,4 +1,4 @@
--- `engine::opening::zero` meets its contract: the first i bytes are 0, the rest as they were.
+-- `ring::zero` meets its contract: the first i bytes are 0, the rest as they were.
 -- Assumes nothing.
 use Prim.Native.Nat.{ℕ, _-_, _≤_}
 use mathlib.Core.Path.{_≡_, refl, ap, _∙_, subst}
@@ -7,8 +7,8 @@ use native.Mathlib.Omega.{arith}
 use lib.ListN.{length, set, drop, replicate, length-set}
 use lib.Seq.{drop-length}
 use borrow.Author.Fill.{fill-none, fill-more}
-use Rattle.engine.proofs.opening.zero.Statement.{statement}
-use Rattle.engine.proofs.opening.zero.Tie as tie
+use Rattle.ring.proofs.zero.Statement.{statement}
+use Rattle.ring.proofs.zero.Tie as tie
 
 abbrev Inv-loop : tie.InvT-loop
 Inv-loop history₀ i₀ history i =
