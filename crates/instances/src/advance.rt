@@ -1,28 +1,30 @@
 // One formula, moved by one tick at a time over its run of cells.
 ghost use mathlib.Core.Path.{_≡_};
-ghost use mathlib.Core.Bool.{true, false};
-ghost use Prim.Native.Nat.{ℕ, _+_, _<_};
+ghost use mathlib.Core.Bool.{false};
+ghost use Prim.Native.Nat.{_+_, _<_};
 ghost use lib.ListN.{length, getD};
 ghost use Rattle.nodes.specs.Table.{bound-at};
-ghost use Rattle.cell_runs.specs.Tree.{flag-node, then-node, beside-node, range-node, tree-at, HasParts};
-ghost use Rattle.cell_runs.specs.Calls.{variables-of, flagged, Fit, SlotFit, WalkFit, PartFit, Advanced, PositionAdvanced, PositionsWalked, PartAdvanced};
+ghost use Rattle.cell_runs.specs.Tree.{then-node, beside-node, range-node, tree-at};
+ghost use Rattle.cell_runs.specs.Calls.{variables-of, Fit, SlotFit, WalkFit, PartFit, Advanced, PositionAdvanced, PositionsWalked, PartAdvanced};
+use crate::flags::flag_in;
+use crate::flags::is_flag;
 use crate::head::load_head;
 use crate::head::move_head;
+use crate::marks::is_false;
 use crate::marks::load_outcome;
+use crate::marks::own_tick;
 use crate::marks::store_outcome;
+use crate::marks::wide;
 use cells::CELL_WORDS;
 use nodes::BESIDE_CODE;
 use nodes::CODE;
 use nodes::FIRST_WORDS;
-use nodes::FLAG;
-use nodes::FORALL_CODE;
 use nodes::NODE_WORDS;
 use nodes::NOT_CODE;
 use nodes::SECOND_PART;
 use nodes::SLOT_WORDS;
 use nodes::TABLE_WORDS;
 use nodes::THEN_CODE;
-use nodes::VARIABLE;
 use nodes::node_word;
 use nodes::skip_nots;
 use ring::byte_of;
@@ -31,47 +33,6 @@ use rule::Verdict;
 
 // How many numbers a byte can hold.
 const BYTE_VALUES: u32 = 256;
-
-fn wide(b: u8) -> u32
-    ensures { λ r. ⌜ (r ≡ b) × (r < 256) ⌝ }
-{
-    b as u32
-}
-
-// Whether the formula at word i is a flag: so is every code but 2 to 5, and whatever stands there with no formula left.
-fn is_flag(nodes: &[u32], left: usize, i: usize) -> bool
-    ensures { λ r. ⌜ (r ≡ true → tree-at left (now (nodes .entry)) i ≡ flag-node (getD (now (nodes .entry)) (i + 1) 0) (getD (now (nodes .entry)) (i + 2) 0)) × (r ≡ false → HasParts left (now (nodes .entry)) i) ⌝ }
-{
-    if left == 0 {
-        return true;
-    }
-    let code = node_word(nodes, i, CODE);
-    if code < NOT_CODE {
-        return true;
-    }
-    if FORALL_CODE < code {
-        return true;
-    }
-    false
-}
-
-// The flag whose node starts at word i, at step s.
-fn flag_in(nodes: &[u32], i: usize, byte: &[u8; 5], s: u64) -> Outcome
-    requires { ⌜ getD (now nodes) (i + 1) 0 < 5 ⌝ }
-    ensures { λ r. ⌜ r ≡ flagged (now (byte .entry)) (getD (now (nodes .entry)) (i + 1) 0) (getD (now (nodes .entry)) (i + 2) 0) s ⌝ }
-{
-    let v = node_word(nodes, i, VARIABLE) as usize;
-    let k = node_word(nodes, i, FLAG);
-    outcomes::flag_outcome(byte[v], k, s)
-}
-
-// The rule's own tick.
-fn own_tick(pos: &[u64; 5]) -> u32
-    requires { ⌜ getD (now pos) 0 0 < 4294967296 ⌝ }
-    ensures { λ r. ⌜ r ≡ getD (now (pos .entry)) 0 0 ⌝ }
-{
-    pos[0] as u32
-}
 
 // Moves the formula whose run is the words from a to z, and whose outcome the words k and k + 2 hold.
 fn advance_part(
@@ -161,19 +122,6 @@ pub(crate) fn advance_position(
         start,
         t,
     )
-}
-
-// Whether an outcome is false.
-fn is_false(o: Outcome) -> bool
-    ensures { λ r. ⌜ (r ≡ true → (d : ℕ) × (o ≡ Outcome.Decided Verdict.False d)) ⌝ }
-{
-    match o {
-        Outcome::Decided(v, _) => match v {
-            Verdict::True => false,
-            Verdict::False => true,
-        },
-        Outcome::Open => false,
-    }
 }
 
 // Of n positions from `first` on, each in its slot of z words, those after the leading ones, all side by side, and `end` beside them. It goes no

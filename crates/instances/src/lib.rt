@@ -1,6 +1,7 @@
 // The instances of a rule, each in its own run of cells, moved by one tick at a time: for one step, or for each of many flag bytes.
 mod advance;
 mod batch;
+mod flags;
 mod head;
 mod instances;
 mod marks;

@@ -1,4 +1,4 @@
--- `head::head_of` meets its contract: one law for each way out.
+-- `cells::head::head_of` meets its contract: one law for each way out.
 use native.Mathlib.Omega.{arith}
 use Rattle.cells.proofs.Heads.{head-start, head-none, head-far, head-there}
 use borrow.Author.Needs.{needs}

@@ -1,4 +1,4 @@
--- `outcome::outcome_of` meets its contract: it tests the word as `held` does.
+-- `cells::outcome::outcome_of` meets its contract: it tests the word as `held` does.
 use mathlib.Core.Path.{ap}
 use borrow.Author.Tests.{eq-eqb, ne-eqb}
 use Rattle.rule.specs.declared.Verdict.the-variants.{True, False}

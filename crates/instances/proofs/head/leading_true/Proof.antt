@@ -1,4 +1,4 @@
--- `head::leading_true` meets its contract: each turn moves the head on over one slot that holds true.
+-- `instances::head::leading_true` meets its contract: each turn moves the head on over one slot that holds true.
 use Prim.Native.Nat.{ℕ, _+_, _-_, _*_, _≤_, _<_}
 use native.Mathlib.Omega.{arith}
 use borrow.Author.Needs.{needs}

@@ -1,4 +1,4 @@
--- `head::move_head` meets its contract: the head is moved on over the slots, and two words of its cell are written.
+-- `instances::head::move_head` meets its contract: the head is moved on over the slots, and two words of its cell are written.
 use Prim.Native.Nat.{_-_}
 use mathlib.Core.Path.{_≡_}
 use native.Mathlib.Omega.{arith}

@@ -1,4 +1,4 @@
--- `marks::store_outcome` meets its contract: it writes the words that `mark` writes, in the same order.
+-- `instances::marks::store_outcome` meets its contract: it writes the words that `mark` writes, in the same order.
 use Rattle.cells.specs.Cells.{mark}
 use native.Mathlib.Omega.{arith}
 use lib.ListN.{length-set}

@@ -1,11 +1,11 @@
--- `advance::is_false` meets its contract.
+-- `instances::marks::is_false` meets its contract.
 use mathlib.Core.Path.{sym, ap, _∙_}
 use mathlib.Core.Bool.{true≢false}
 use Rattle.rule.specs.declared.Verdict.{Verdict}
 use Rattle.rule.specs.declared.Outcome.the-variants.{Decided}
 use borrow.Author.Needs.{needs}
-use Rattle.instances.proofs.advance.is_false.Statement.{statement}
-use Rattle.instances.proofs.advance.is_false.Tie as tie
+use Rattle.instances.proofs.marks.is_false.Statement.{statement}
+use Rattle.instances.proofs.marks.is_false.Tie as tie
 
 enum-known-o : tie.Need-enum-known-o
 enum-known-o c = search needs

@@ -1,11 +1,11 @@
--- `advance::is_flag` meets its contract.
+-- `instances::flags::is_flag` meets its contract.
 use mathlib.Core.Path.{sym}
 use mathlib.Core.Bool.{true≢false}
 use native.Mathlib.Omega.{arith}
 use Rattle.cell_runs.proofs.Formulas.{is-none, is-flag}
 use borrow.Author.Needs.{needs}
-use Rattle.instances.proofs.advance.is_flag.Statement.{statement}
-use Rattle.instances.proofs.advance.is_flag.Tie as tie
+use Rattle.instances.proofs.flags.is_flag.Statement.{statement}
+use Rattle.instances.proofs.flags.is_flag.Tie as tie
 
 returns : tie.Need-returns
 returns c =

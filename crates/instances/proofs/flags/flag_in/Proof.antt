@@ -1,11 +1,11 @@
--- `advance::flag_in` meets its contract.
+-- `instances::flags::flag_in` meets its contract.
 use Prim.Native.Nat.{ℕ, _+_}
 use mathlib.Core.Path.{ap, _∙_}
 use lib.ListN.{getD}
 use Rattle.cell_runs.specs.Calls.{flagged}
 use borrow.Author.Needs.{needs}
-use Rattle.instances.proofs.advance.flag_in.Statement.{statement}
-use Rattle.instances.proofs.advance.flag_in.Tie as tie
+use Rattle.instances.proofs.flags.flag_in.Statement.{statement}
+use Rattle.instances.proofs.flags.flag_in.Tie as tie
 
 node-word-requires : tie.Need-node-word-requires
 node-word-requires c κs = search needs
