@@ -19,47 +19,47 @@ pub(crate) const LIMIT: u16 = 4096;
 pub const ABOVE_LIMIT: u16 = 4097;
 
 // The count of a number.
-pub fn capped(n: u64) -> u16
-    ensures { λ r. ⌜ r ≡ cap (Finite n) ⌝ }
+pub fn capped(number: u64) -> u16
+    ensures { λ r. ⌜ r ≡ cap (Finite number) ⌝ }
 {
-    if n <= LIMIT as u64 {
-        n as u16
+    if number <= LIMIT as u64 {
+        number as u16
     } else {
         ABOVE_LIMIT
     }
 }
 
 // Whether a count is within the limit.
-pub fn within_limit(c: u16) -> bool
-    ensures { λ r. ⌜ r ≡ leb c 4096 ⌝ }
+pub fn within_limit(cells: u16) -> bool
+    ensures { λ r. ⌜ r ≡ leb cells 4096 ⌝ }
 {
-    c <= LIMIT
+    cells <= LIMIT
 }
 
 // The cells of "F then G" from its parts'.
-pub fn then_cells(f: u16, g: u16) -> u16
-    ensures { λ r. ⌜ r ≡ then-cells f g ⌝ }
+pub fn then_cells(first: u16, second: u16) -> u16
+    ensures { λ r. ⌜ r ≡ then-cells first second ⌝ }
 {
-    sum(1, larger(f, g))
+    sum(1, larger(first, second))
 }
 
 // The cells of "F beside G" from its parts'.
-pub fn beside_cells(f: u16, g: u16) -> u16
-    ensures { λ r. ⌜ r ≡ beside-cells f g ⌝ }
+pub fn beside_cells(first: u16, second: u16) -> u16
+    ensures { λ r. ⌜ r ≡ beside-cells first second ⌝ }
 {
-    sum(1, sum(f, g))
+    sum(1, sum(first, second))
 }
 
-// The cells of a range of w positions over a body of c cells.
-pub fn range_cells(w: u16, c: u16) -> u16
-    ensures { λ r. ⌜ r ≡ range-cells w c ⌝ }
+// The cells of a range of `width` positions over a body that needs `cells`.
+pub fn range_cells(width: u16, cells: u16) -> u16
+    ensures { λ r. ⌜ r ≡ range-cells width cells ⌝ }
 {
-    sum(1, product(w, sum(1, c)))
+    sum(1, product(width, sum(1, cells)))
 }
 
-// The cells of a rule with delay d whose formula needs c cells.
-pub fn rule_cells(d: u16, c: u16) -> u16
-    ensures { λ r. ⌜ r ≡ rule-cells d c ⌝ }
+// The cells of a rule from its delay and its formula's cells.
+pub fn rule_cells(delay: u16, cells: u16) -> u16
+    ensures { λ r. ⌜ r ≡ rule-cells delay cells ⌝ }
 {
-    product(sum(d, 1), sum(1, c))
+    product(sum(delay, 1), sum(1, cells))
 }

@@ -9,11 +9,11 @@ pub struct Head {
     pub latest: u64,
 }
 
-// What the head's words l and d say at tick t, of n positions; none where the range starts now.
-pub fn head_of(l: u32, d: u32, p: u32, s: u64, t: u64, n: u64) -> Head
-    ensures { λ r. ⌜ (r .leading ≡ leading-of s t n l) × (r .latest ≡ latest-of p s (r .leading) d) ⌝ }
+// What a head's words say at tick t of a range with so many positions: no leading ones where the range starts now.
+pub fn head_of(trues: u32, steps: u32, p: u32, s: u64, t: u64, positions: u64) -> Head
+    ensures { λ r. ⌜ (r .leading ≡ leading-of s t positions trues) × (r .latest ≡ latest-of p s (r .leading) steps) ⌝ }
 {
-    let leading = l as u64;
+    let leading = trues as u64;
     if t == s {
         return Head {
             leading: 0,
@@ -26,7 +26,7 @@ pub fn head_of(l: u32, d: u32, p: u32, s: u64, t: u64, n: u64) -> Head
             latest: s,
         };
     }
-    if n < leading {
+    if positions < leading {
         return Head {
             leading: 0,
             latest: s,
@@ -34,6 +34,6 @@ pub fn head_of(l: u32, d: u32, p: u32, s: u64, t: u64, n: u64) -> Head
     }
     Head {
         leading,
-        latest: step_after(p, d),
+        latest: step_after(p, steps),
     }
 }

@@ -7,32 +7,32 @@ use rule::Outcome;
 use rule::Verdict;
 
 // A step counted from p.
-pub fn elapsed(p: u32, d: u64) -> u32
-    ensures { λ r. ⌜ r ≡ since p d ⌝ }
+pub fn elapsed(p: u32, step: u64) -> u32
+    ensures { λ r. ⌜ r ≡ since p step ⌝ }
 {
     let from = p as u64;
-    if d <= from {
+    if step <= from {
         return 0;
     }
-    ((d - from) % WORD_VALUES) as u32
+    ((step - from) % WORD_VALUES) as u32
 }
 
-// The step that is d after p.
-pub fn step_after(p: u32, d: u32) -> u64
-    ensures { λ r. ⌜ r ≡ p + d ⌝ }
+// The step that comes so many steps after p.
+pub fn step_after(p: u32, steps: u32) -> u64
+    ensures { λ r. ⌜ r ≡ p + steps ⌝ }
 {
-    p as u64 + d as u64
+    p as u64 + steps as u64
 }
 
-// The outcome that the words w and d of a cell hold.
-pub fn outcome_of(w: u32, d: u32, p: u32) -> Outcome
-    ensures { λ r. ⌜ r ≡ held p w d ⌝ }
+// The outcome that two words of a cell hold.
+pub fn outcome_of(verdict: u32, steps: u32, p: u32) -> Outcome
+    ensures { λ r. ⌜ r ≡ held p verdict steps ⌝ }
 {
-    if w == 1 {
-        return Outcome::Decided(Verdict::True, step_after(p, d));
+    if verdict == 1 {
+        return Outcome::Decided(Verdict::True, step_after(p, steps));
     }
-    if w == 2 {
-        return Outcome::Decided(Verdict::False, step_after(p, d));
+    if verdict == 2 {
+        return Outcome::Decided(Verdict::False, step_after(p, steps));
     }
     Outcome::Open
 }

@@ -23,10 +23,10 @@ pub enum FigureAnswer {
 }
 
 // What an answer leaves of the node table: a refusal makes it all 0.
-pub fn clear_if_refused(a: FigureAnswer, nodes: &mut [u32; TABLE_WORDS])
-    ensures { λ _. ⌜ KeptOrCleared (figures-answer a) (now (nodes .entry)) (now (nodes .exit)) ⌝ }
+pub fn clear_if_refused(answer: FigureAnswer, nodes: &mut [u32; TABLE_WORDS])
+    ensures { λ _. ⌜ KeptOrCleared (figures-answer answer) (now (nodes .entry)) (now (nodes .exit)) ⌝ }
 {
-    match a {
+    match answer {
         FigureAnswer::Refused(_) => clear(nodes),
         FigureAnswer::Sized(_) => {}
     }

@@ -98,22 +98,22 @@ fn formula_fits(code: u8, m: usize, left: usize) -> bool
     }
 }
 
-// The formula's own bytes at a position, inside m quantifiers and with some formulas left.
-pub fn head_check(s: &[u8], at: usize, m: usize, left: usize) -> Check
-    ensures { λ r. ⌜ check-number r ≡ head-number (head (now (s .entry)) at m left) ⌝ }
+// The formula's own bytes at a position, inside `depth` quantifiers and with some formulas left.
+pub fn head_check(body: &[u8], at: usize, depth: usize, left: usize) -> Check
+    ensures { λ r. ⌜ check-number r ≡ head-number (head (now (body .entry)) at depth left) ⌝ }
 {
-    if s.len() <= at {
+    if body.len() <= at {
         return Check::Refused(Refusal::BodyEndsEarly);
     }
-    let code = s[at];
+    let code = body[at];
     if !code_known(code) {
         return Check::Refused(Refusal::UnknownCode);
     }
-    if !formula_fits(code, m, left) {
+    if !formula_fits(code, depth, left) {
         return Check::Refused(Refusal::BodyTooLarge);
     }
-    if s.len() - at < fixed_bytes(code) {
+    if body.len() - at < fixed_bytes(code) {
         return Check::Refused(Refusal::BodyEndsEarly);
     }
-    contents_check(s, at, m)
+    contents_check(body, at, depth)
 }

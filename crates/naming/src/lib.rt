@@ -28,36 +28,36 @@ fn bound_names(nodes: &[u32], j: usize, v: u32) -> bool
     node_word(nodes, j, BOUND_VARIABLE) == v
 }
 
-// Whether the formula at word i, inside m quantifiers, with `left` formulas left, names v: at a flag, or in a bound of a quantifier inside. This holds of every
+// Whether the formula at word `node`, inside `depth` quantifiers, with `left` formulas left, names the variable: at a flag, or in a bound of a quantifier inside. This holds of every
 // table, also of one that no body filled.
-pub fn names(nodes: &[u32], left: u64, m: usize, i: usize, v: u32) -> bool
-    ensures { λ r. ⌜ r ≡ names v (formula-in left (now (nodes .entry)) m i) ⌝ }
+pub fn names(nodes: &[u32], left: u64, depth: usize, node: usize, variable: u32) -> bool
+    ensures { λ r. ⌜ r ≡ names variable (formula-in left (now (nodes .entry)) depth node) ⌝ }
 {
     if left == 0 {
-        return v == 0;
+        return variable == 0;
     }
-    let code = node_word(nodes, i, CODE);
+    let code = node_word(nodes, node, CODE);
     if code == NOT_CODE {
-        return names(nodes, left - 1, m, i + NODE_WORDS, v);
+        return names(nodes, left - 1, depth, node + NODE_WORDS, variable);
     }
     if has_second_part(code) {
-        if names(nodes, left - 1, m, i + NODE_WORDS, v) {
+        if names(nodes, left - 1, depth, node + NODE_WORDS, variable) {
             return true;
         }
-        let second = node_word(nodes, i, SECOND_PART) as usize;
-        return names(nodes, left - 1, m, second, v);
+        let second = node_word(nodes, node, SECOND_PART) as usize;
+        return names(nodes, left - 1, depth, second, variable);
     }
     if code == FORALL_CODE {
-        if NESTED <= m {
-            return v == 0;
+        if NESTED <= depth {
+            return variable == 0;
         }
-        if bound_names(nodes, i + FIRST_BOUND, v) {
+        if bound_names(nodes, node + FIRST_BOUND, variable) {
             return true;
         }
-        if bound_names(nodes, i + SECOND_BOUND, v) {
+        if bound_names(nodes, node + SECOND_BOUND, variable) {
             return true;
         }
-        return names(nodes, left - 1, m + 1, i + NODE_WORDS, v);
+        return names(nodes, left - 1, depth + 1, node + NODE_WORDS, variable);
     }
-    node_word(nodes, i, VARIABLE) == v
+    node_word(nodes, node, VARIABLE) == variable
 }

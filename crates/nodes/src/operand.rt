@@ -14,27 +14,27 @@ pub struct Operand {
     pub odd: bool,
 }
 
-// What stands at word i, with `left` formulas left, under the nots that stand there one after another (none: the formula itself).
-pub fn skip_nots(nodes: &[u32], left: usize, i: usize) -> Operand
-    ensures { λ r. ⌜ r ≡ past-nots left (now (nodes .entry)) i false ⌝ }
+// What stands at word `node`, with `left` formulas left, under the nots that stand there one after another (none: the formula itself).
+pub fn skip_nots(nodes: &[u32], left: usize, node: usize) -> Operand
+    ensures { λ r. ⌜ r ≡ past-nots left (now (nodes .entry)) node false ⌝ }
 {
-    let mut n = left;
-    let mut at = i;
+    let mut rest = left;
+    let mut at = node;
     let mut odd = false;
-    while 0 < n {
+    while 0 < rest {
         if node_word(nodes, at, CODE) != NOT_CODE {
             return Operand {
-                left: n,
+                left: rest,
                 i: at,
                 odd,
             };
         }
-        n -= 1;
+        rest -= 1;
         at += NODE_WORDS;
         odd = !odd;
     }
     Operand {
-        left: n,
+        left: rest,
         i: at,
         odd,
     }

@@ -5,22 +5,22 @@ use rule::Outcome;
 use rule::Verdict;
 
 // Writes bytes as they are.
-pub fn text(t: &[u8]) {
-    io::write_all(STDOUT_FILENO, t);
+pub fn text(text: &[u8]) {
+    io::write_all(STDOUT_FILENO, text);
 }
 
 // Writes a number's digits.
-pub fn number(n: u64) {
-    io::print_decimal(STDOUT_FILENO, n);
+pub fn number(value: u64) {
+    io::print_decimal(STDOUT_FILENO, value);
 }
 
 // A name and then bytes, each as a space and two digits.
-pub fn bytes(name: &[u8], b: &[u8]) {
+pub fn bytes(name: &[u8], value: &[u8]) {
     text(name);
     let mut i = 0;
-    while i < b.len() {
+    while i < value.len() {
         text(b" ");
-        io::print_hex(STDOUT_FILENO, wide(b[i]), 2);
+        io::print_hex(STDOUT_FILENO, wide(value[i]), 2);
         i += 1;
     }
     text(b"\n");

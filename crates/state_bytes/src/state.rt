@@ -53,15 +53,15 @@ pub fn load(state: &[u8; STATE_BYTES], next: u32) -> State
 }
 
 // Stores a state.
-pub fn store(state: &mut [u8; STATE_BYTES], s: State)
-    ensures { λ _. ⌜ now (state .exit) ≡ stored s ⌝ }
+pub fn store(bytes: &mut [u8; STATE_BYTES], state: State)
+    ensures { λ _. ⌜ now (bytes .exit) ≡ stored state ⌝ }
 {
-    let body = s.body;
-    bytes::copy(&body, state);
-    put_number(state, SIZE_AT, s.size);
-    put_number(state, OPENED_AT, s.opened);
-    put_number(state, NEXT_AT, s.next as usize);
-    put_number(state, LIVE_AT, s.live);
+    let body = state.body;
+    bytes::copy(&body, bytes);
+    put_number(bytes, SIZE_AT, state.size);
+    put_number(bytes, OPENED_AT, state.opened);
+    put_number(bytes, NEXT_AT, state.next as usize);
+    put_number(bytes, LIVE_AT, state.live);
 }
 
 // Stores another next tick and live count.

@@ -10,16 +10,16 @@ use crate::scan::run_end;
 use crate::scan::starts_at;
 
 // The position after 0, infinity or a name; 0 where there is none.
-pub fn base_end(s: &[u8], at: usize) -> usize
-    ensures { λ r. ⌜ Found (now (s .entry)) r (read-base (drop at (now (s .entry)))) ⌝ }
+pub fn base_end(text: &[u8], at: usize) -> usize
+    ensures { λ r. ⌜ Found (now (text .entry)) r (read-base (drop at (now (text .entry)))) ⌝ }
 {
-    if starts_at(s, at, b"0") {
+    if starts_at(text, at, b"0") {
         return at + 1;
     }
-    if is_word(s, at, b"infinity") {
-        return run_end(s, at, b'a', b'z');
+    if is_word(text, at, b"infinity") {
+        return run_end(text, at, b'a', b'z');
     }
-    name_end(s, at)
+    name_end(text, at)
 }
 
 // The position after an offset or none; 0 where its digits are missing.
@@ -37,12 +37,12 @@ fn offset_end(s: &[u8], at: usize) -> usize
 }
 
 // The position after a bound; 0 where there is none.
-pub fn bound_end(s: &[u8], at: usize) -> usize
-    ensures { λ r. ⌜ Found (now (s .entry)) r (read-end (drop at (now (s .entry)))) ⌝ }
+pub fn bound_end(text: &[u8], at: usize) -> usize
+    ensures { λ r. ⌜ Found (now (text .entry)) r (read-end (drop at (now (text .entry)))) ⌝ }
 {
-    let b = base_end(s, at);
+    let b = base_end(text, at);
     if b == 0 {
         return 0;
     }
-    offset_end(s, b)
+    offset_end(text, b)
 }

@@ -8,14 +8,14 @@ use crate::scan::run_end;
 use crate::scan::starts_at;
 
 // The run of letters at a position is this word.
-pub fn is_word(s: &[u8], at: usize, w: &[u8]) -> bool
-    ensures { λ r. ⌜ r ≡ same (run letter (drop at (now (s .entry)))) (now (w .entry)) ⌝ }
+pub fn is_word(text: &[u8], at: usize, word: &[u8]) -> bool
+    ensures { λ r. ⌜ r ≡ same (run letter (drop at (now (text .entry)))) (now (word .entry)) ⌝ }
 {
-    let e = run_end(s, at, b'a', b'z');
-    if e - at != w.len() {
+    let e = run_end(text, at, b'a', b'z');
+    if e - at != word.len() {
         return false;
     }
-    starts_at(s, at, w)
+    starts_at(text, at, word)
 }
 
 // The run of letters at a position is one of the notation's words.

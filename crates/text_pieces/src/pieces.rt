@@ -59,26 +59,26 @@ fn forall_end(s: &[u8], at: usize) -> usize
 }
 
 // The start of a formula at a position.
-pub fn piece_at(s: &[u8], at: usize) -> Piece
-    ensures { λ r. ⌜ Pieced (now (s .entry)) at r (read-token (drop at (now (s .entry)))) ⌝ }
+pub fn piece_at(text: &[u8], at: usize) -> Piece
+    ensures { λ r. ⌜ Pieced (now (text .entry)) at r (read-token (drop at (now (text .entry)))) ⌝ }
 {
-    if starts_at(s, at, b"@") {
-        let q = flag_end(s, at + 1);
+    if starts_at(text, at, b"@") {
+        let q = flag_end(text, at + 1);
         if q == 0 {
             return Piece::Wrong;
         }
         return Piece::Flag(q);
     }
-    if starts_at(s, at, b"~") {
+    if starts_at(text, at, b"~") {
         return Piece::Negate(at + 1);
     }
-    if starts_at(s, at, b"(") {
+    if starts_at(text, at, b"(") {
         return Piece::Open(at + 1);
     }
-    if !starts_at(s, at, b"forall ") {
+    if !starts_at(text, at, b"forall ") {
         return Piece::Wrong;
     }
-    let q = forall_end(s, at + 7);
+    let q = forall_end(text, at + 7);
     if q == 0 {
         return Piece::Wrong;
     }
@@ -86,13 +86,13 @@ pub fn piece_at(s: &[u8], at: usize) -> Piece
 }
 
 // The position after a connective; 0 where there is none.
-pub fn joint_end(s: &[u8], at: usize) -> usize
-    ensures { λ r. ⌜ Found (now (s .entry)) r (joint (drop at (now (s .entry)))) ⌝ }
+pub fn joint_end(text: &[u8], at: usize) -> usize
+    ensures { λ r. ⌜ Found (now (text .entry)) r (joint (drop at (now (text .entry)))) ⌝ }
 {
-    if starts_at(s, at, b" && ") {
+    if starts_at(text, at, b" && ") {
         return at + 4;
     }
-    if starts_at(s, at, b" /\\ ") {
+    if starts_at(text, at, b" /\\ ") {
         return at + 4;
     }
     0

@@ -7,22 +7,22 @@ ghost use Rattle.notation.specs.Reading.{starts, run, one-digit};
 ghost use Rattle.text_pieces.specs.Spots.{Found};
 
 // A byte from lo to hi.
-pub fn is_between(lo: u8, hi: u8, c: u8) -> bool
-    ensures { λ r. ⌜ r ≡ between lo hi c ⌝ }
+pub fn is_between(lo: u8, hi: u8, byte: u8) -> bool
+    ensures { λ r. ⌜ r ≡ between lo hi byte ⌝ }
 {
-    if c < lo {
+    if byte < lo {
         return false;
     }
-    c <= hi
+    byte <= hi
 }
 
 // The position after the longest run of bytes from lo to hi.
-pub fn run_end(s: &[u8], at: usize, lo: u8, hi: u8) -> usize
-    ensures { λ r. ⌜ r ≡ at + length (run (between lo hi) (drop at (now (s .entry)))) ⌝ }
+pub fn run_end(text: &[u8], at: usize, lo: u8, hi: u8) -> usize
+    ensures { λ r. ⌜ r ≡ at + length (run (between lo hi) (drop at (now (text .entry)))) ⌝ }
 {
     let mut i = at;
-    while i < s.len() {
-        let c = s[i];
+    while i < text.len() {
+        let c = text[i];
         if !is_between(lo, hi, c) {
             return i;
         }
@@ -32,18 +32,18 @@ pub fn run_end(s: &[u8], at: usize, lo: u8, hi: u8) -> usize
 }
 
 // The text at a position starts with a word.
-pub fn starts_at(s: &[u8], at: usize, w: &[u8]) -> bool
-    ensures { λ r. ⌜ r ≡ starts (now (w .entry)) (drop at (now (s .entry))) ⌝ }
+pub fn starts_at(text: &[u8], at: usize, word: &[u8]) -> bool
+    ensures { λ r. ⌜ r ≡ starts (now (word .entry)) (drop at (now (text .entry))) ⌝ }
 {
-    if s.len() < at {
-        return w.len() == 0;
+    if text.len() < at {
+        return word.len() == 0;
     }
-    if s.len() - at < w.len() {
+    if text.len() - at < word.len() {
         return false;
     }
     let mut k: usize = 0;
-    while k < w.len() {
-        if s[at + k] != w[k] {
+    while k < word.len() {
+        if text[at + k] != word[k] {
             return false;
         }
         k += 1;

@@ -5,17 +5,17 @@ use crate::names::name_end;
 use crate::scan::starts_at;
 
 // The position after "monitor ", a name and " : "; 0 where they are not there.
-pub fn rule_start(s: &[u8]) -> usize
-    ensures { λ r. ⌜ Found (now (s .entry)) r (rule-head (now (s .entry))) ⌝ }
+pub fn rule_start(text: &[u8]) -> usize
+    ensures { λ r. ⌜ Found (now (text .entry)) r (rule-head (now (text .entry))) ⌝ }
 {
-    if !starts_at(s, 0, b"monitor ") {
+    if !starts_at(text, 0, b"monitor ") {
         return 0;
     }
-    let n = name_end(s, 8);
+    let n = name_end(text, 8);
     if n == 0 {
         return 0;
     }
-    if !starts_at(s, n, b" : ") {
+    if !starts_at(text, n, b" : ") {
         return 0;
     }
     n + 3

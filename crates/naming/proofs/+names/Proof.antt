@@ -50,11 +50,11 @@ module _ (t : ℕ) (n : Coded t) where
   some = n .before .if1 .left
 
   -- a node with a code stands in the table
-  inside : (k : ℕ) → n .node-word .result ≡ suc k → start .args .i < length ns
-  inside k e = word-in ns (start .args .i) k (sym (n .node-word .ensures) ∙ e)
+  inside : (k : ℕ) → n .node-word .result ≡ suc k → start .args .node < length ns
+  inside k e = word-in ns (start .args .node) k (sym (n .node-word .ensures) ∙ e)
 
-  is-range : n .node-word .result ≡ 5 → formula-in (start .args .left) ns (start .args .m) (start .args .i) ≡ forall-of-node (start .args .left - 1) ns (start .args .m) (start .args .i)
-  is-range e = range-in (start .args .left) ns (start .args .m) (start .args .i) some (sym (n .node-word .ensures) ∙ e)
+  is-range : n .node-word .result ≡ 5 → formula-in (start .args .left) ns (start .args .depth) (start .args .node) ≡ forall-of-node (start .args .left - 1) ns (start .args .depth) (start .args .node)
+  is-range e = range-in (start .args .left) ns (start .args .depth) (start .args .node) some (sym (n .node-word .ensures) ∙ e)
 
   less : start .args .left - 1 < t
   less = omega (arith, some, start .pre .0)
@@ -62,7 +62,7 @@ module _ (t : ℕ) (n : Coded t) where
 names-returns : (t : ℕ) → names-lts.Need-returns (names-claims t) (names-at t) names.Post
 names-returns t c =
     let s = c .before .before in
-    named-none (s .args .v) (none-in (s .args .left) (s .args .nodes .now) (s .args .m) (s .args .i) (c .if1 .taken))
+    named-none (s .args .variable) (none-in (s .args .left) (s .args .nodes .now) (s .args .depth) (s .args .node) (c .if1 .taken))
 
 names-node-word-requires : (t : ℕ) → names-lts.Need-node-word-requires (names-claims t) (names-at t) names.Post
 names-node-word-requires t c κs = search needs
@@ -80,7 +80,7 @@ names-returns-2 : (t : ℕ) → names-lts.Need-returns-2 (names-claims t) (names
 names-returns-2 t c =
     let n = c .before .before in
     let s = start t n in
-    named-negate (s .args .v) (negate-in (s .args .left) (ns t n) (s .args .m) (s .args .i) (some t n) (sym (n .node-word .ensures) ∙ c .before .if2 .taken)) (c .names .ensures)
+    named-negate (s .args .variable) (negate-in (s .args .left) (ns t n) (s .args .depth) (s .args .node) (some t n) (sym (n .node-word .ensures) ∙ c .before .if2 .taken)) (c .names .ensures)
 
 names-has-second-part-requires : (t : ℕ) → names-lts.Need-has-second-part-requires (names-claims t) (names-at t) names.Post
 names-has-second-part-requires t c κs = search needs
@@ -92,7 +92,7 @@ names-add-names-2 : (t : ℕ) → names-lts.Need-add-names-2 (names-claims t) (n
 names-add-names-2 t c =
     let n = c .before .before .before in
     let s = start t n in
-    omega (arith, two-inside (s .args .left) (ns t n) (s .args .m) (s .args .i) (some t n) (n .node-word .ensures) (c .before .has-second-part .ensures) (c .if3 .taken), s .good .0)
+    omega (arith, two-inside (s .args .left) (ns t n) (s .args .depth) (s .args .node) (some t n) (n .node-word .ensures) (c .before .has-second-part .ensures) (c .if3 .taken), s .good .0)
 
 names-names-requires-2 : (t : ℕ) → names-lts.Need-names-requires-2 (names-claims t) (names-at t) names.Post
 names-names-requires-2 t c κs = (less t (c .before .before .before), tt)
@@ -101,7 +101,7 @@ names-returns-3 : (t : ℕ) → names-lts.Need-returns-3 (names-claims t) (names
 names-returns-3 t c =
     let n = c .before .before .before .before .before in
     let s = start t n in
-    named-two (s .args .left) (ns t n) (s .args .m) (s .args .i) (some t n) (n .node-word .ensures) (c .before .before .before .has-second-part .ensures) (s .args .v) (getD (ns t n) (s .args .i + 7) 0) (c .before .before .if3 .taken) refl .0 (sym (c .before .names2 .ensures) ∙ c .if4 .taken)
+    named-two (s .args .left) (ns t n) (s .args .depth) (s .args .node) (some t n) (n .node-word .ensures) (c .before .before .before .has-second-part .ensures) (s .args .variable) (getD (ns t n) (s .args .node + 7) 0) (c .before .before .if3 .taken) refl .0 (sym (c .before .names2 .ensures) ∙ c .if4 .taken)
 
 names-node-word-requires-2 : (t : ℕ) → names-lts.Need-node-word-requires-2 (names-claims t) (names-at t) names.Post
 names-node-word-requires-2 t c κs = search needs
@@ -120,13 +120,13 @@ names-returns-4 t c =
     let n = c .before .before .before .before .before .before .before in
     let s = start t n in
     c .names3 .ensures
-    ∙ named-two (s .args .left) (ns t n) (s .args .m) (s .args .i) (some t n) (n .node-word .ensures) (c .before .before .before .before .before .has-second-part .ensures) (s .args .v) (c .before .node-word2 .result) (c .before .before .before .before .if3 .taken) (c .before .node-word2 .ensures) .1 (sym (c .before .before .before .names2 .ensures) ∙ c .before .before .if4 .left)
+    ∙ named-two (s .args .left) (ns t n) (s .args .depth) (s .args .node) (some t n) (n .node-word .ensures) (c .before .before .before .before .before .has-second-part .ensures) (s .args .variable) (c .before .node-word2 .result) (c .before .before .before .before .if3 .taken) (c .before .node-word2 .ensures) .1 (sym (c .before .before .before .names2 .ensures) ∙ c .before .before .if4 .left)
 
 names-returns-5 : (t : ℕ) → names-lts.Need-returns-5 (names-claims t) (names-at t) names.Post
 names-returns-5 t c =
     let n = c .before .before .before .before .before in
     let s = start t n in
-    named-deep (s .args .left - 1) (ns t n) (s .args .m) (s .args .i) (s .args .v) (is-range t n (c .before .if5 .taken)) (c .if6 .taken)
+    named-deep (s .args .left - 1) (ns t n) (s .args .depth) (s .args .node) (s .args .variable) (is-range t n (c .before .if5 .taken)) (c .if6 .taken)
 
 names-add-bound-names : (t : ℕ) → names-lts.Need-add-bound-names (names-claims t) (names-at t) names.Post
 names-add-bound-names t c =
@@ -139,7 +139,7 @@ names-returns-6 : (t : ℕ) → names-lts.Need-returns-6 (names-claims t) (names
 names-returns-6 t c =
     let n = c .before .before .before .before .before .before .before in
     let s = start t n in
-    named-range (s .args .left - 1) (ns t n) (s .args .m) (s .args .i) (s .args .v) (is-range t n (c .before .before .before .if5 .taken)) (omega (arith, c .before .before .if6 .left)) .0 (sym (c .before .bound-names .ensures) ∙ c .if7 .taken)
+    named-range (s .args .left - 1) (ns t n) (s .args .depth) (s .args .node) (s .args .variable) (is-range t n (c .before .before .before .if5 .taken)) (omega (arith, c .before .before .if6 .left)) .0 (sym (c .before .bound-names .ensures) ∙ c .if7 .taken)
 
 names-add-bound-names-2 : (t : ℕ) → names-lts.Need-add-bound-names-2 (names-claims t) (names-at t) names.Post
 names-add-bound-names-2 t c =
@@ -152,8 +152,8 @@ names-returns-7 : (t : ℕ) → names-lts.Need-returns-7 (names-claims t) (names
 names-returns-7 t c =
     let n = c .before .before .before .before .before .before .before .before .before in
     let s = start t n in
-    named-rest (s .args .left - 1) (ns t n) (s .args .m) (s .args .i) (s .args .v) (is-range t n (c .before .before .before .before .before .if5 .taken)) .0 (sym (c .before .bound-names2 .ensures) ∙ c .if8 .taken)
-    ∙ named-range (s .args .left - 1) (ns t n) (s .args .m) (s .args .i) (s .args .v) (is-range t n (c .before .before .before .before .before .if5 .taken)) (omega (arith, c .before .before .before .before .if6 .left)) .1 (sym (c .before .before .before .bound-names .ensures) ∙ c .before .before .if7 .left)
+    named-rest (s .args .left - 1) (ns t n) (s .args .depth) (s .args .node) (s .args .variable) (is-range t n (c .before .before .before .before .before .if5 .taken)) .0 (sym (c .before .bound-names2 .ensures) ∙ c .if8 .taken)
+    ∙ named-range (s .args .left - 1) (ns t n) (s .args .depth) (s .args .node) (s .args .variable) (is-range t n (c .before .before .before .before .before .if5 .taken)) (omega (arith, c .before .before .before .before .if6 .left)) .1 (sym (c .before .before .before .bound-names .ensures) ∙ c .before .before .if7 .left)
 
 names-sub-names-4 : (t : ℕ) → names-lts.Need-sub-names-4 (names-claims t) (names-at t) names.Post
 names-sub-names-4 t c = omega (arith, some t (c .before .before .before .before .before .before .before .before .before))
@@ -173,8 +173,8 @@ names-returns-8 t c =
     let n = c .before .before .before .before .before .before .before .before .before .before in
     let s = start t n in
     c .names4 .ensures
-    ∙ named-rest (s .args .left - 1) (ns t n) (s .args .m) (s .args .i) (s .args .v) (is-range t n (c .before .before .before .before .before .before .if5 .taken)) .1 (sym (c .before .before .bound-names2 .ensures) ∙ c .before .if8 .left)
-    ∙ named-range (s .args .left - 1) (ns t n) (s .args .m) (s .args .i) (s .args .v) (is-range t n (c .before .before .before .before .before .before .if5 .taken)) (omega (arith, c .before .before .before .before .before .if6 .left)) .1 (sym (c .before .before .before .before .bound-names .ensures) ∙ c .before .before .before .if7 .left)
+    ∙ named-rest (s .args .left - 1) (ns t n) (s .args .depth) (s .args .node) (s .args .variable) (is-range t n (c .before .before .before .before .before .before .if5 .taken)) .1 (sym (c .before .before .bound-names2 .ensures) ∙ c .before .if8 .left)
+    ∙ named-range (s .args .left - 1) (ns t n) (s .args .depth) (s .args .node) (s .args .variable) (is-range t n (c .before .before .before .before .before .before .if5 .taken)) (omega (arith, c .before .before .before .before .before .if6 .left)) .1 (sym (c .before .before .before .before .bound-names .ensures) ∙ c .before .before .before .if7 .left)
 
 names-node-word-requires-3 : (t : ℕ) → names-lts.Need-node-word-requires-3 (names-claims t) (names-at t) names.Post
 names-node-word-requires-3 t c κs = search needs
@@ -183,7 +183,7 @@ names-returns-9 : (t : ℕ) → names-lts.Need-returns-9 (names-claims t) (names
 names-returns-9 t c =
     let n = c .before .before .before .before .before in
     let s = start t n in
-    named-here (s .args .left) (ns t n) (s .args .m) (s .args .i) (some t n) (n .node-word .ensures) (c .before .before .before .has-second-part .ensures) (s .args .v) (c .before .before .if3 .left) (c .before .before .before .before .if2 .left) (c .before .if5 .left) (c .node-word3 .ensures)
+    named-here (s .args .left) (ns t n) (s .args .depth) (s .args .node) (some t n) (n .node-word .ensures) (c .before .before .before .has-second-part .ensures) (s .args .variable) (c .before .before .if3 .left) (c .before .before .before .before .if2 .left) (c .before .if5 .left) (c .node-word3 .ensures)
 
 pub +names-spec : {M : Type 1} → statement M
 +names-spec = close μ-names λ t. names-lts.spec (names-claims t)

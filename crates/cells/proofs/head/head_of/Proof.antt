@@ -6,13 +6,13 @@ use Rattle.cells.proofs.head.head_of.Statement.{statement}
 use Rattle.cells.proofs.head.head_of.Tie as tie
 
 returns : tie.Need-returns
-returns c = let s₀ = c .before in head-start (s₀ .args .p) (s₀ .args .s) (s₀ .args .t) (s₀ .args .n) (s₀ .args .l) (s₀ .args .d) (c .if1 .taken)
+returns c = let s₀ = c .before in head-start (s₀ .args .p) (s₀ .args .s) (s₀ .args .t) (s₀ .args .positions) (s₀ .args .trues) (s₀ .args .steps) (c .if1 .taken)
 
 returns-2 : tie.Need-returns-2
-returns-2 c = let s₀ = c .before .before in head-none (s₀ .args .p) (s₀ .args .s) (s₀ .args .t) (s₀ .args .n) (s₀ .args .l) (s₀ .args .d) (c .before .if1 .left) (c .if2 .taken)
+returns-2 c = let s₀ = c .before .before in head-none (s₀ .args .p) (s₀ .args .s) (s₀ .args .t) (s₀ .args .positions) (s₀ .args .trues) (s₀ .args .steps) (c .before .if1 .left) (c .if2 .taken)
 
 returns-3 : tie.Need-returns-3
-returns-3 c = let s₀ = c .before .before .before in head-far (s₀ .args .p) (s₀ .args .s) (s₀ .args .t) (s₀ .args .n) (s₀ .args .l) (s₀ .args .d) (c .before .before .if1 .left) (c .if3 .taken)
+returns-3 c = let s₀ = c .before .before .before in head-far (s₀ .args .p) (s₀ .args .s) (s₀ .args .t) (s₀ .args .positions) (s₀ .args .trues) (s₀ .args .steps) (c .before .before .if1 .left) (c .if3 .taken)
 
 step-after-requires : tie.Need-step-after-requires
 step-after-requires c κs = search needs
@@ -20,7 +20,7 @@ step-after-requires c κs = search needs
 returns-4 : tie.Need-returns-4
 returns-4 c =
     let s₀ = c .before .before .before .before in
-    head-there (s₀ .args .p) (s₀ .args .s) (s₀ .args .t) (s₀ .args .n) (s₀ .args .l) (s₀ .args .d) (c .step-after .result) (c .step-after .ensures) (c .before .before .before .if1 .left) (c .before .before .if2 .left) (omega (arith, c .before .if3 .left))
+    head-there (s₀ .args .p) (s₀ .args .s) (s₀ .args .t) (s₀ .args .positions) (s₀ .args .trues) (s₀ .args .steps) (c .step-after .result) (c .step-after .ensures) (c .before .before .before .if1 .left) (c .before .before .if2 .left) (omega (arith, c .before .if3 .left))
 
 pub head-of-spec : {M : Type 1} → statement M
 head-of-spec = tie.close (tie.spec returns returns-2 returns-3 step-after-requires returns-4)

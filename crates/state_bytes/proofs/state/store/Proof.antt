@@ -14,8 +14,8 @@ slice-aggregate-copy c = search needs
 copy-requires : tie.Need-copy-requires
 copy-requires c κs =
     let s₀ = c .before .before .before in
-    let r : length (s₀ .args .s .body) ≡ 512 = search needs in
-    let n : length (now (s₀ .args .state)) ≡ 544 = search needs in
+    let r : length (s₀ .args .state .body) ≡ 512 = search needs in
+    let n : length (now (s₀ .args .bytes)) ≡ 544 = search needs in
     omega arith
 
 put-number-requires : tie.Need-put-number-requires
@@ -36,9 +36,9 @@ put-number-requires-4 c κs = search needs
 returns : tie.Need-returns
 returns c =
     let s₀ = c .before .before .before .before .before .before .before .before .before .before .before .before .before in
-    let r : length (s₀ .args .s .body) ≡ 512 = search needs in
-    let n : length (now (s₀ .args .state)) ≡ 544 = search needs in
-    whole-stored (now (s₀ .args .state)) (s₀ .args .s) (c .before .before .before .before .before .before .before .before .before .copy .last .1 .0) (c .before .before .before .before .before .before .before .put-number .last .0) (c .before .before .before .before .before .put-number2 .last .0) (c .before .before .put-number3 .last .0) (c .put-number4 .last .0) n r
+    let r : length (s₀ .args .state .body) ≡ 512 = search needs in
+    let n : length (now (s₀ .args .bytes)) ≡ 544 = search needs in
+    whole-stored (now (s₀ .args .bytes)) (s₀ .args .state) (c .before .before .before .before .before .before .before .before .before .copy .last .1 .0) (c .before .before .before .before .before .before .before .put-number .last .0) (c .before .before .before .before .before .put-number2 .last .0) (c .before .before .put-number3 .last .0) (c .put-number4 .last .0) n r
     (c .before .before .before .before .before .before .before .before .before .copy .ensures .1) (c .before .before .before .before .before .before .before .put-number .ensures) (c .before .before .before .before .before .put-number2 .ensures) (c .before .before .put-number3 .ensures) (c .put-number4 .ensures)
 
 pub store-spec : {M : Type 1} → statement M

@@ -19,10 +19,10 @@ starts-at-requires c κs = tt
 add-result : tie.Need-add-result
 add-result c =
     let a = c .before .before .before .before .args in
-    let w = word-fits (now (a .s)) (48 ∷ []) (a .at) (omega arith) (sym (c .before .starts-at .ensures) ∙ c .if1 .taken) in omega (arith, w)
+    let w = word-fits (now (a .text)) (48 ∷ []) (a .at) (omega arith) (sym (c .before .starts-at .ensures) ∙ c .if1 .taken) in omega (arith, w)
 
 returns : tie.Need-returns
-returns c = let a = c .before .before .before .before .args in base-zero (now (a .s)) (a .at) (sym (c .before .starts-at .ensures) ∙ c .if1 .taken)
+returns c = let a = c .before .before .before .before .args in base-zero (now (a .text)) (a .at) (sym (c .before .starts-at .ensures) ∙ c .if1 .taken)
 
 slice-aggregate-is-word : tie.Need-slice-aggregate-is-word
 slice-aggregate-is-word c = search needs
@@ -36,7 +36,7 @@ run-end-requires c κs = tt
 returns-2 : tie.Need-returns-2
 returns-2 c =
     let a = c .before .before .before .before .before .before .before .before .args in
-    base-infinity (now (a .s)) (a .at) (c .run-end .result) (sym (c .before .before .before .before .before .starts-at .ensures) ∙ c .before .before .before .before .if1 .left) (c .run-end .ensures)
+    base-infinity (now (a .text)) (a .at) (c .run-end .result) (sym (c .before .before .before .before .before .starts-at .ensures) ∙ c .before .before .before .before .if1 .left) (c .run-end .ensures)
     (sym (c .before .before .is-word .ensures) ∙ c .before .if2 .taken)
 
 name-end-requires : tie.Need-name-end-requires
@@ -45,7 +45,7 @@ name-end-requires c κs = tt
 returns-3 : tie.Need-returns-3
 returns-3 c =
     let a = c .before .before .before .before .before .before .before .before .args in
-    base-name (now (a .s)) (a .at) (c .name-end .result) (sym (c .before .before .before .before .before .starts-at .ensures) ∙ c .before .before .before .before .if1 .left)
+    base-name (now (a .text)) (a .at) (c .name-end .result) (sym (c .before .before .before .before .before .starts-at .ensures) ∙ c .before .before .before .before .if1 .left)
     (sym (c .before .before .is-word .ensures) ∙ c .before .if2 .left) (c .name-end .ensures)
 
 pub base-end-spec : {M : Type 1} → statement M

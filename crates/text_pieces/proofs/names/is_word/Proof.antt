@@ -19,7 +19,7 @@ sub-if1 c = omega (arith, c .run-end .ensures)
 returns : tie.Need-returns
 returns c =
     let a = c .before .before .before .before .args in
-    sym (other-length (run letter (drop (a .at) (now (a .s)))) (now (a .w)) (λ e. c .if1 .taken (omega (arith, e, c .before .run-end .ensures))))
+    sym (other-length (run letter (drop (a .at) (now (a .text)))) (now (a .word)) (λ e. c .if1 .taken (omega (arith, e, c .before .run-end .ensures))))
 
 starts-at-requires : tie.Need-starts-at-requires
 starts-at-requires c κs = tt
@@ -27,7 +27,7 @@ starts-at-requires c κs = tt
 returns-2 : tie.Need-returns-2
 returns-2 c =
     let a = c .before .before .before .before .before .args in
-    c .starts-at .ensures ∙ word-run (drop (a .at) (now (a .s))) (now (a .w)) (omega (arith, c .before .before .run-end .ensures, c .before .if1 .left))
+    c .starts-at .ensures ∙ word-run (drop (a .at) (now (a .text))) (now (a .word)) (omega (arith, c .before .before .run-end .ensures, c .before .if1 .left))
 
 pub is-word-spec : {M : Type 1} → statement M
 is-word-spec = tie.close (tie.spec run-end-requires sub-if1 returns starts-at-requires returns-2)

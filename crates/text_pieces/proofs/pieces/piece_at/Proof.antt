@@ -24,7 +24,7 @@ starts-at-requires c κs = tt
 add-flag-end : tie.Need-add-flag-end
 add-flag-end c =
     let a = c .before .before .before .before .args in
-    let w = word-fits (now (a .s)) (64 ∷ []) (a .at) (omega arith) (sym (c .before .starts-at .ensures) ∙ c .if1 .taken) in omega (arith, w)
+    let w = word-fits (now (a .text)) (64 ∷ []) (a .at) (omega arith) (sym (c .before .starts-at .ensures) ∙ c .if1 .taken) in omega (arith, w)
 
 flag-end-requires : tie.Need-flag-end-requires
 flag-end-requires c κs = tt
@@ -32,14 +32,14 @@ flag-end-requires c κs = tt
 returns : tie.Need-returns
 returns c =
     let a = c .before .before .before .before .before .before .args in
-    head-flag (now (a .s)) (a .at) (sym (c .before .before .before .starts-at .ensures) ∙ c .before .before .if1 .taken)
-    ∙ found-none (now (a .s)) (c .before .flag-end .result) (read-flag (drop (a .at + 1) (now (a .s)))) (c .if2 .taken) (c .before .flag-end .ensures)
+    head-flag (now (a .text)) (a .at) (sym (c .before .before .before .starts-at .ensures) ∙ c .before .before .if1 .taken)
+    ∙ found-none (now (a .text)) (c .before .flag-end .result) (read-flag (drop (a .at + 1) (now (a .text)))) (c .if2 .taken) (c .before .flag-end .ensures)
 
 returns-2 : tie.Need-returns-2
 returns-2 c =
     let a = c .before .before .before .before .before .before .args in
-    flag-piece (now (a .s)) (c .before .flag-end .result) (c .if2 .left) (read-token (drop (a .at) (now (a .s)))) (a .at + 1)
-    (head-flag (now (a .s)) (a .at) (sym (c .before .before .before .starts-at .ensures) ∙ c .before .before .if1 .taken)) (c .before .flag-end .ensures)
+    flag-piece (now (a .text)) (c .before .flag-end .result) (c .if2 .left) (read-token (drop (a .at) (now (a .text)))) (a .at + 1)
+    (head-flag (now (a .text)) (a .at) (sym (c .before .before .before .starts-at .ensures) ∙ c .before .before .if1 .taken)) (c .before .flag-end .ensures)
 
 slice-aggregate-starts-at-2 : tie.Need-slice-aggregate-starts-at-2
 slice-aggregate-starts-at-2 c = search needs
@@ -50,14 +50,14 @@ starts-at-requires-2 c κs = tt
 add-t17 : tie.Need-add-t17
 add-t17 c =
     let a = c .before .before .before .before .before .before .before .args in
-    let w = word-fits (now (a .s)) (126 ∷ []) (a .at) (omega arith) (sym (c .before .starts-at2 .ensures) ∙ c .if3 .taken) in omega (arith, w)
+    let w = word-fits (now (a .text)) (126 ∷ []) (a .at) (omega arith) (sym (c .before .starts-at2 .ensures) ∙ c .if3 .taken) in omega (arith, w)
 
 returns-3 : tie.Need-returns-3
 returns-3 c =
     let a = c .before .before .before .before .before .before .before .args in
     let e = sym (c .before .before .before .before .starts-at .ensures) ∙ c .before .before .before .if1 .left in
     let f = sym (c .before .starts-at2 .ensures) ∙ c .if3 .taken in
-    (word-fits (now (a .s)) (126 ∷ []) (a .at) (omega arith) f, head-negate (now (a .s)) (a .at) e f)
+    (word-fits (now (a .text)) (126 ∷ []) (a .at) (omega arith) f, head-negate (now (a .text)) (a .at) e f)
 
 slice-aggregate-starts-at-3 : tie.Need-slice-aggregate-starts-at-3
 slice-aggregate-starts-at-3 c = search needs
@@ -68,7 +68,7 @@ starts-at-requires-3 c κs = tt
 add-t21 : tie.Need-add-t21
 add-t21 c =
     let a = c .before .before .before .before .before .before .before .before .before .before .args in
-    let w = word-fits (now (a .s)) (40 ∷ []) (a .at) (omega arith) (sym (c .before .starts-at3 .ensures) ∙ c .if4 .taken) in omega (arith, w)
+    let w = word-fits (now (a .text)) (40 ∷ []) (a .at) (omega arith) (sym (c .before .starts-at3 .ensures) ∙ c .if4 .taken) in omega (arith, w)
 
 returns-4 : tie.Need-returns-4
 returns-4 c =
@@ -76,7 +76,7 @@ returns-4 c =
     let e = sym (c .before .before .before .before .before .before .before .starts-at .ensures) ∙ c .before .before .before .before .before .before .if1 .left in
     let f = sym (c .before .before .before .before .starts-at2 .ensures) ∙ c .before .before .before .if3 .left in
     let g = sym (c .before .starts-at3 .ensures) ∙ c .if4 .taken in
-    (word-fits (now (a .s)) (40 ∷ []) (a .at) (omega arith) g, head-open (now (a .s)) (a .at) e f g)
+    (word-fits (now (a .text)) (40 ∷ []) (a .at) (omega arith) g, head-open (now (a .text)) (a .at) e f g)
 
 slice-aggregate-starts-at-4 : tie.Need-slice-aggregate-starts-at-4
 slice-aggregate-starts-at-4 c = search needs
@@ -90,12 +90,12 @@ returns-5 c =
     let e = sym (c .before .before .before .before .before .before .before .before .before .before .starts-at .ensures) ∙ c .before .before .before .before .before .before .before .before .before .if1 .left in
     let f = sym (c .before .before .before .before .before .before .before .starts-at2 .ensures) ∙ c .before .before .before .before .before .before .if3 .left in
     let g = sym (c .before .before .before .before .starts-at3 .ensures) ∙ c .before .before .before .if4 .left in
-    head-none (now (a .s)) (a .at) e f g (sym (c .before .starts-at4 .ensures) ∙ not-true (c .before .starts-at4 .result) (c .if5 .taken))
+    head-none (now (a .text)) (a .at) e f g (sym (c .before .starts-at4 .ensures) ∙ not-true (c .before .starts-at4 .result) (c .if5 .taken))
 
 add-forall-end : tie.Need-add-forall-end
 add-forall-end c =
     let a = c .before .before .before .before .before .before .before .before .before .before .before .before .before .args in
-    let w = word-fits (now (a .s)) forall-sign (a .at) (omega arith) (sym (c .before .starts-at4 .ensures) ∙ not-false (c .before .starts-at4 .result) (c .if5 .left)) in
+    let w = word-fits (now (a .text)) forall-sign (a .at) (omega arith) (sym (c .before .starts-at4 .ensures) ∙ not-false (c .before .starts-at4 .result) (c .if5 .left)) in
     omega (arith, w)
 
 forall-end-requires : tie.Need-forall-end-requires
@@ -107,8 +107,8 @@ returns-6 c =
     let e = sym (c .before .before .before .before .before .before .before .before .before .before .before .before .starts-at .ensures) ∙ c .before .before .before .before .before .before .before .before .before .before .before .if1 .left in
     let f = sym (c .before .before .before .before .before .before .before .before .before .starts-at2 .ensures) ∙ c .before .before .before .before .before .before .before .before .if3 .left in
     let g = sym (c .before .before .before .before .before .before .starts-at3 .ensures) ∙ c .before .before .before .before .before .if4 .left in
-    head-forall (now (a .s)) (a .at) e f g (sym (c .before .before .before .starts-at4 .ensures) ∙ not-false (c .before .before .before .starts-at4 .result) (c .before .before .if5 .left))
-    ∙ found-none (now (a .s)) (c .before .forall-end .result) (read-forall (drop (a .at + 7) (now (a .s)))) (c .if6 .taken) (c .before .forall-end .ensures)
+    head-forall (now (a .text)) (a .at) e f g (sym (c .before .before .before .starts-at4 .ensures) ∙ not-false (c .before .before .before .starts-at4 .result) (c .before .before .if5 .left))
+    ∙ found-none (now (a .text)) (c .before .forall-end .result) (read-forall (drop (a .at + 7) (now (a .text)))) (c .if6 .taken) (c .before .forall-end .ensures)
 
 returns-7 : tie.Need-returns-7
 returns-7 c =
@@ -117,8 +117,8 @@ returns-7 c =
     let f = sym (c .before .before .before .before .before .before .before .before .before .starts-at2 .ensures) ∙ c .before .before .before .before .before .before .before .before .if3 .left in
     let g = sym (c .before .before .before .before .before .before .starts-at3 .ensures) ∙ c .before .before .before .before .before .if4 .left in
     let h = sym (c .before .before .before .starts-at4 .ensures) ∙ not-false (c .before .before .before .starts-at4 .result) (c .before .before .if5 .left) in
-    forall-piece (now (a .s)) (c .before .forall-end .result) (c .if6 .left) (read-token (drop (a .at) (now (a .s)))) (a .at + 7)
-    (head-forall (now (a .s)) (a .at) e f g h) (c .before .forall-end .ensures)
+    forall-piece (now (a .text)) (c .before .forall-end .result) (c .if6 .left) (read-token (drop (a .at) (now (a .text)))) (a .at + 7)
+    (head-forall (now (a .text)) (a .at) e f g h) (c .before .forall-end .ensures)
 
 pub piece-at-spec : {M : Type 1} → statement M
 piece-at-spec =

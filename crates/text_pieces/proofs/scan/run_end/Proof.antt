@@ -34,7 +34,7 @@ returns c =
     let a = c .before .before .before .before .before .before .args in
     let l = c .before .before .before .before .loop in
     let t = sym (c .before .is-between .ensures) ∙ not-true (c .before .is-between .result) (c .if1 .taken) in
-    let q = run-stop (between (a .lo) (a .hi)) (now (a .s)) (l .i) (c .before .before .before .loop-test .taken) t in
+    let q = run-stop (between (a .lo) (a .hi)) (now (a .text)) (l .i) (c .before .before .before .loop-test .taken) t in
     omega (arith, l .inv, ap length q)
 
 add-i : tie.Need-add-i Inv-loop μ-loop
@@ -48,14 +48,14 @@ loop-again c =
     let a = c .before .before .before .before .before .before .args in
     let l = c .before .before .before .before .loop in
     let t = sym (c .before .is-between .ensures) ∙ not-false (c .before .is-between .result) (c .if1 .left) in
-    let q = run-on (between (a .lo) (a .hi)) (now (a .s)) (l .i) (c .before .before .before .loop-test .taken) t in
+    let q = run-on (between (a .lo) (a .hi)) (now (a .text)) (l .i) (c .before .before .before .loop-test .taken) t in
     rw (add-one (l .i)) (omega (arith, l .inv, q))
 
 returns-2 : tie.Need-returns-2 Inv-loop μ-loop
 returns-2 c =
     let a = c .before .before .before .args in
     let l = c .before .loop in
-    let q = run-none (between (a .lo) (a .hi)) (now (a .s)) (l .i) (c .loop-test .left) in
+    let q = run-none (between (a .lo) (a .hi)) (now (a .text)) (l .i) (c .loop-test .left) in
     omega (arith, l .inv, ap length q)
 
 pub run-end-spec : {M : Type 1} → statement M

@@ -20,7 +20,7 @@ abbrev μ-loop : tie.MeasureT-loop
 μ-loop s at w k₀ k = length w - k
 
 returns : tie.Need-returns Inv-loop μ-loop
-returns c = sym (starts-past (now (c .before .args .w)) (now (c .before .args .s)) (c .before .args .at) (omega arith))
+returns c = sym (starts-past (now (c .before .args .word)) (now (c .before .args .text)) (c .before .args .at) (omega arith))
 
 sub-if2 : tie.Need-sub-if2 Inv-loop μ-loop
 sub-if2 c = omega arith
@@ -28,8 +28,8 @@ sub-if2 c = omega arith
 returns-2 : tie.Need-returns-2 Inv-loop μ-loop
 returns-2 c =
     let args = c .before .before .args in
-    let s = now (args .s) in
-    sym (starts-short (now (args .w)) (drop (args .at) s) (rw (length-drop (args .at) s) (c .if2 .taken)))
+    let s = now (args .text) in
+    sym (starts-short (now (args .word)) (drop (args .at) s) (rw (length-drop (args .at) s) (c .if2 .taken)))
 
 loop-holds : tie.Need-loop-holds Inv-loop μ-loop
 loop-holds c = (omega arith, omega arith, rw add-zero)
@@ -47,7 +47,7 @@ returns-3 : tie.Need-returns-3 Inv-loop μ-loop
 returns-3 c =
     let a = c .before .before .before .before .before .before .before .args in
     let l = c .before .before .before .before .loop in
-    sym (l .inv .2 ∙ starts-off (now (a .w)) (now (a .s)) (l .k) (a .at + l .k) (c .before .before .before .loop-test .taken) (omega arith) (c .if3 .taken))
+    sym (l .inv .2 ∙ starts-off (now (a .word)) (now (a .text)) (l .k) (a .at + l .k) (c .before .before .before .loop-test .taken) (omega arith) (c .if3 .taken))
 
 add-k : tie.Need-add-k Inv-loop μ-loop
 add-k c = omega arith
@@ -59,7 +59,7 @@ loop-again : tie.Need-loop-again Inv-loop μ-loop
 loop-again c =
     let a = c .before .before .before .before .before .before .before .args in
     let l = c .before .before .before .before .loop in
-    let q = starts-on (now (a .w)) (now (a .s)) (l .k) (a .at + l .k) (c .before .before .before .loop-test .taken) (omega arith) (c .if3 .left) in
+    let q = starts-on (now (a .word)) (now (a .text)) (l .k) (a .at + l .k) (c .before .before .before .loop-test .taken) (omega arith) (c .if3 .left) in
     let z : a .at + (l .k + 1) ≡ suc (a .at + l .k) = omega arith in
     (omega arith, l .inv .1, rw (z, add-one (l .k)) (l .inv .2 ∙ q))
 
@@ -67,7 +67,7 @@ returns-4 : tie.Need-returns-4 Inv-loop μ-loop
 returns-4 c =
     let a = c .before .before .before .before .args in
     let l = c .before .loop in
-    sym (l .inv .2 ∙ starts-all (now (a .w)) (drop (a .at + l .k) (now (a .s))) (l .k) (c .loop-test .left))
+    sym (l .inv .2 ∙ starts-all (now (a .word)) (drop (a .at + l .k) (now (a .text))) (l .k) (c .loop-test .left))
 
 pub starts-at-spec : {M : Type 1} → statement M
 starts-at-spec =

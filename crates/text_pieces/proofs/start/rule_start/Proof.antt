@@ -18,7 +18,7 @@ starts-at-requires : tie.Need-starts-at-requires
 starts-at-requires c κs = tt
 
 returns : tie.Need-returns
-returns c = rule-1 (now (c .before .before .before .before .args .s)) (sym (c .before .starts-at .ensures) ∙ not-true (c .before .starts-at .result) (c .if1 .taken))
+returns c = rule-1 (now (c .before .before .before .before .args .text)) (sym (c .before .starts-at .ensures) ∙ not-true (c .before .starts-at .result) (c .if1 .taken))
 
 name-end-requires : tie.Need-name-end-requires
 name-end-requires c κs = tt
@@ -26,7 +26,7 @@ name-end-requires c κs = tt
 returns-2 : tie.Need-returns-2
 returns-2 c =
     let m = sym (c .before .before .before .starts-at .ensures) ∙ not-false (c .before .before .before .starts-at .result) (c .before .before .if1 .left) in
-    rule-2 (now (c .before .before .before .before .before .before .args .s)) m (c .before .name-end .result) (c .before .name-end .ensures) (c .if2 .taken)
+    rule-2 (now (c .before .before .before .before .before .before .args .text)) m (c .before .name-end .result) (c .before .name-end .ensures) (c .if2 .taken)
 
 slice-aggregate-starts-at-2 : tie.Need-slice-aggregate-starts-at-2
 slice-aggregate-starts-at-2 c = search needs
@@ -38,20 +38,20 @@ returns-3 : tie.Need-returns-3
 returns-3 c =
     let args = c .before .before .before .before .before .before .before .before .before .args in
     let m = sym (c .before .before .before .before .before .before .starts-at .ensures) ∙ not-false (c .before .before .before .before .before .before .starts-at .result) (c .before .before .before .before .before .if1 .left) in
-    rule-3 (now (args .s)) m (c .before .before .before .before .name-end .result) (c .before .before .before .before .name-end .ensures) (c .before .before .before .if2 .left)
+    rule-3 (now (args .text)) m (c .before .before .before .before .name-end .result) (c .before .before .before .before .name-end .ensures) (c .before .before .before .if2 .left)
     (sym (c .before .starts-at2 .ensures) ∙ not-true (c .before .starts-at2 .result) (c .if3 .taken))
 
 add-result : tie.Need-add-result
 add-result c =
     let args = c .before .before .before .before .before .before .before .before .before .args in
-    let w = word-fits (now (args .s)) colon-sign (c .before .before .before .before .name-end .result) (omega arith) (sym (c .before .starts-at2 .ensures) ∙ not-false (c .before .starts-at2 .result) (c .if3 .left)) in
+    let w = word-fits (now (args .text)) colon-sign (c .before .before .before .before .name-end .result) (omega arith) (sym (c .before .starts-at2 .ensures) ∙ not-false (c .before .starts-at2 .result) (c .if3 .left)) in
     omega (arith, w)
 
 returns-4 : tie.Need-returns-4
 returns-4 c =
     let args = c .before .before .before .before .before .before .before .before .before .args in
     let m = sym (c .before .before .before .before .before .before .starts-at .ensures) ∙ not-false (c .before .before .before .before .before .before .starts-at .result) (c .before .before .before .before .before .if1 .left) in
-    rule-4 (now (args .s)) m (c .before .before .before .before .name-end .result) (c .before .before .before .before .name-end .ensures) (c .before .before .before .if2 .left)
+    rule-4 (now (args .text)) m (c .before .before .before .before .name-end .result) (c .before .before .before .before .name-end .ensures) (c .before .before .before .if2 .left)
     (sym (c .before .starts-at2 .ensures) ∙ not-false (c .before .starts-at2 .result) (c .if3 .left))
 
 pub rule-start-spec : {M : Type 1} → statement M
