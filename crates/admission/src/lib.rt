@@ -18,22 +18,22 @@ use rule::MAX_HISTORY;
 const LONGEST_HISTORY: usize = MAX_HISTORY as usize;
 
 // The opening of a rule with these figures: its history must have from the figure's bytes up to 4,096, and its table the needed cells.
-fn fit_opening(f: Figures, history: usize, table: usize) -> FigureAnswer
-    requires { ⌜ Small f ⌝ }
-    ensures { λ r. ⌜ figures-answer r ≡ room history table f ⌝ }
+fn fit_opening(figures: Figures, history: usize, table: usize) -> FigureAnswer
+    requires { ⌜ Small figures ⌝ }
+    ensures { λ r. ⌜ figures-answer r ≡ room history table figures ⌝ }
 {
-    let least = f.history as usize;
+    let least = figures.history as usize;
     if history < least {
         return FigureAnswer::Refused(Refusal::HistoryLength);
     }
     if LONGEST_HISTORY < history {
         return FigureAnswer::Refused(Refusal::HistoryLength);
     }
-    let needed = 4 * f.cells as usize;
+    let needed = 4 * figures.cells as usize;
     if table < needed {
         return FigureAnswer::Refused(Refusal::CellTableTooShort);
     }
-    FigureAnswer::Sized(f)
+    FigureAnswer::Sized(figures)
 }
 
 // The figures with which a rule's body is opened over a history and a cell table of these lengths, or a refusal: 4 to 15, 23, 24,
@@ -41,59 +41,59 @@ fn fit_opening(f: Figures, history: usize, table: usize) -> FigureAnswer
 pub fn admit_opening(body: &[u8], history: usize, table: usize) -> FigureAnswer
     ensures { λ r. ⌜ figures-answer r ≡ and-then (body-figures (now (body .entry))) (room history table) ⌝ }
 {
-    let a = figures::figures(body);
-    match a {
-        FigureAnswer::Refused(x) => FigureAnswer::Refused(x),
-        FigureAnswer::Sized(f) => fit_opening(f, history, table),
+    let answer = figures::figures(body);
+    match answer {
+        FigureAnswer::Refused(refusal) => FigureAnswer::Refused(refusal),
+        FigureAnswer::Sized(figures) => fit_opening(figures, history, table),
     }
 }
 
 // The step of a rule with these figures, whose history was opened with L bytes: refusals 17 to 20.
 fn fit_step(
-    f: Figures,
+    figures: Figures,
     opened: usize,
     tick: u32,
     history: usize,
     cells: usize,
     report: usize,
 ) -> FigureAnswer
-    requires { ⌜ Small f ⌝ }
-    ensures { λ r. ⌜ figures-answer r ≡ fit-lengths f opened tick history cells report ⌝ }
+    requires { ⌜ Small figures ⌝ }
+    ensures { λ r. ⌜ figures-answer r ≡ fit-lengths figures opened tick history cells report ⌝ }
 {
     if history != opened {
         return FigureAnswer::Refused(Refusal::HistoryLength);
     }
-    let needed = 4 * f.cells as usize;
+    let needed = 4 * figures.cells as usize;
     if cells < needed {
         return FigureAnswer::Refused(Refusal::CellTableTooShort);
     }
-    let words = f.delay as usize + 1;
+    let words = figures.delay as usize + 1;
     if report < words {
         return FigureAnswer::Refused(Refusal::ReportTooShort);
     }
     if tick == LAST_TICK {
         return FigureAnswer::Refused(Refusal::TicksUsedUp);
     }
-    FigureAnswer::Sized(f)
+    FigureAnswer::Sized(figures)
 }
 
 // The same after 21 for an opened length below the figure.
 fn fit_state(
-    f: Figures,
+    figures: Figures,
     opened: usize,
     tick: u32,
     history: usize,
     cells: usize,
     report: usize,
 ) -> FigureAnswer
-    requires { ⌜ Small f ⌝ }
-    ensures { λ r. ⌜ figures-answer r ≡ fit-opened f opened tick history cells report ⌝ }
+    requires { ⌜ Small figures ⌝ }
+    ensures { λ r. ⌜ figures-answer r ≡ fit-opened figures opened tick history cells report ⌝ }
 {
-    let least = f.history as usize;
+    let least = figures.history as usize;
     if opened < least {
         return FigureAnswer::Refused(Refusal::StateNotOpened);
     }
-    fit_step(f, opened, tick, history, cells, report)
+    fit_step(figures, opened, tick, history, cells, report)
 }
 
 // The figures with which a step goes on, or a refusal: 21, 17 to 20. The body's node table, with its sizes, is left in `nodes`; a refusal
@@ -113,11 +113,11 @@ pub fn admit_step(
         clear(nodes);
         return FigureAnswer::Refused(Refusal::StateNotOpened);
     }
-    let a = figures::prepare(body, nodes);
-    match a {
+    let answer = figures::prepare(body, nodes);
+    match answer {
         FigureAnswer::Refused(_) => FigureAnswer::Refused(Refusal::StateNotOpened),
-        FigureAnswer::Sized(f) => {
-            let fit = fit_state(f, opened, tick, history, cells, report);
+        FigureAnswer::Sized(figures) => {
+            let fit = fit_state(figures, opened, tick, history, cells, report);
             clear_if_refused(fit, nodes);
             fit
         }

@@ -25,15 +25,15 @@ range-at ns i v = range-text (variable-name v) (end-named (bound-at ns (i + 1)))
 
 -- The formula at a place of the table.
 abbrev pub formula-there : List ℕ → Place → Formula
-formula-there ns p = formula-in (p .left) ns (p .m) (p .i)
+formula-there ns p = formula-in (p .left) ns (p .depth) (p .node)
 
 -- The place of a part of it: inside m quantifiers, at word i.
 abbrev pub part-place : Place → ℕ → ℕ → Place
-part-place p m i = record { left = p .left - 1; m = m; i = i }
+part-place p m i = record { left = p .left - 1; depth = m; node = i }
 
 -- Its text is stored, if each of its flags has one digit.
 pub record Printed (ns : List ℕ) (p : Place) (old : List ℕ) (at : ℕ) (new : List ℕ) (next : ℕ) : Type 0 where
-  pub stored : FlagsFit (formula-there ns p) → Wrote (formula-text (named (p .m) (formula-there ns p)) []) old at new next
+  pub stored : FlagsFit (formula-there ns p) → Wrote (formula-text (named (p .depth) (formula-there ns p)) []) old at new next
 
 -- The text of the rule whose table is filled.
 abbrev pub rule-text : List ℕ → List ℕ

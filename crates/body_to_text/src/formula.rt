@@ -25,19 +25,19 @@ use nodes::node_word;
 // A formula's place in the node table: the formulas left there, the quantifiers around it, and its word.
 pub(crate) struct Place {
     pub left: usize,
-    pub m: u32,
-    pub i: usize,
+    pub depth: u32,
+    pub node: usize,
 }
 
-// The place of a part: inside m quantifiers, at word i.
-fn part_at(p: Place, m: u32, i: usize) -> Place
-    requires { ⌜ 1 ≤ p .left ⌝ }
-    ensures { λ r. ⌜ r ≡ part-place p m i ⌝ }
+// The place of a part: inside `depth` quantifiers, at word `node`.
+fn part_at(place: Place, depth: u32, node: usize) -> Place
+    requires { ⌜ 1 ≤ place .left ⌝ }
+    ensures { λ r. ⌜ r ≡ part-place place depth node ⌝ }
 {
     Place {
-        left: p.left - 1,
-        m,
-        i,
+        left: place.left - 1,
+        depth,
+        node,
     }
 }
 
@@ -51,48 +51,63 @@ fn put_sign(out: &mut [u8], at: usize, code: u32) -> usize
     put_word(out, at, b" /\\ ")
 }
 
-// Stores what the quantifier at word i has before its part; it binds variable v.
-fn put_range(out: &mut [u8], at: usize, nodes: &[u32], i: usize, v: u32) -> usize
-    requires { ⌜ i < length (now nodes) ⌝ }
-    ensures { λ r. ⌜ Wrote (range-at (now (nodes .entry)) i v) (now (out .entry)) at (now (out .exit)) r ⌝ }
+// Stores what the quantifier at word `node` has before its part; it binds `variable`.
+fn put_range(out: &mut [u8], at: usize, nodes: &[u32], node: usize, variable: u32) -> usize
+    requires { ⌜ node < length (now nodes) ⌝ }
+    ensures { λ r. ⌜ Wrote (range-at (now (nodes .entry)) node variable) (now (out .entry)) at (now (out .exit)) r ⌝ }
 {
     let name = put_word(out, at, b"forall ");
-    let in_sign = put_name(out, name, v);
+    let in_sign = put_name(out, name, variable);
     let first = put_word(out, in_sign, b" in ");
-    let to_sign = put_bound(out, first, nodes, i + FIRST_BOUND);
+    let to_sign = put_bound(out, first, nodes, node + FIRST_BOUND);
     let second = put_word(out, to_sign, b"..");
-    let colon = put_bound(out, second, nodes, i + SECOND_BOUND);
+    let colon = put_bound(out, second, nodes, node + SECOND_BOUND);
     put_word(out, colon, b" : ")
 }
 
 // Stores the formula at a place. It is that of any table; one that the reader filled never runs out of formulas.
-pub(crate) fn put_formula(out: &mut [u8], at: usize, nodes: &[u32], p: Place) -> usize
-    ensures { λ r. ⌜ Printed (now (nodes .entry)) p (now (out .entry)) at (now (out .exit)) r ⌝ }
+pub(crate) fn put_formula(out: &mut [u8], at: usize, nodes: &[u32], place: Place) -> usize
+    ensures { λ r. ⌜ Printed (now (nodes .entry)) place (now (out .entry)) at (now (out .exit)) r ⌝ }
 {
-    if p.left == 0 {
+    if place.left == 0 {
         return put_flag(out, at, 0, 0);
     }
-    let code = node_word(nodes, p.i, CODE);
+    let code = node_word(nodes, place.node, CODE);
     if code == NOT_CODE {
         let part = put(out, at, b'~');
-        return put_formula(out, part, nodes, part_at(p, p.m, p.i + NODE_WORDS));
+        return put_formula(
+            out,
+            part,
+            nodes,
+            part_at(place, place.depth, place.node + NODE_WORDS),
+        );
     }
     if has_second_part(code) {
         let first = put(out, at, b'(');
-        let sign = put_formula(out, first, nodes, part_at(p, p.m, p.i + NODE_WORDS));
+        let sign = put_formula(
+            out,
+            first,
+            nodes,
+            part_at(place, place.depth, place.node + NODE_WORDS),
+        );
         let second = put_sign(out, sign, code);
-        let j = node_word(nodes, p.i, SECOND_PART) as usize;
-        let end = put_formula(out, second, nodes, part_at(p, p.m, j));
+        let second_node = node_word(nodes, place.node, SECOND_PART) as usize;
+        let end = put_formula(out, second, nodes, part_at(place, place.depth, second_node));
         return put(out, end, b')');
     }
     if code == FORALL_CODE {
-        if 4 <= p.m {
+        if 4 <= place.depth {
             return put_flag(out, at, 0, 0);
         }
-        let part = put_range(out, at, nodes, p.i, p.m + 1);
-        return put_formula(out, part, nodes, part_at(p, p.m + 1, p.i + NODE_WORDS));
+        let part = put_range(out, at, nodes, place.node, place.depth + 1);
+        return put_formula(
+            out,
+            part,
+            nodes,
+            part_at(place, place.depth + 1, place.node + NODE_WORDS),
+        );
     }
-    let v = node_word(nodes, p.i, VARIABLE);
-    let k = node_word(nodes, p.i, FLAG);
-    put_flag(out, at, v, k)
+    let variable = node_word(nodes, place.node, VARIABLE);
+    let k = node_word(nodes, place.node, FLAG);
+    put_flag(out, at, variable, k)
 }

@@ -31,8 +31,8 @@ fn put_rule(work: &mut [u8], nodes: &[u32]) -> usize
         nodes,
         Place {
             left: FORMULAS,
-            m: 0,
-            i: 0,
+            depth: 0,
+            node: 0,
         },
     )
 }
@@ -43,8 +43,8 @@ fn write_rule(nodes: &[u32; TABLE_WORDS], out: &mut [u8]) -> Written
     ensures { λ r. ⌜ Writes (fitted (length (now (out .entry))) (rule-text (now (nodes .entry)))) (written r) (now (out .entry)) (now (out .exit)) ⌝ }
 {
     let mut work = [0u8; 4096];
-    let n = put_rule(&mut work, nodes);
-    notation::deliver(&work[..n], out)
+    let length = put_rule(&mut work, nodes);
+    notation::deliver(&work[..length], out)
 }
 
 // Writes a body as text at the start of a lent buffer and answers the text's length: refusals 4 to 10, 23 and 24 of the body, and last 22 where the
@@ -56,6 +56,6 @@ pub fn write_text(body: &[u8], out: &mut [u8]) -> Written
     let reading = reader::read_body(body, &mut nodes);
     match reading {
         Reading::Stored => write_rule(&nodes, out),
-        Reading::Refused(x) => Written::Refused(x),
+        Reading::Refused(refusal) => Written::Refused(refusal),
     }
 }

@@ -3,13 +3,13 @@ ghost use mathlib.Core.List.{[], _∷_};
 ghost use Rattle.body_to_text.specs.Storing.{Wrote};
 
 // Stores a byte.
-pub(crate) fn put(out: &mut [u8], at: usize, b: u8) -> usize
-    ensures { λ r. ⌜ Wrote (b ∷ []) (now (out .entry)) at (now (out .exit)) r ⌝ }
+pub(crate) fn put(out: &mut [u8], at: usize, byte: u8) -> usize
+    ensures { λ r. ⌜ Wrote (byte ∷ []) (now (out .entry)) at (now (out .exit)) r ⌝ }
 {
     if out.len() <= at {
         return at;
     }
-    out[at] = b;
+    out[at] = byte;
     at + 1
 }
 
@@ -18,10 +18,10 @@ pub(crate) fn put_word(out: &mut [u8], at: usize, word: &[u8]) -> usize
     ensures { λ r. ⌜ Wrote (now (word .entry)) (now (out .entry)) at (now (out .exit)) r ⌝ }
 {
     let mut next = at;
-    let mut i: usize = 0;
-    while i < word.len() {
-        next = put(out, next, word[i]);
-        i += 1;
+    let mut index: usize = 0;
+    while index < word.len() {
+        next = put(out, next, word[index]);
+        index += 1;
     }
     next
 }

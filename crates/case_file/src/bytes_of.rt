@@ -78,10 +78,10 @@ fn piece_at(text: &[u8], at: usize) -> Piece
 fn fill(out: &mut [u8], from: usize, byte: u8, times: usize)
     requires { ⌜ from + times ≤ length (now out) ⌝ }
 {
-    let mut k: usize = 0;
-    while k < times {
-        out[from + k] = byte;
-        k += 1;
+    let mut index: usize = 0;
+    while index < times {
+        out[from + index] = byte;
+        index += 1;
     }
 }
 
@@ -90,7 +90,7 @@ pub fn read_bytes(text: &[u8], out: &mut [u8]) -> Bytes
     ensures { λ r. ⌜ Counts (r .count) (now (out .exit)) ⌝ }
 {
     let mut at: usize = 0;
-    let mut n: usize = 0;
+    let mut count: usize = 0;
     while at < text.len() {
         let piece = piece_at(text, at);
         if piece.end <= at {
@@ -99,18 +99,18 @@ pub fn read_bytes(text: &[u8], out: &mut [u8]) -> Bytes
                 malformed: true,
             };
         }
-        if out.len() - n < piece.times {
+        if out.len() - count < piece.times {
             return Bytes {
                 count: 0,
                 malformed: true,
             };
         }
-        fill(out, n, piece.byte, piece.times);
-        n += piece.times;
+        fill(out, count, piece.byte, piece.times);
+        count += piece.times;
         at = piece.end;
     }
     Bytes {
-        count: n,
+        count,
         malformed: false,
     }
 }

@@ -49,31 +49,31 @@ pub fn has_bar(text: &[u8]) -> bool
 pub fn to_bar<'a>(text: &'a [u8]) -> &'a [u8]
     ensures { λ r. ⌜ now r ≡ take (indexOf 124 (now (text .entry))) (now (text .entry)) ⌝ }
 {
-    let n = bar(text);
-    &text[..n]
+    let at = bar(text);
+    &text[..at]
 }
 
 // What stands after the first bar; nothing where there is none.
 pub fn past_bar<'a>(text: &'a [u8]) -> &'a [u8]
     ensures { λ r. ⌜ now r ≡ drop (suc (indexOf 124 (now (text .entry)))) (now (text .entry)) ⌝ }
 {
-    let n = bar(text);
-    if n < text.len() {
-        return &text[n + 1..];
+    let at = bar(text);
+    if at < text.len() {
+        return &text[at + 1..];
     }
-    &text[n..]
+    &text[at..]
 }
 
 // The name of a case: what stands before the first bar and the blank in front of it. No bytes where one of the two is missing.
 pub fn name<'a>(line: &'a [u8]) -> &'a [u8] {
-    let n = bar(line);
-    if n == line.len() {
+    let at = bar(line);
+    if at == line.len() {
         return &line[..0];
     }
-    if n == 0 {
+    if at == 0 {
         return &line[..0];
     }
-    let last = n - 1;
+    let last = at - 1;
     if line[last] != b' ' {
         return &line[..0];
     }

@@ -19,13 +19,13 @@ pub fn load(name: &[u8], buf: &mut [u8]) -> usize
         say(b"cannot be opened: ", name);
         return 0;
     }
-    let n = io::read_full(fd, buf);
+    let count = io::read_full(fd, buf);
     libc::close(fd);
-    if n == buf.len() {
+    if count == buf.len() {
         say(b"too long: ", name);
         return 0;
     }
-    n
+    count
 }
 
 // Says that a line is no case.

@@ -12,20 +12,20 @@ pub struct Number {
 }
 
 // What a hexadecimal digit is worth; 16 for a byte that is none.
-pub(crate) fn digit(c: usize) -> usize
-    ensures { λ r. ⌜ r ≡ digit-value c ⌝ }
+pub(crate) fn digit(byte: usize) -> usize
+    ensures { λ r. ⌜ r ≡ digit-value byte ⌝ }
 {
-    if c < 48 {
+    if byte < 48 {
         return 16;
     }
-    if c < 58 {
-        return c - 48;
+    if byte < 58 {
+        return byte - 48;
     }
-    if c < 97 {
+    if byte < 97 {
         return 16;
     }
-    if c < 103 {
-        return c - 87;
+    if byte < 103 {
+        return byte - 87;
     }
     16
 }
@@ -35,11 +35,11 @@ pub fn number_at(text: &[u8], at: usize) -> Number {
     let mut value: usize = 0;
     let mut end = at;
     while end < text.len() {
-        let d = digit(byte_after(text, end, 0));
-        if 9 < d {
+        let worth = digit(byte_after(text, end, 0));
+        if 9 < worth {
             return Number { value, end };
         }
-        value = 10 * value + d;
+        value = 10 * value + worth;
         if 65536 < value {
             return Number { value: 0, end: at };
         }

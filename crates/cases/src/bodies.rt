@@ -4,19 +4,19 @@ use figures::FigureAnswer;
 use outcome_text::number;
 use outcome_text::text;
 
-fn answer(a: FigureAnswer) {
-    match a {
-        FigureAnswer::Sized(f) => {
+fn answer(answer: FigureAnswer) {
+    match answer {
+        FigureAnswer::Sized(figures) => {
             text(b"history ");
-            number(f.history);
+            number(figures.history);
             text(b" delay ");
-            number(f.delay);
+            number(figures.delay);
             text(b" cells ");
-            number(f.cells);
+            number(figures.cells);
         }
-        FigureAnswer::Refused(x) => {
+        FigureAnswer::Refused(refusal) => {
             text(b"refused ");
-            number(refusal::number(x) as u64);
+            number(refusal::number(refusal) as u64);
         }
     }
 }
@@ -36,6 +36,6 @@ pub(crate) fn take_case(line: &[u8]) {
         case_file::say_malformed(line);
         return;
     }
-    let n = body.count;
-    show(case_file::name(line), &space[..n]);
+    let count = body.count;
+    show(case_file::name(line), &space[..count]);
 }

@@ -43,8 +43,8 @@ fn take_lines(kind: Kind, file: &[u8]) {
 
 fn take_file(kind: Kind, name: &[u8]) {
     let mut space = io::large_buffer();
-    let n = case_file::load(name, &mut space);
-    take_lines(kind, &space[..n]);
+    let count = case_file::load(name, &mut space);
+    take_lines(kind, &space[..count]);
 }
 
 fn main() {

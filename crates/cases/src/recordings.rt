@@ -55,9 +55,14 @@ fn take_fields(line: &[u8], body_field: &[u8], rest: &[u8]) {
         say_malformed(line);
         return;
     }
-    let n = body.count;
-    let m = flags.count;
-    ask(line, &body_space[..n], &flag_space[..m], rest);
+    let body_count = body.count;
+    let flag_count = flags.count;
+    ask(
+        line,
+        &body_space[..body_count],
+        &flag_space[..flag_count],
+        rest,
+    );
 }
 
 pub(crate) fn take_case(line: &[u8]) {

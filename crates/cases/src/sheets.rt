@@ -16,6 +16,6 @@ pub(crate) fn take_case(line: &[u8]) {
         case_file::say_malformed(line);
         return;
     }
-    let n = sheet.count;
-    show(case_file::name(line), &space[..n]);
+    let count = sheet.count;
+    show(case_file::name(line), &space[..count]);
 }

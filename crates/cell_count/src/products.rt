@@ -4,17 +4,17 @@ ghost use Rattle.cell_count.specs.Counts.{product};
 use crate::ABOVE_LIMIT;
 use crate::LIMIT;
 
-// a = 0 is tested first: the product is 0 whatever b is. Then whether it is within the limit; only then it is worked out.
-pub(crate) fn product(a: u16, b: u16) -> u16
-    ensures { λ r. ⌜ r ≡ product a b ⌝ }
+// Whether `first` is 0 is tested before all else: the product is 0 whatever `second` is. Then whether it is within the limit; only then it is worked out.
+pub(crate) fn product(first: u16, second: u16) -> u16
+    ensures { λ r. ⌜ r ≡ product first second ⌝ }
 {
-    if a == 0 {
+    if first == 0 {
         return 0;
     }
-    let most = LIMIT / a;
-    if most < b {
+    let most = LIMIT / first;
+    if most < second {
         return ABOVE_LIMIT;
     }
-    let exact = a * b;
+    let exact = first * second;
     exact
 }

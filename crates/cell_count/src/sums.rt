@@ -5,20 +5,20 @@ ghost use Rattle.cell_count.specs.Counts.{sum};
 use crate::ABOVE_LIMIT;
 use crate::LIMIT;
 
-pub(crate) fn larger(a: u16, b: u16) -> u16
-    ensures { λ r. ⌜ r ≡ max a b ⌝ }
+pub(crate) fn larger(first: u16, second: u16) -> u16
+    ensures { λ r. ⌜ r ≡ max first second ⌝ }
 {
-    if a < b { b } else { a }
+    if first < second { second } else { first }
 }
 
-pub(crate) fn sum(a: u16, b: u16) -> u16
-    ensures { λ r. ⌜ r ≡ sum a b ⌝ }
+pub(crate) fn sum(first: u16, second: u16) -> u16
+    ensures { λ r. ⌜ r ≡ sum first second ⌝ }
 {
-    if LIMIT < a {
+    if LIMIT < first {
         return ABOVE_LIMIT;
     }
-    if LIMIT - a < b {
+    if LIMIT - first < second {
         return ABOVE_LIMIT;
     }
-    a + b
+    first + second
 }

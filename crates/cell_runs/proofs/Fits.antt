@@ -40,28 +40,28 @@ pub fit-entered : (F : Tree) (e : Variables) (t q b len n : ℕ) → SlotFit F e
 fit-entered F e t q b len n f en =
     let room : 4 + words (f .pairs) F ≤ len = f .room in
     let le : 4 ≤ len = omega arith in
-    let deep : e .n < 5 = f .depth in
+    let deep : e .depth < 5 = f .depth in
     let w : length (e .pos) ≡ 5 = f .five-places in
     let pe : places (with-byte e q b) ≡ with-position (places e) q = places-entered e q b deep (f .five-places) (f .five-bytes) in
     rw en (record {
       fit = record {
         pairs = f .pairs;
         fits = subst (λ (env : List ℕ). Fits (own-tick env) (f .pairs) env) (sym pe) (f .fits);
-        size = f .size ∙ sym (add-one (e .n));
+        size = f .size ∙ sym (add-one (e .depth));
         formed = f .formed;
         room = omega arith;
         low = f .low;
-        past = set-within (e .pos) (e .n) q t (f .past) (f .come);
-        unbound = λ v h. getD-set-other (e .pos) (e .n) v q 0 (omega arith) ∙ f .unbound v (omega arith);
-        five-places = length-set (e .pos) (e .n) q ∙ f .five-places;
-        five-bytes = length-set (e .byte) (e .n) b ∙ f .five-bytes;
+        past = set-within (e .pos) (e .depth) q t (f .past) (f .come);
+        unbound = λ v h. getD-set-other (e .pos) (e .depth) v q 0 (omega arith) ∙ f .unbound v (omega arith);
+        five-places = length-set (e .pos) (e .depth) q ∙ f .five-places;
+        five-bytes = length-set (e .byte) (e .depth) b ∙ f .five-bytes;
         depth = omega arith;
         some = omega arith;
       };
       cell = omega arith;
       after-cell = omega arith;
-      start = le;
-      end = omega arith;
+      ordered = le;
+      inside = omega arith;
     })
 
 -- ---- the positions of a range
@@ -75,8 +75,8 @@ module _ {F : Tree} {B₁ B₂ : Bound} {z : ℕ} {e : Variables} {t len : ℕ} 
   unfolding words
   fit-head = let r : 4 + w * z ≤ len = f .room in omega arith
 
-  pub fit-long : length (places e) ≡ e .n
-  fit-long = let a : length (e .pos) ≡ 5 = f .five-places in let d : e .n ≤ 5 = f .depth in length-take-le (e .n) (e .pos) (omega arith)
+  pub fit-long : length (places e) ≡ e .depth
+  fit-long = let a : length (e .pos) ≡ 5 = f .five-places in let d : e .depth ≤ 5 = f .depth in length-take-le (e .depth) (e .pos) (omega arith)
 
   -- there are no more than W
   fit-few : (s first n : ℕ) (end : Outcome) → Plans (range B₁ B₂ (places e)) t s first n end → n ≤ w
@@ -109,11 +109,11 @@ module _ {F : Tree} {B₁ B₂ : Bound} {z : ℕ} {e : Variables} {t len : ℕ} 
       let few : n ≤ suc t - first = p .few in
       let most : n ≤ w = fit-few s first n end p in
       let inner = body (omega arith) in
-      let eb : own-tick (with-position (places e) (first + j)) ≡ own-tick (places e) = let l : length (places e) ≡ e .n = fit-long in let so : 0 < e .n = f .some in List·getD-append (places e) ((first + j) ∷ []) 0 0 (omega arith) in
+      let eb : own-tick (with-position (places e) (first + j)) ≡ own-tick (places e) = let l : length (places e) ≡ e .depth = fit-long in let so : 0 < e .depth = f .some in List·getD-append (places e) ((first + j) ∷ []) 0 0 (omega arith) in
       record {
         pairs = f .pairs ++ (range-pair B₁ B₂ (f .pairs) ∷ []);
         fits = subst (λ (b : ℕ). Fits b (f .pairs ++ (range-pair B₁ B₂ (f .pairs) ∷ [])) (with-position (places e) (first + j))) (sym eb) (fits-more (f .fits) (range-lies B₁ B₂ (f .fits) (first + j) (p .inside j h)));
-        size = length-append (f .pairs) (range-pair B₁ B₂ (f .pairs) ∷ []) ∙ ap (λ (n : ℕ). n + 1) (f .size) ∙ add-one (e .n);
+        size = length-append (f .pairs) (range-pair B₁ B₂ (f .pairs) ∷ []) ∙ ap (λ (n : ℕ). n + 1) (f .size) ∙ add-one (e .depth);
         formed = inner .1;
         room = inner .0;
         low = f .low;
@@ -164,7 +164,7 @@ pub fit-first : {F G : Tree} {e : Variables} {t len : ℕ} → Fit (then-node F 
 unfolding words Formed
 fit-first {F} {G} {e} {t} {len} f =
     let r : 4 + max (words (f .pairs) F) (words (f .pairs) G) ≤ len = f .room in
-    record { fit = fit-as F (len - 4) f (f .formed .0) (omega arith); cell = omega arith; after-cell = omega arith; start = omega arith; end = omega arith }
+    record { fit = fit-as F (len - 4) f (f .formed .0) (omega arith); cell = omega arith; after-cell = omega arith; ordered = omega arith; inside = omega arith }
 
 pub fit-second : {F G : Tree} {e : Variables} {t len : ℕ} → Fit (then-node F G) e t len → Fit G e t (len - 4)
 unfolding words Formed
@@ -181,19 +181,19 @@ unfolding words Formed
 fit-left {w} {F} {G} {e} {t} {len} f =
     let r : 4 + w + words (f .pairs) G ≤ len = f .room in
     let g : words (f .pairs) F ≤ w = f .formed .0 in
-    record { fit = fit-as F (4 + w - 4) f (f .formed .1 .0) (omega arith); cell = omega arith; after-cell = omega arith; start = omega arith; end = omega arith }
+    record { fit = fit-as F (4 + w - 4) f (f .formed .1 .0) (omega arith); cell = omega arith; after-cell = omega arith; ordered = omega arith; inside = omega arith }
 
 pub fit-right : {w : ℕ} {F G : Tree} {e : Variables} {t len : ℕ} (n : ℕ) → n ≡ len → Fit (beside-node w F G) e t len → PartFit G e t 1 (4 + w) len n
 unfolding words Formed
 fit-right {w} {F} {G} {e} {t} {len} n en f =
     let r : 4 + w + words (f .pairs) G ≤ len = f .room in
-    record { fit = fit-as G (len - (4 + w)) f (f .formed .1 .1) (omega arith); cell = omega arith; after-cell = omega arith; start = omega arith; end = omega arith }
+    record { fit = fit-as G (len - (4 + w)) f (f .formed .1 .1) (omega arith); cell = omega arith; after-cell = omega arith; ordered = omega arith; inside = omega arith }
 
 pub fit-not : {F : Tree} {e : Variables} {t len : ℕ} → Fit (not-node F) e t len → Fit F e t len
 unfolding words Formed
 fit-not {F} {e} {t} {len} f = fit-as F len f (f .formed) (f .room)
 
-pub fit-flag : {v k : ℕ} {e : Variables} {t len : ℕ} → Fit (flag-node v k) e t len → v < e .n
+pub fit-flag : {v k : ℕ} {e : Variables} {t len : ℕ} → Fit (flag-node v k) e t len → v < e .depth
 unfolding Formed
 fit-flag {v} {k} {e} {t} {len} f = subst (λ (n : ℕ). v < n) (f .size) (f .formed)
 

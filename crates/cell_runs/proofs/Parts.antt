@@ -21,8 +21,8 @@ use Rattle.cell_runs.specs.Calls.{Variables, places, PartFit, Advanced, 
 use Rattle.cells.proofs.Marks.{mark-drop, mark-held, Small}
 use Rattle.cell_runs.proofs.PutBack.{part-window, part-kept, same-kept}
 
-pub tick-is : (e : Variables) → 0 < e .n → getD (e .pos) 0 0 ≡ own-tick (places e)
-tick-is e h = sym (getD-take (e .n) (e .pos) 0 0 h)
+pub tick-is : (e : Variables) → 0 < e .depth → getD (e .pos) 0 0 ≡ own-tick (places e)
+tick-is e h = sym (getD-take (e .depth) (e .pos) 0 0 h)
 
 module _ (F : Tree) (hist : List ℕ) (b : ℕ) (e : Variables) (s t k a z : ℕ) (run : List ℕ) where
   fresh-now : (flags : ℕ → ℕ) (l : List ℕ) (r : Outcome) → RunReady flags t (places e) s F l → r ≡ out flags t (places e) s F
@@ -63,8 +63,8 @@ module _ (F : Tree) (hist : List ℕ) (b : ℕ) (e : Variables) (s t k a z : ℕ
       → PartAdvanced F hist b e s t k a z run r run′
   part-moved p eq fit come m r ys run′ adv ly ep = record {
     gives =
-        let start : a ≤ z = fit .start in
-        let end : z ≤ length run = fit .end in
+        let start : a ≤ z = fit .ordered in
+        let end : z ≤ length run = fit .inside in
         let after : 4 ≤ a = fit .after-cell in
         let cell : k < 2 = fit .cell in
         let low : t < 4294967296 = fit .fit .low in

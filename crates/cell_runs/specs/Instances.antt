@@ -26,46 +26,46 @@ pub record InstanceFit (F : Tree) (t p len : ℕ) : Type 0 where
   pub low : t < 4294967295
   pub come : p ≤ t
 
-pub record InstanceMoved (F : Tree) (hist : List ℕ) (b t p : ℕ) (cell : List ℕ) (r : Outcome) (cell′ : List ℕ) : Type 0 where
+pub record InstanceMoved (F : Tree) (hist : List ℕ) (flag t p : ℕ) (cell : List ℕ) (outcome : Outcome) (cell′ : List ℕ) : Type 0 where
   pub gives :
-      (flags : ℕ → ℕ) (H : ℕ) → FlagsAtHand flags H hist b t → Reach H flags (p ∷ []) p (formula-of F)
-      → Before p t (λ k. InstanceHolds flags F k p cell)
-      → (r ≡ rule (formula-of F) flags t p) × InstanceHolds flags F t p cell′
+      (flags : ℕ → ℕ) (H : ℕ) → FlagsAtHand flags H hist flag t → Reach H flags (p ∷ []) p (formula-of F)
+      → Before p t (λ tick. InstanceHolds flags F tick p cell)
+      → (outcome ≡ rule (formula-of F) flags t p) × InstanceHolds flags F t p cell′
 
--- ---- all instances that can be open: those of the last n ticks, tick p in slot p mod n of c words
+-- ---- all instances that can be open: those of the last `count` ticks, tick p in slot p mod `count` of `size` words
 
 -- Tick p where it is false at step t; one where it is open.
 unfoldable pub tick-if-false : Outcome → ℕ → ℕ → List ℕ
-tick-if-false o t p = cond (false-at t o) (p ∷ []) []
+tick-if-false outcome t p = cond (false-at t outcome) (p ∷ []) []
 
 unfoldable pub open-count : Outcome → ℕ
-open-count o = cond (is-open o) 1 0
+open-count outcome = cond (is-open outcome) 1 0
 
 -- The cells are what the ticks before tick t leave. Before tick 0 that is anything.
 unfoldable pub InstancesHold : Tree → ℕ → ℕ → (ℕ → ℕ) → ℕ → List ℕ → Type 0
-InstancesHold F n c flags t cells = (k p : ℕ) → t ≡ k + 1 → p ≤ k → k < p + n → InstanceHolds flags F k p (slot c (p % n) cells)
+InstancesHold F count size flags t cells = (last p : ℕ) → t ≡ last + 1 → p ≤ last → last < p + count → InstanceHolds flags F last p (slot size (p % count) cells)
 
 -- What is required: nothing of what the cells hold.
-pub record TicksFit (F : Tree) (t n c len words′ : ℕ) : Type 0 where
+pub record TicksFit (F : Tree) (t count size len words′ : ℕ) : Type 0 where
   pub formed : Formed (at-tick ∷ []) F
-  pub room : 4 + words (at-tick ∷ []) F ≤ c
+  pub room : 4 + words (at-tick ∷ []) F ≤ size
   pub low : t < 4294967295
-  pub some : 0 < n
-  pub table : n * c ≤ len
-  pub report : n ≤ words′
+  pub some : 0 < count
+  pub table : count * size ≤ len
+  pub report : count ≤ words′
 
--- What is left as it was, whatever the cells held, and how much can be answered: k words of the table may be written.
-pub record Spared (n k : ℕ) (table report₀ : List ℕ) (reported live : ℕ) (table′ report′ : List ℕ) : Type 0 where
-  pub table-rest : drop k table′ ≡ drop k table
+-- What is left as it was, whatever the cells held, and how much can be answered: `writable` words of the table may be written.
+pub record Spared (count writable : ℕ) (table report₀ : List ℕ) (reported live : ℕ) (table′ report′ : List ℕ) : Type 0 where
+  pub table-rest : drop writable table′ ≡ drop writable table
   pub report-rest : drop reported report′ ≡ drop reported report₀
-  pub few : reported ≤ n
-  pub few-live : live ≤ n
+  pub few : reported ≤ count
+  pub few-live : live ≤ count
 
 -- The ticks from `low` to t were moved: for every stream whose flags are at hand and for which the cells stand.
-pub record TicksMoved (F : Tree) (n c : ℕ) (hist : List ℕ) (b t low : ℕ) (table report₀ : List ℕ) (reported live : ℕ) (table′ report′ : List ℕ) : Type 0 where
+pub record TicksMoved (F : Tree) (count size : ℕ) (hist : List ℕ) (flag t low : ℕ) (table report₀ : List ℕ) (reported live : ℕ) (table′ report′ : List ℕ) : Type 0 where
   pub gives :
-      (flags : ℕ → ℕ) (H : ℕ) → FlagsAtHand flags H hist b t → ((p : ℕ) → Reach H flags (p ∷ []) p (formula-of F)) → InstancesHold F n c flags t table
+      (flags : ℕ → ℕ) (H : ℕ) → FlagsAtHand flags H hist flag t → ((p : ℕ) → Reach H flags (p ∷ []) p (formula-of F)) → InstancesHold F count size flags t table
       → (reported ≡ length (passing (false-at t) (rule (formula-of F) flags t) (t + 1 - low) low))
       × ((report′ ≡ passing (false-at t) (rule (formula-of F) flags t) (t + 1 - low) low ++ drop reported report₀)
       × ((live ≡ length (passing is-open (rule (formula-of F) flags t) (t + 1 - low) low))
-      × InstancesHold F n c flags (t + 1) table′))
+      × InstancesHold F count size flags (t + 1) table′))

@@ -7,7 +7,8 @@ use Rattle.refusal.specs.Answer.{accepted}
 use Rattle.rule.specs.declared.Figures.{Figures}
 use Rattle.rule.specs.Formula.{Formula}
 use Rattle.rule.specs.Body.{body}
-use Rattle.rule.specs.Figures.{figures, at-tick}
+use Rattle.rule.specs.Figures as rule
+use Rattle.rule.specs.Figures.{at-tick}
 use Rattle.reader.specs.Decoded as decoded
 use Rattle.figures.specs.Measured.{SizesAt}
 use Rattle.demand.specs.Contract.{State, step-of, Invariant, Takes}
@@ -19,36 +20,36 @@ use Rattle.cell_runs.specs.States.{taken-from}
 -- The invariant: the needed cells of the state's rule are what the ticks of the stream `flags` before its next tick leave. Tick p, of the last delay + 1,
 -- has slot p mod (delay + 1), four words for its own cell and four for each cell of the formula.
 unfoldable pub Stands : Invariant
-Stands s cells flags =
-    (F : Formula) (f : Figures) → body (s .body-bytes) ≡ accepted F → figures F ≡ accepted f
-    → InstancesHold (sized F (at-tick ∷ [])) (f .delay + 1) (4 + words (at-tick ∷ []) (sized F (at-tick ∷ []))) flags (s .next) cells
+Stands state cells flags =
+    (F : Formula) (figures : Figures) → body (state .body-bytes) ≡ accepted F → rule.figures F ≡ accepted figures
+    → InstancesHold (sized F (at-tick ∷ [])) (figures .delay + 1) (4 + words (at-tick ∷ []) (sized F (at-tick ∷ []))) flags (state .next) cells
 
 -- The node table holds the rule's formula with its sizes, and the rule is within the limits.
-pub record Prepares (F : Formula) (f : Figures) (ns : List ℕ) : Type 0 where
+pub record Prepares (F : Formula) (figures : Figures) (ns : List ℕ) : Type 0 where
   pub stands : decoded.TableHolds F ns
   pub sizes : SizesAt F ns (at-tick ∷ []) 0
-  pub within : figures F ≡ accepted f
+  pub within : rule.figures F ≡ accepted figures
 
--- The rule of state s stands in the node table and has these figures; the state was opened with a history of L bytes, as an opening admits, and takes
+-- The state's rule stands in the node table and has these figures; the state was opened with a history of L bytes, as an opening admits, and takes
 -- tick t next.
-pub record TableOf (ns : List ℕ) (f : Figures) (L t : ℕ) (s : State) : Type 0 where
+pub record TableOf (ns : List ℕ) (figures : Figures) (L t : ℕ) (state : State) : Type 0 where
   pub formula : Formula
-  pub reads : body (s .body-bytes) ≡ accepted formula
-  pub prepares : Prepares formula f ns
-  pub opened : s .opened ≡ L
+  pub reads : body (state .body-bytes) ≡ accepted formula
+  pub prepares : Prepares formula figures ns
+  pub opened : state .opened ≡ L
   pub opened-high : L ≤ 4096
-  pub opened-low : f .history ≤ L
-  pub next : s .next ≡ t
+  pub opened-low : figures .history ≤ L
+  pub next : state .next ≡ t
 
 -- What is required: a state that is admitted. Nothing of what history and cells hold.
-pub record TickFit (ns : List ℕ) (f : Figures) (L t cells report : ℕ) : Type 0 where
+pub record TickFit (ns : List ℕ) (figures : Figures) (L t cells report : ℕ) : Type 0 where
   pub state : State
-  pub table-of : TableOf ns f L t state
+  pub table-of : TableOf ns figures L t state
   pub low : t < 4294967295
-  pub cells-fit : 4 * f .cells ≤ cells
-  pub report-fits : f .delay + 1 ≤ report
+  pub cells-fit : 4 * figures .cells ≤ cells
+  pub report-fits : figures .delay + 1 ≤ report
 
 -- What is given: a step that takes the tick, of every such state.
-pub record TickMoved (ns : List ℕ) (f : Figures) (t : ℕ) (history : List ℕ) (flag : ℕ) (cells report : List ℕ) (reported live : ℕ) (history′ cells′ report′ : List ℕ) : Type 0 where
-  pub takes : (s : State) → TableOf ns f (length history) t s
-      → Takes Stands s (step-of (accepted (taken-from s reported live)) flag history cells report history′ cells′ report′) f (taken-from s reported live)
+pub record TickMoved (ns : List ℕ) (figures : Figures) (t : ℕ) (history : List ℕ) (flag : ℕ) (cells report : List ℕ) (reported live : ℕ) (history′ cells′ report′ : List ℕ) : Type 0 where
+  pub takes : (state : State) → TableOf ns figures (length history) t state
+      → Takes Stands state (step-of (accepted (taken-from state reported live)) flag history cells report history′ cells′ report′) figures (taken-from state reported live)

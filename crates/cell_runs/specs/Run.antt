@@ -34,22 +34,22 @@ own-tick env = getD env 0 0
 --   for all: the head cell, then a slot for each position: one cell with the body's outcome (0 and 2) and the position's flag byte (1), then the
 --   body's run. Position q has slot q - first.
 unfoldable pub RunHolds : (ℕ → ℕ) → ℕ → List ℕ → ℕ → Tree → List ℕ → Type 0
-RunHolds flags t env s (flag-node v k) run = Unit {0}
+RunHolds flags t env s (flag-node variable k) run = Unit {0}
 RunHolds flags t env s (not-node F) run = RunHolds flags t env s F run
 RunHolds flags t env s (then-node F G) run =
     CellHolds (own-tick env) 0 (out flags t env s F) (RunHolds flags t env s F (drop 4 run)) run
-    × ((d : ℕ) → out flags t env s F ≡ Decided True d → RunHolds flags t env d G (drop 4 run))
-RunHolds flags t env s (beside-node f F G) run =
-    CellHolds (own-tick env) 0 (out flags t env s F) (RunHolds flags t env s F (window 4 (4 + f) run)) run
-    × CellHolds (own-tick env) 1 (out flags t env s G) (RunHolds flags t env s G (drop (4 + f) run)) run
-RunHolds flags t env s (range-node B₁ B₂ z F) run =
+    × ((step : ℕ) → out flags t env s F ≡ Decided True step → RunHolds flags t env step G (drop 4 run))
+RunHolds flags t env s (beside-node size F G) run =
+    CellHolds (own-tick env) 0 (out flags t env s F) (RunHolds flags t env s F (window 4 (4 + size) run)) run
+    × CellHolds (own-tick env) 1 (out flags t env s G) (RunHolds flags t env s G (drop (4 + size) run)) run
+RunHolds flags t env s (range-node B₁ B₂ size F) run =
     ((q : ℕ) → In (range B₁ B₂ env) q → q ≤ t
-    → (getD (slot z (q - first-of (range B₁ B₂ env)) (drop 4 run)) 1 0 % 256 ≡ flags q)
+    → (getD (slot size (q - first-of (range B₁ B₂ env)) (drop 4 run)) 1 0 % 256 ≡ flags q)
     × CellHolds (own-tick (with-position env q)) 0 (out flags t (with-position env q) (max s q) F)
-    (RunHolds flags t (with-position env q) (max s q) F (drop 4 (slot z (q - first-of (range B₁ B₂ env)) (drop 4 run))))
-    (slot z (q - first-of (range B₁ B₂ env)) (drop 4 run)))
+    (RunHolds flags t (with-position env q) (max s q) F (drop 4 (slot size (q - first-of (range B₁ B₂ env)) (drop 4 run))))
+    (slot size (q - first-of (range B₁ B₂ env)) (drop 4 run)))
     × (Leading (λ q. out flags t (with-position env q) (max s q) F) (first-of (range B₁ B₂ env)) s (getD run 0 0) (latest-of (own-tick env) s (getD run 0 0) (getD run 2 0))
-    × ((j : ℕ) → j < getD run 0 0 → In (range B₁ B₂ env) (first-of (range B₁ B₂ env) + j) × (first-of (range B₁ B₂ env) + j ≤ t)))
+    × ((index : ℕ) → index < getD run 0 0 → In (range B₁ B₂ env) (first-of (range B₁ B₂ env) + index) × (first-of (range B₁ B₂ env) + index ≤ t)))
 
 -- One slot, of the position q.
 unfoldable pub SlotHolds : (ℕ → ℕ) → ℕ → List ℕ → ℕ → Tree → ℕ → List ℕ → Type 0
@@ -59,7 +59,7 @@ SlotHolds flags t env s F q cell =
 
 -- What a step finds: any content where the formula starts now, else what holds of the tick before, when it was open.
 unfoldable pub RunReady : (ℕ → ℕ) → ℕ → List ℕ → ℕ → Tree → List ℕ → Type 0
-RunReady flags t env s F run = Before s t (λ k. (out flags k env s F ≡ Open) × RunHolds flags k env s F run)
+RunReady flags t env s F run = Before s t (λ tick. (out flags tick env s F ≡ Open) × RunHolds flags tick env s F run)
 
 unfoldable pub SlotReady : (ℕ → ℕ) → ℕ → List ℕ → ℕ → Tree → ℕ → List ℕ → Type 0
-SlotReady flags t env s F q cell = Before s t (λ k. q ≤ k → SlotHolds flags k env s F q cell)
+SlotReady flags t env s F q cell = Before s t (λ tick. q ≤ tick → SlotHolds flags tick env s F q cell)

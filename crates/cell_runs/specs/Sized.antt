@@ -9,10 +9,10 @@ use Rattle.cell_runs.specs.Tree.{Tree, flag-node, not-node, then-node, b
 
 -- With the sizes that crate `figures` writes, of cells that are counted up to 4,097: within the limits these are 01's figures.
 unfoldable pub sized : Formula → List Pair → Tree
-sized (flag v k) ps = flag-node v k
+sized (flag variable k) ps = flag-node variable k
 sized (negate F) ps = not-node (sized F ps)
 sized (then F G) ps = then-node (sized F ps) (sized G ps)
 sized (beside F G) ps = beside-node (4 * cap (cells F ps)) (sized F ps) (sized G ps)
-sized (forall B C F) ps =
-    range-node B C (4 * (1 + cap (cells F (ps ++ (range-pair B C ps ∷ [])))))
-    (sized F (ps ++ (range-pair B C ps ∷ [])))
+sized (forall B₁ B₂ F) ps =
+    range-node B₁ B₂ (4 * (1 + cap (cells F (ps ++ (range-pair B₁ B₂ ps ∷ [])))))
+    (sized F (ps ++ (range-pair B₁ B₂ ps ∷ [])))

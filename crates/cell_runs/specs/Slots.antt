@@ -1,11 +1,11 @@
--- Parts of a run: some of its words, and slots of z words each.
+-- Parts of a run: some of its words, and slots of one size.
 use Prim.Native.Nat.{ℕ, _*_, _-_}
 use mathlib.Core.List.{List}
 use lib.ListN.{take, drop}
 
--- The words from a to e; slot j of z words.
+-- The words from `start` to `end`; the slot with this index, of `size` words.
 abbrev pub window : ℕ → ℕ → List ℕ → List ℕ
-window a e run = take (e - a) (drop a run)
+window start end run = take (end - start) (drop start run)
 
 abbrev pub slot : ℕ → ℕ → List ℕ → List ℕ
-slot z j run = take z (drop (j * z) run)
+slot size index run = take size (drop (index * size) run)

@@ -2,10 +2,10 @@
 use Prim.Native.Nat.{ℕ, _+_}
 use Rattle.demand.specs.Contract.{State, Taken, Counts, state-at, next-state}
 
--- A step from state s that took its tick and reported n ticks.
+-- A step from this state that took its tick and reported so many ticks.
 abbrev pub taken-from : State → ℕ → ℕ → Taken
-taken-from s n live = record { reported = n; live-count = live; state = next-state s live }
+taken-from state reported live = record { reported = reported; live-count = live; state = next-state state live }
 
--- A batch from state s that took n flags.
+-- A batch from this state that took so many flags.
 abbrev pub counts-from : State → ℕ → ℕ → ℕ → Counts
-counts-from s n pairs live = record { taken = n; pairs = pairs; state = state-at (s .body-bytes) (s .opened) (s .next + n) live }
+counts-from state taken pairs live = record { taken = taken; pairs = pairs; state = state-at (state .body-bytes) (state .opened) (state .next + taken) live }

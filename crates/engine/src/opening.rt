@@ -25,11 +25,11 @@ pub struct OpenResult {
     pub state: State,
 }
 
-fn refused(x: Refusal) -> OpenResult
-    ensures { λ r. ⌜ (r .answer ≡ OpenAnswer.Refused x) × (r .state ≡ blank-code) ⌝ }
+fn refused(refusal: Refusal) -> OpenResult
+    ensures { λ r. ⌜ (r .answer ≡ OpenAnswer.Refused refusal) × (r .state ≡ blank-code) ⌝ }
 {
     OpenResult {
-        answer: OpenAnswer::Refused(x),
+        answer: OpenAnswer::Refused(refusal),
         state: blank(),
     }
 }
@@ -39,9 +39,9 @@ fn open_body(body: &[u8], history: &mut [u8], cells: &[u32]) -> OpenResult
     requires { ⌜ length (now body) ≤ 512 ⌝ }
     ensures { λ r. ⌜ BodyOpened (now (body .entry)) (now (history .entry)) (length (now (cells .entry))) r (now (history .exit)) ⌝ }
 {
-    let a = admission::admit_opening(body, history.len(), cells.len());
-    match a {
-        FigureAnswer::Refused(x) => refused(x),
+    let answer = admission::admit_opening(body, history.len(), cells.len());
+    match answer {
+        FigureAnswer::Refused(refusal) => refused(refusal),
         FigureAnswer::Sized(_) => {
             ring::zero(history);
             OpenResult {
@@ -59,7 +59,7 @@ pub fn open(sheet: &[u8], rule: usize, history: &mut [u8], cells: &[u32]) -> Ope
 {
     let place = sheet::find_rule(sheet, rule);
     match place {
-        Found::Refused(x) => refused(x),
+        Found::Refused(refusal) => refused(refusal),
         Found::At { start, size } => open_body(&sheet[start..start + size], history, cells),
     }
 }

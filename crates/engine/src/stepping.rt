@@ -45,8 +45,8 @@ pub fn step(
     let body = state.body;
     let answer = instances::take_step(&body[..size], opened, tick, history, flag, cells, report);
     match answer {
-        StepAnswer::Refused(x) => StepResult {
-            answer: StepAnswer::Refused(x),
+        StepAnswer::Refused(refusal) => StepResult {
+            answer: StepAnswer::Refused(refusal),
             state,
         },
         StepAnswer::Taken(reported, live) => StepResult {
@@ -89,8 +89,8 @@ pub fn steps(
         report,
     );
     match answer {
-        BatchAnswer::Refused(x) => BatchResult {
-            answer: BatchAnswer::Refused(x),
+        BatchAnswer::Refused(refusal) => BatchResult {
+            answer: BatchAnswer::Refused(refusal),
             state,
         },
         BatchAnswer::Taken(taken, pairs, live) => BatchResult {

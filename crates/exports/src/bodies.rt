@@ -17,28 +17,28 @@ pub extern "C" fn sw_figures(
     delay: &mut u64,
     cells: &mut u64,
 ) -> u32
-    ensures { λ n. ⌜ n ≡ number (body-figures (now (body .entry))) ⌝ }
-    ensures { λ n. ⌜ now (history .exit) ≡ or-kept (λ f. f .history) (body-figures (now (body .entry))) (now (history .entry)) ⌝ }
-    ensures { λ n. ⌜ now (delay .exit) ≡ or-kept (λ f. f .delay) (body-figures (now (body .entry))) (now (delay .entry)) ⌝ }
-    ensures { λ n. ⌜ now (cells .exit) ≡ or-kept (λ f. f .cells) (body-figures (now (body .entry))) (now (cells .entry)) ⌝ }
+    ensures { λ r. ⌜ r ≡ number (body-figures (now (body .entry))) ⌝ }
+    ensures { λ r. ⌜ now (history .exit) ≡ or-kept (λ figures. figures .history) (body-figures (now (body .entry))) (now (history .entry)) ⌝ }
+    ensures { λ r. ⌜ now (delay .exit) ≡ or-kept (λ figures. figures .delay) (body-figures (now (body .entry))) (now (delay .entry)) ⌝ }
+    ensures { λ r. ⌜ now (cells .exit) ≡ or-kept (λ figures. figures .cells) (body-figures (now (body .entry))) (now (cells .entry)) ⌝ }
 {
     let answer = figures::figures(body);
     match answer {
-        FigureAnswer::Sized(f) => {
-            *history = f.history;
-            *delay = f.delay;
-            *cells = f.cells;
+        FigureAnswer::Sized(figures) => {
+            *history = figures.history;
+            *delay = figures.delay;
+            *cells = figures.cells;
             0
         }
-        FigureAnswer::Refused(x) => refusal::number(x),
+        FigureAnswer::Refused(refusal) => refusal::number(refusal),
     }
 }
 
-fn verdict_number(o: Outcome) -> u32
-    ensures { λ r. ⌜ r ≡ verdict-number o ⌝ }
+fn verdict_number(outcome: Outcome) -> u32
+    ensures { λ r. ⌜ r ≡ verdict-number outcome ⌝ }
 {
-    match o {
-        Outcome::Decided(v, _) => match v {
+    match outcome {
+        Outcome::Decided(verdict, _) => match verdict {
             Verdict::True => 1,
             Verdict::False => 2,
         },
@@ -46,11 +46,11 @@ fn verdict_number(o: Outcome) -> u32
     }
 }
 
-fn step_number(o: Outcome) -> u64
-    ensures { λ r. ⌜ r ≡ step-number o ⌝ }
+fn step_number(outcome: Outcome) -> u64
+    ensures { λ r. ⌜ r ≡ step-number outcome ⌝ }
 {
-    match o {
-        Outcome::Decided(_, d) => d,
+    match outcome {
+        Outcome::Decided(_, step) => step,
         Outcome::Open => 0,
     }
 }
@@ -64,17 +64,17 @@ pub extern "C" fn sw_outcome(
     verdict: &mut u32,
     step: &mut u64,
 ) -> u32
-    ensures { λ n. ⌜ n ≡ number (recording-outcome (now (body .entry)) (now (recording .entry)) tick) ⌝ }
-    ensures { λ n. ⌜ now (verdict .exit) ≡ or-kept verdict-number (recording-outcome (now (body .entry)) (now (recording .entry)) tick) (now (verdict .entry)) ⌝ }
-    ensures { λ n. ⌜ now (step .exit) ≡ or-kept step-number (recording-outcome (now (body .entry)) (now (recording .entry)) tick) (now (step .entry)) ⌝ }
+    ensures { λ r. ⌜ r ≡ number (recording-outcome (now (body .entry)) (now (recording .entry)) tick) ⌝ }
+    ensures { λ r. ⌜ now (verdict .exit) ≡ or-kept verdict-number (recording-outcome (now (body .entry)) (now (recording .entry)) tick) (now (verdict .entry)) ⌝ }
+    ensures { λ r. ⌜ now (step .exit) ≡ or-kept step-number (recording-outcome (now (body .entry)) (now (recording .entry)) tick) (now (step .entry)) ⌝ }
 {
     let answer = recording::outcome_at(body, recording, tick);
     match answer {
-        Evaluated::Answered(o) => {
-            *verdict = verdict_number(o);
-            *step = step_number(o);
+        Evaluated::Answered(outcome) => {
+            *verdict = verdict_number(outcome);
+            *step = step_number(outcome);
             0
         }
-        Evaluated::Refused(x) => refusal::number(x),
+        Evaluated::Refused(refusal) => refusal::number(refusal),
     }
 }

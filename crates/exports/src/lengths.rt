@@ -7,14 +7,14 @@ use sheet::Written;
 
 // Answers 0 and sets the length, or answers the refusal's number and leaves the length as it is.
 pub(crate) fn answer_length(answer: Written, length: &mut usize) -> u32
-    ensures { λ n. ⌜ n ≡ number (sheets.written answer) ⌝ }
-    ensures { λ n. ⌜ now (length .exit) ≡ or-kept (λ k. k) (sheets.written answer) (now (length .entry)) ⌝ }
+    ensures { λ r. ⌜ r ≡ number (sheets.written answer) ⌝ }
+    ensures { λ r. ⌜ now (length .exit) ≡ or-kept (λ count. count) (sheets.written answer) (now (length .entry)) ⌝ }
 {
     match answer {
-        Written::Length(k) => {
-            *length = k;
+        Written::Length(count) => {
+            *length = count;
             0
         }
-        Written::Refused(x) => refusal::number(x),
+        Written::Refused(refusal) => refusal::number(refusal),
     }
 }

@@ -16,18 +16,21 @@ pub extern "C" fn sw_rule_place(
     start: &mut usize,
     size: &mut usize,
 ) -> u32
-    ensures { λ n. ⌜ n ≡ number (rule-place (now (sheet .entry)) rule) ⌝ }
-    ensures { λ n. ⌜ now (start .exit) ≡ or-kept (λ p. p .start) (rule-place (now (sheet .entry)) rule) (now (start .entry)) ⌝ }
-    ensures { λ n. ⌜ now (size .exit) ≡ or-kept (λ p. p .size) (rule-place (now (sheet .entry)) rule) (now (size .entry)) ⌝ }
+    ensures { λ r. ⌜ r ≡ number (rule-place (now (sheet .entry)) rule) ⌝ }
+    ensures { λ r. ⌜ now (start .exit) ≡ or-kept (λ place. place .start) (rule-place (now (sheet .entry)) rule) (now (start .entry)) ⌝ }
+    ensures { λ r. ⌜ now (size .exit) ≡ or-kept (λ place. place .size) (rule-place (now (sheet .entry)) rule) (now (size .entry)) ⌝ }
 {
     let place = sheet::find_rule(sheet, rule);
     match place {
-        Found::At { start: a, size: z } => {
-            *start = a;
-            *size = z;
+        Found::At {
+            start: at,
+            size: length,
+        } => {
+            *start = at;
+            *size = length;
             0
         }
-        Found::Refused(x) => refusal::number(x),
+        Found::Refused(refusal) => refusal::number(refusal),
     }
 }
 
@@ -39,9 +42,9 @@ pub extern "C" fn sw_write_sheet(
     out: &mut [u8],
     written: &mut usize,
 ) -> u32
-    ensures { λ n. ⌜ n ≡ number (sheet-length (now (lengths .entry)) (now (bodies .entry)) (length (now (out .entry)))) ⌝ }
-    ensures { λ n. ⌜ now (out .exit) ≡ buffer-after (now (lengths .entry)) (now (bodies .entry)) (now (out .entry)) ⌝ }
-    ensures { λ n. ⌜ now (written .exit) ≡ or-kept (λ n. n) (sheet-length (now (lengths .entry)) (now (bodies .entry)) (length (now (out .entry)))) (now (written .entry)) ⌝ }
+    ensures { λ r. ⌜ r ≡ number (sheet-length (now (lengths .entry)) (now (bodies .entry)) (length (now (out .entry)))) ⌝ }
+    ensures { λ r. ⌜ now (out .exit) ≡ buffer-after (now (lengths .entry)) (now (bodies .entry)) (now (out .entry)) ⌝ }
+    ensures { λ r. ⌜ now (written .exit) ≡ or-kept (λ count. count) (sheet-length (now (lengths .entry)) (now (bodies .entry)) (length (now (out .entry)))) (now (written .entry)) ⌝ }
 {
     let answer = sheet::write_sheet(lengths, bodies, out);
     answer_length(answer, written)

@@ -28,12 +28,12 @@ pub extern "C" fn sw_open(
     cells: &[u32],
     state: &mut [u8; STATE_BYTES],
 ) -> u32
-    ensures { λ n. ⌜ OpenPromise Stands in-bytes (now (state .entry)) (opening-of (answered n (state-in (now (state .exit)))) (now (sheet .entry)) rule (now (history .entry)) (now (cells .entry)) (now (history .exit))) (now (state .exit)) ⌝ }
+    ensures { λ r. ⌜ OpenPromise Stands in-bytes (now (state .entry)) (opening-of (answered r (state-in (now (state .exit)))) (now (sheet .entry)) rule (now (history .entry)) (now (cells .entry)) (now (history .exit))) (now (state .exit)) ⌝ }
 {
     let opened = engine::open(sheet, rule, history, cells);
     let answer = opened.answer;
     match answer {
-        OpenAnswer::Refused(x) => refusal::number(x),
+        OpenAnswer::Refused(refusal) => refusal::number(refusal),
         OpenAnswer::Opened => {
             store(state, opened.state);
             0
@@ -52,9 +52,9 @@ pub extern "C" fn sw_step(
     reported: &mut usize,
     live: &mut usize,
 ) -> u32
-    ensures { λ n. ⌜ StepPromise Stands in-bytes (now (state .entry)) (step-of (answered n (taken-from (state-in (now (state .entry))) (now (reported .exit)) (now (live .exit)))) flag (now (history .entry)) (now (cells .entry)) (now (report .entry)) (now (history .exit)) (now (cells .exit)) (now (report .exit))) (now (state .exit)) ⌝ }
-    ensures { λ n. ⌜ KeptIfRefused n (now (reported .entry)) (now (reported .exit)) ⌝ }
-    ensures { λ n. ⌜ KeptIfRefused n (now (live .entry)) (now (live .exit)) ⌝ }
+    ensures { λ r. ⌜ StepPromise Stands in-bytes (now (state .entry)) (step-of (answered r (taken-from (state-in (now (state .entry))) (now (reported .exit)) (now (live .exit)))) flag (now (history .entry)) (now (cells .entry)) (now (report .entry)) (now (history .exit)) (now (cells .exit)) (now (report .exit))) (now (state .exit)) ⌝ }
+    ensures { λ r. ⌜ KeptIfRefused r (now (reported .entry)) (now (reported .exit)) ⌝ }
+    ensures { λ r. ⌜ KeptIfRefused r (now (live .entry)) (now (live .exit)) ⌝ }
 {
     let tick = next_tick(state);
     if LAST_NEXT < tick {
@@ -63,11 +63,11 @@ pub extern "C" fn sw_step(
     let stepped = engine::step(load(state, tick as u32), flag, history, cells, report);
     let answer = stepped.answer;
     match answer {
-        StepAnswer::Refused(x) => refusal::number(x),
-        StepAnswer::Taken(n, l) => {
-            store_progress(state, tick + 1, l);
-            *reported = n;
-            *live = l;
+        StepAnswer::Refused(refusal) => refusal::number(refusal),
+        StepAnswer::Taken(report_count, live_count) => {
+            store_progress(state, tick + 1, live_count);
+            *reported = report_count;
+            *live = live_count;
             0
         }
     }
@@ -86,10 +86,10 @@ pub extern "C" fn sw_steps(
     pairs: &mut usize,
     live: &mut usize,
 ) -> u32
-    ensures { λ n. ⌜ BatchPromise Stands in-bytes (now (state .entry)) (batch-of (answered n (counts-from (state-in (now (state .entry))) (now (taken .exit)) (now (pairs .exit)) (now (live .exit)))) (now (flags .entry)) (now (history .entry)) (now (cells .entry)) (now (report .entry)) (now (history .exit)) (now (cells .exit)) (now (report .exit))) (now (state .exit)) ⌝ }
-    ensures { λ n. ⌜ KeptIfRefused n (now (taken .entry)) (now (taken .exit)) ⌝ }
-    ensures { λ n. ⌜ KeptIfRefused n (now (pairs .entry)) (now (pairs .exit)) ⌝ }
-    ensures { λ n. ⌜ KeptIfRefused n (now (live .entry)) (now (live .exit)) ⌝ }
+    ensures { λ r. ⌜ BatchPromise Stands in-bytes (now (state .entry)) (batch-of (answered r (counts-from (state-in (now (state .entry))) (now (taken .exit)) (now (pairs .exit)) (now (live .exit)))) (now (flags .entry)) (now (history .entry)) (now (cells .entry)) (now (report .entry)) (now (history .exit)) (now (cells .exit)) (now (report .exit))) (now (state .exit)) ⌝ }
+    ensures { λ r. ⌜ KeptIfRefused r (now (taken .entry)) (now (taken .exit)) ⌝ }
+    ensures { λ r. ⌜ KeptIfRefused r (now (pairs .entry)) (now (pairs .exit)) ⌝ }
+    ensures { λ r. ⌜ KeptIfRefused r (now (live .entry)) (now (live .exit)) ⌝ }
 {
     let tick = next_tick(state);
     if LAST_NEXT < tick {
@@ -98,12 +98,12 @@ pub extern "C" fn sw_steps(
     let stepped = engine::steps(load(state, tick as u32), flags, history, cells, report);
     let answer = stepped.answer;
     match answer {
-        BatchAnswer::Refused(x) => refusal::number(x),
-        BatchAnswer::Taken(n, p, l) => {
-            store_progress(state, tick + n, l);
-            *taken = n;
-            *pairs = p;
-            *live = l;
+        BatchAnswer::Refused(refusal) => refusal::number(refusal),
+        BatchAnswer::Taken(flag_count, pair_count, live_count) => {
+            store_progress(state, tick + flag_count, live_count);
+            *taken = flag_count;
+            *pairs = pair_count;
+            *live = live_count;
             0
         }
     }

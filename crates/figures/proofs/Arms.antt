@@ -99,7 +99,7 @@ module _ (old new : List ℕ) (m : ℕ) (ps : List Pair) (start : Size) (f : Fig
   negate-arm left i c p (forall B C F) e h l n = absurd (omega arith)
 
 pub above-nots : (old new : List ℕ) (left m i : ℕ) (sc : Scope) (start : Size) (f : Figure) (u : Operand) → u ≡ past-nots left old i false
-    → Measures (u .left) m (u .i) sc start old new f → Measures left m i sc start old new f
+    → Measures (u .left) m (u .node) sc start old new f → Measures left m i sc start old new f
 above-nots old new left m i sc start f u e x =
     record {
       small = x .small;

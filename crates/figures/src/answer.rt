@@ -32,46 +32,46 @@ pub fn clear_if_refused(answer: FigureAnswer, nodes: &mut [u32; TABLE_WORDS])
     }
 }
 
-// The rule needs c cells.
-fn limit_cells(h: u64, d: u16, c: u16) -> FigureAnswer
-    ensures { λ r. ⌜ figures-answer r ≡ limit-cells h d (Finite c) ⌝ }
+// The rule needs `cells` cells.
+fn limit_cells(history: u64, delay: u16, cells: u16) -> FigureAnswer
+    ensures { λ r. ⌜ figures-answer r ≡ limit-cells history delay (Finite cells) ⌝ }
 {
-    if !within_limit(c) {
+    if !within_limit(cells) {
         return FigureAnswer::Refused(Refusal::CellsAboveLimit);
     }
     FigureAnswer::Sized(Figures {
-        history: h,
-        delay: d as u64,
-        cells: c as u64,
+        history,
+        delay: delay as u64,
+        cells: cells as u64,
     })
 }
 
-// The rule's formula needs c cells.
-fn limit_history(h: Size, d: u16, c: u16) -> FigureAnswer
-    ensures { λ r. ⌜ figures-answer r ≡ limit-history h d (Finite (rule-cells d c)) ⌝ }
+// The rule's formula needs `cells` cells.
+fn limit_history(history: Size, delay: u16, cells: u16) -> FigureAnswer
+    ensures { λ r. ⌜ figures-answer r ≡ limit-history history delay (Finite (rule-cells delay cells)) ⌝ }
 {
-    match h {
+    match history {
         Size::Unbounded => FigureAnswer::Refused(Refusal::HistoryInfinite),
-        Size::Finite(n) => {
-            if MAX_HISTORY < n {
+        Size::Finite(length) => {
+            if MAX_HISTORY < length {
                 return FigureAnswer::Refused(Refusal::HistoryAboveLimit);
             }
-            limit_cells(n, d, rule_cells(d, c))
+            limit_cells(length, delay, rule_cells(delay, cells))
         }
     }
 }
 
-// The rule's formula needs c cells.
-pub(crate) fn limit_delay(h: Size, d: Size, c: u16) -> FigureAnswer
-    ensures { λ r. ⌜ figures-answer r ≡ limit-delay h d (capped-needed d c) ⌝ }
+// The rule's formula needs `cells` cells.
+pub(crate) fn limit_delay(history: Size, delay: Size, cells: u16) -> FigureAnswer
+    ensures { λ r. ⌜ figures-answer r ≡ limit-delay history delay (capped-needed delay cells) ⌝ }
 {
-    match d {
+    match delay {
         Size::Unbounded => FigureAnswer::Refused(Refusal::DelayInfinite),
-        Size::Finite(n) => {
-            if MAX_DELAY < n {
+        Size::Finite(ticks) => {
+            if MAX_DELAY < ticks {
                 return FigureAnswer::Refused(Refusal::DelayAboveLimit);
             }
-            limit_history(h, n as u16, c)
+            limit_history(history, ticks as u16, cells)
         }
     }
 }

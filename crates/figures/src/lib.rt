@@ -20,14 +20,14 @@ pub fn prepare(body: &[u8], nodes: &mut [u32; TABLE_WORDS]) -> FigureAnswer
 {
     let reading = reader::read_body(body, nodes);
     match reading {
-        Reading::Refused(x) => FigureAnswer::Refused(x),
+        Reading::Refused(refusal) => FigureAnswer::Refused(refusal),
         Reading::Stored => {
-            let f = measure_rule(nodes);
-            let d = f.delay;
-            let h = f.history;
-            let a = limit_delay(h, d, f.cells);
-            clear_if_refused(a, nodes);
-            a
+            let figure = measure_rule(nodes);
+            let delay = figure.delay;
+            let history = figure.history;
+            let answer = limit_delay(history, delay, figure.cells);
+            clear_if_refused(answer, nodes);
+            answer
         }
     }
 }

@@ -13,48 +13,48 @@ use rule::Size;
 use signed::at_least_zero;
 
 // Both numbers are small: limits near the tick, offsets, or a range's length.
-fn sum(a: i64, b: i64) -> i64
-    requires { ⌜ (natAbs a ≤ 2 * farthest) × (natAbs b ≤ 2 * farthest) ⌝ }
-    ensures { λ r. ⌜ r ≡ a +ℤ b ⌝ }
+fn sum(first: i64, second: i64) -> i64
+    requires { ⌜ (natAbs first ≤ 2 * farthest) × (natAbs second ≤ 2 * farthest) ⌝ }
+    ensures { λ r. ⌜ r ≡ first +ℤ second ⌝ }
 {
-    a + b
+    first + second
 }
 
-fn difference(a: i64, b: i64) -> i64
-    requires { ⌜ (natAbs a ≤ 2 * farthest) × (natAbs b ≤ 2 * farthest) ⌝ }
-    ensures { λ r. ⌜ r ≡ a -ℤ b ⌝ }
+fn difference(first: i64, second: i64) -> i64
+    requires { ⌜ (natAbs first ≤ 2 * farthest) × (natAbs second ≤ 2 * farthest) ⌝ }
+    ensures { λ r. ⌜ r ≡ first -ℤ second ⌝ }
 {
-    a - b
+    first - second
 }
 
-fn as_signed(k: u64) -> i64
-    requires { ⌜ k ≤ farthest ⌝ }
-    ensures { λ r. ⌜ r ≡ pos k ⌝ }
+fn as_signed(number: u64) -> i64
+    requires { ⌜ number ≤ farthest ⌝ }
+    ensures { λ r. ⌜ r ≡ pos number ⌝ }
 {
-    k as i64
+    number as i64
 }
 
 // The larger of two sizes: infinite where one is.
-pub(crate) fn larger_size(a: Size, b: Size) -> Size
-    ensures { λ r. ⌜ r ≡ larger a b ⌝ }
+pub(crate) fn larger_size(first: Size, second: Size) -> Size
+    ensures { λ r. ⌜ r ≡ larger first second ⌝ }
 {
-    match a {
+    match first {
         Size::Unbounded => Size::Unbounded,
-        Size::Finite(x) => match b {
+        Size::Finite(one) => match second {
             Size::Unbounded => Size::Unbounded,
-            Size::Finite(y) => Size::Finite(later(x, y)),
+            Size::Finite(other) => Size::Finite(later(one, other)),
         },
     }
 }
 
 // A limit moved by an offset; an infinite one stays.
-pub(crate) fn shifted(l: Limit, n: i64) -> Limit
-    requires { ⌜ Near farthest l × (natAbs n ≤ farthest) ⌝ }
-    ensures { λ r. ⌜ r ≡ shift n l ⌝ }
+pub(crate) fn shifted(limit: Limit, offset: i64) -> Limit
+    requires { ⌜ Near farthest limit × (natAbs offset ≤ farthest) ⌝ }
+    ensures { λ r. ⌜ r ≡ shift offset limit ⌝ }
 {
-    match l {
+    match limit {
         Limit::Lowest => Limit::Lowest,
-        Limit::At(z) => Limit::At(sum(z, n)),
+        Limit::At(distance) => Limit::At(sum(distance, offset)),
         Limit::Highest => Limit::Highest,
     }
 }
@@ -65,7 +65,7 @@ pub(crate) fn range_delay(u: Limit) -> Size
 {
     match u {
         Limit::Lowest => Size::Finite(0),
-        Limit::At(z) => Size::Finite(at_least_zero(z)),
+        Limit::At(distance) => Size::Finite(at_least_zero(distance)),
         Limit::Highest => Size::Unbounded,
     }
 }
@@ -77,8 +77,11 @@ pub(crate) fn range_history(k: Size, l: Limit) -> Size
 {
     match l {
         Limit::Lowest => Size::Unbounded,
-        Limit::At(z) => match k {
-            Size::Finite(n) => Size::Finite(at_least_zero(difference(as_signed(n), z))),
+        Limit::At(distance) => match k {
+            Size::Finite(start) => Size::Finite(at_least_zero(difference(
+                as_signed(start),
+                distance,
+            ))),
             Size::Unbounded => Size::Unbounded,
         },
         Limit::Highest => Size::Finite(0),
@@ -92,9 +95,9 @@ pub(crate) fn range_width(l: Limit, u: Limit) -> u16
 {
     match l {
         Limit::Lowest => ABOVE_LIMIT,
-        Limit::At(a) => match u {
+        Limit::At(lower) => match u {
             Limit::Lowest => 0,
-            Limit::At(b) => capped(at_least_zero(sum(difference(b, a), 1))),
+            Limit::At(upper) => capped(at_least_zero(sum(difference(upper, lower), 1))),
             Limit::Highest => ABOVE_LIMIT,
         },
         Limit::Highest => 0,

@@ -51,119 +51,140 @@ fn flag_figure() -> Figure
     }
 }
 
-fn then_figure(f: Figure, g: Figure) -> Figure
-    ensures { λ r. ⌜ r ≡ then-figure f g ⌝ }
+fn then_figure(first: Figure, second: Figure) -> Figure
+    ensures { λ r. ⌜ r ≡ then-figure first second ⌝ }
 {
-    let d = f.delay;
-    let e = g.delay;
-    let h = f.history;
-    let k = g.history;
+    let first_delay = first.delay;
+    let second_delay = second.delay;
+    let first_history = first.history;
+    let second_history = second.history;
     Figure {
-        delay: larger_size(d, e),
-        history: larger_size(h, k),
-        cells: then_cells(f.cells, g.cells),
+        delay: larger_size(first_delay, second_delay),
+        history: larger_size(first_history, second_history),
+        cells: then_cells(first.cells, second.cells),
     }
 }
 
-fn beside_figure(f: Figure, g: Figure) -> Figure
-    ensures { λ r. ⌜ r ≡ beside-figure f g ⌝ }
+fn beside_figure(first: Figure, second: Figure) -> Figure
+    ensures { λ r. ⌜ r ≡ beside-figure first second ⌝ }
 {
-    let d = f.delay;
-    let e = g.delay;
-    let h = f.history;
-    let k = g.history;
+    let first_delay = first.delay;
+    let second_delay = second.delay;
+    let first_history = first.history;
+    let second_history = second.history;
     Figure {
-        delay: larger_size(d, e),
-        history: larger_size(h, k),
-        cells: beside_cells(f.cells, g.cells),
+        delay: larger_size(first_delay, second_delay),
+        history: larger_size(first_history, second_history),
+        cells: beside_cells(first.cells, second.cells),
     }
 }
 
-// A range whose variable has the pair r, started at k at the latest, over a body with the figures f.
-fn range_figure(r: Pair, k: Size, f: Figure) -> Figure
-    requires { ⌜ Near farthest (r .lower) × (Near farthest (r .upper) × Modest k) ⌝ }
-    ensures { λ x. ⌜ x ≡ range-figure r k f ⌝ }
+// A range whose variable has `pair`, started at k at the latest, over a body with `figure`.
+fn range_figure(pair: Pair, k: Size, figure: Figure) -> Figure
+    requires { ⌜ Near farthest (pair .lower) × (Near farthest (pair .upper) × Modest k) ⌝ }
+    ensures { λ r. ⌜ r ≡ range-figure pair k figure ⌝ }
 {
-    let l = r.lower;
-    let u = r.upper;
-    let d = f.delay;
-    let h = f.history;
+    let l = pair.lower;
+    let u = pair.upper;
+    let delay = figure.delay;
+    let history = figure.history;
     Figure {
-        delay: larger_size(d, range_delay(u)),
-        history: larger_size(range_history(k, l), h),
-        cells: range_cells(range_width(l, u), f.cells),
+        delay: larger_size(delay, range_delay(u)),
+        history: larger_size(range_history(k, l), history),
+        cells: range_cells(range_width(l, u), figure.cells),
     }
 }
 
 // The latest start of a range's body: max(k, N(u)).
-fn body_start(r: Pair, k: Size) -> Size
-    ensures { λ x. ⌜ x ≡ larger k (N (r .upper)) ⌝ }
+fn body_start(pair: Pair, k: Size) -> Size
+    ensures { λ r. ⌜ r ≡ larger k (N (pair .upper)) ⌝ }
 {
-    let u = r.upper;
+    let u = pair.upper;
     larger_size(k, range_delay(u))
 }
 
-// Stores word k after word i, nothing past the end.
-fn store(nodes: &mut [u32], i: usize, k: usize, v: u16)
-    ensures { λ _. ⌜ now (nodes .exit) ≡ set (now (nodes .entry)) (i + k) v ⌝ }
+// Stores word `at` after word `node`, nothing past the end.
+fn store(nodes: &mut [u32], node: usize, at: usize, value: u16)
+    ensures { λ _. ⌜ now (nodes .exit) ≡ set (now (nodes .entry)) (node + at) value ⌝ }
 {
-    if nodes.len() <= i {
+    if nodes.len() <= node {
         return;
     }
-    if nodes.len() - i <= k {
+    if nodes.len() - node <= at {
         return;
     }
-    nodes[i + k] = v as u32;
+    nodes[node + at] = value as u32;
 }
 
-// The figures of the formula at word i, inside m quantifiers and started at `start` at the latest, with the sizes of its nodes stored.
+// The figures of the formula at word `node`, inside `depth` quantifiers and started at `start` at the latest, with the sizes of its nodes stored.
 // A not has its part's figures and no sizes: a run of nots is skipped.
 fn measure_at(
     nodes: &mut [u32],
     left: usize,
-    m: usize,
-    i: usize,
+    depth: usize,
+    node: usize,
     scope: Scope,
     start: Size,
 ) -> Figure
-    requires { ⌜ Measurable m scope start ⌝ }
-    ensures { λ r. ⌜ Measures left m i scope start (now (nodes .entry)) (now (nodes .exit)) r ⌝ }
+    requires { ⌜ Measurable depth scope start ⌝ }
+    ensures { λ r. ⌜ Measures left depth node scope start (now (nodes .entry)) (now (nodes .exit)) r ⌝ }
 {
-    let u = skip_nots(nodes, left, i);
-    if u.left == 0 {
+    let operand = skip_nots(nodes, left, node);
+    if operand.left == 0 {
         return flag_figure();
     }
-    let code = node_word(nodes, u.i, CODE);
+    let code = node_word(nodes, operand.node, CODE);
     if code == THEN_CODE {
-        let j = node_word(nodes, u.i, SECOND_PART) as usize;
-        let f = measure_at(nodes, u.left - 1, m, u.i + NODE_WORDS, scope, start);
-        let d = f.delay;
-        let g = measure_at(nodes, u.left - 1, m, j, scope, larger_size(start, d));
-        return then_figure(f, g);
+        let second = node_word(nodes, operand.node, SECOND_PART) as usize;
+        let first_figure = measure_at(
+            nodes,
+            operand.left - 1,
+            depth,
+            operand.node + NODE_WORDS,
+            scope,
+            start,
+        );
+        let first_delay = first_figure.delay;
+        let second_figure = measure_at(
+            nodes,
+            operand.left - 1,
+            depth,
+            second,
+            scope,
+            larger_size(start, first_delay),
+        );
+        return then_figure(first_figure, second_figure);
     }
     if code == BESIDE_CODE {
-        let j = node_word(nodes, u.i, SECOND_PART) as usize;
-        let f = measure_at(nodes, u.left - 1, m, u.i + NODE_WORDS, scope, start);
-        let g = measure_at(nodes, u.left - 1, m, j, scope, start);
-        store(nodes, u.i, FIRST_WORDS, 4 * f.cells);
-        return beside_figure(f, g);
+        let second = node_word(nodes, operand.node, SECOND_PART) as usize;
+        let first_figure = measure_at(
+            nodes,
+            operand.left - 1,
+            depth,
+            operand.node + NODE_WORDS,
+            scope,
+            start,
+        );
+        let second_figure = measure_at(nodes, operand.left - 1, depth, second, scope, start);
+        store(nodes, operand.node, FIRST_WORDS, 4 * first_figure.cells);
+        return beside_figure(first_figure, second_figure);
     }
     if code == FORALL_CODE {
-        if NESTED <= m {
+        if NESTED <= depth {
             return flag_figure();
         }
-        let r = range_pair(nodes, u.i, scope, m);
-        let k = body_start(r, start);
-        let f = measure_at(
+        let pair = range_pair(nodes, operand.node, scope, depth);
+        let k = body_start(pair, start);
+        let figure = measure_at(
             nodes,
-            u.left - 1,
-            m + 1,
-            u.i + NODE_WORDS,
-            with_pair(scope, m, r),
+            operand.left - 1,
+            depth + 1,
+            operand.node + NODE_WORDS,
+            with_pair(scope, depth, pair),
             k,
         );
-        store(nodes, u.i, SLOT_WORDS, 4 * (1 + f.cells));
-        return range_figure(r, start, f);
+        store(nodes, operand.node, SLOT_WORDS, 4 * (1 + figure.cells));
+        return range_figure(pair, start, figure);
     }
     flag_figure()
 }

@@ -25,54 +25,54 @@ pub(crate) struct Scope {
     pub(crate) pairs: [Pair; 5],
 }
 
-fn shifted_pair(p: Pair, n: i64) -> Pair
-    requires { ⌜ Near farthest (p .lower) × (Near farthest (p .upper) × (natAbs n ≤ farthest)) ⌝ }
-    ensures { λ r. ⌜ r ≡ shift-pair n p ⌝ }
+fn shifted_pair(pair: Pair, offset: i64) -> Pair
+    requires { ⌜ Near farthest (pair .lower) × (Near farthest (pair .upper) × (natAbs offset ≤ farthest)) ⌝ }
+    ensures { λ r. ⌜ r ≡ shift-pair offset pair ⌝ }
 {
-    let l = p.lower;
-    let u = p.upper;
+    let l = pair.lower;
+    let u = pair.upper;
     Pair {
-        lower: shifted(l, n),
-        upper: shifted(u, n),
+        lower: shifted(l, offset),
+        upper: shifted(u, offset),
     }
 }
 
-// The pair of variable v, inside m quantifiers.
-fn pair_of(scope: Scope, m: usize, v: usize) -> Pair
-    requires { ⌜ m ≤ 4 ⌝ }
-    ensures { λ r. ⌜ r ≡ getD (inside scope m) v anywhere ⌝ }
+// The pair of a variable, inside `depth` quantifiers.
+fn pair_of(scope: Scope, depth: usize, variable: usize) -> Pair
+    requires { ⌜ depth ≤ 4 ⌝ }
+    ensures { λ r. ⌜ r ≡ getD (inside scope depth) variable anywhere ⌝ }
 {
-    if m < v {
+    if depth < variable {
         return Pair {
             lower: Limit::Lowest,
             upper: Limit::Highest,
         };
     }
-    scope.pairs[v]
+    scope.pairs[variable]
 }
 
-// The scope of the body of a quantifier inside m others, whose variable has the pair p.
-pub(crate) fn with_pair(scope: Scope, m: usize, p: Pair) -> Scope
-    requires { ⌜ m < 4 ⌝ }
-    ensures { λ r. ⌜ inside r (m + 1) ≡ inside scope m ++ (p ∷ []) ⌝ }
+// The scope of the body of a quantifier inside `depth` others, whose variable has `pair`.
+pub(crate) fn with_pair(scope: Scope, depth: usize, pair: Pair) -> Scope
+    requires { ⌜ depth < 4 ⌝ }
+    ensures { λ r. ⌜ inside r (depth + 1) ≡ inside scope depth ++ (pair ∷ []) ⌝ }
 {
-    let n = m + 1;
-    let mut s = scope;
-    s.pairs[n] = p;
-    s
+    let variable = depth + 1;
+    let mut inner = scope;
+    inner.pairs[variable] = pair;
+    inner
 }
 
-// The pair of the bound whose three words start at word j.
-fn pair_at(nodes: &[u32], j: usize, scope: Scope, m: usize) -> Pair
-    requires { ⌜ (m ≤ 4) × AllNear (32768 * m) (inside scope m) ⌝ }
-    ensures { λ r. ⌜ r ≡ bound-pair (bound-at (now (nodes .entry)) j) (inside scope m) ⌝ }
+// The pair of the bound whose three words start at word `at`.
+fn pair_at(nodes: &[u32], at: usize, scope: Scope, depth: usize) -> Pair
+    requires { ⌜ (depth ≤ 4) × AllNear (32768 * depth) (inside scope depth) ⌝ }
+    ensures { λ r. ⌜ r ≡ bound-pair (bound-at (now (nodes .entry)) at) (inside scope depth) ⌝ }
 {
-    let kind = node_word(nodes, j, KIND);
-    let n = offset_of(node_word(nodes, j, OFFSET));
+    let kind = node_word(nodes, at, KIND);
+    let offset = offset_of(node_word(nodes, at, OFFSET));
     if kind == ORIGIN_KIND {
         return Pair {
             lower: Limit::Lowest,
-            upper: Limit::At(n),
+            upper: Limit::At(offset),
         };
     }
     if kind == INFINITY_KIND {
@@ -81,19 +81,19 @@ fn pair_at(nodes: &[u32], j: usize, scope: Scope, m: usize) -> Pair
             upper: Limit::Highest,
         };
     }
-    let v = node_word(nodes, j, BOUND_VARIABLE) as usize;
-    let p = pair_of(scope, m, v);
-    shifted_pair(p, n)
+    let variable = node_word(nodes, at, BOUND_VARIABLE) as usize;
+    let pair = pair_of(scope, depth, variable);
+    shifted_pair(pair, offset)
 }
 
-// The pair of the variable of the quantifier whose node starts at word i: l of the first bound, u of the second.
-pub(crate) fn range_pair(nodes: &[u32], i: usize, scope: Scope, m: usize) -> Pair
-    requires { ⌜ (i < length (now nodes)) × ((m ≤ 4) × AllNear (32768 * m) (inside scope m)) ⌝ }
-    ensures { λ r. ⌜ r ≡ range-pair (bound-at (now (nodes .entry)) (i + 1)) (bound-at (now (nodes .entry)) (i + 4)) (inside scope m) ⌝ }
+// The pair of the variable of the quantifier whose node starts at word `node`: l of the first bound, u of the second.
+pub(crate) fn range_pair(nodes: &[u32], node: usize, scope: Scope, depth: usize) -> Pair
+    requires { ⌜ (node < length (now nodes)) × ((depth ≤ 4) × AllNear (32768 * depth) (inside scope depth)) ⌝ }
+    ensures { λ r. ⌜ r ≡ range-pair (bound-at (now (nodes .entry)) (node + 1)) (bound-at (now (nodes .entry)) (node + 4)) (inside scope depth) ⌝ }
 {
-    let b = pair_at(nodes, i + FIRST_BOUND, scope, m);
-    let c = pair_at(nodes, i + SECOND_BOUND, scope, m);
-    let l = b.lower;
-    let u = c.upper;
+    let first = pair_at(nodes, node + FIRST_BOUND, scope, depth);
+    let second = pair_at(nodes, node + SECOND_BOUND, scope, depth);
+    let l = first.lower;
+    let u = second.upper;
     Pair { lower: l, upper: u }
 }

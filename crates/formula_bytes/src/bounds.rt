@@ -20,61 +20,61 @@ const LARGEST_OFFSET: usize = 4095;
 
 const LEAST_NEGATIVE: usize = 65536 - LARGEST_OFFSET;
 
-// Kind 2 names a variable that is bound here, inside m quantifiers; the other kinds name none.
-fn variable_is_bound(kind: u8, v: usize, m: usize) -> bool
-    ensures { λ r. ⌜ r ≡ (not (eqb kind 2) || leb v m) ⌝ }
+// Kind 2 names a variable that is bound here, inside `depth` quantifiers; the other kinds name none.
+fn variable_is_bound(kind: u8, variable: usize, depth: usize) -> bool
+    ensures { λ r. ⌜ r ≡ (not (eqb kind 2) || leb variable depth) ⌝ }
 {
     if kind == VARIABLE_KIND_BYTE {
-        v <= m
+        variable <= depth
     } else {
         true
     }
 }
 
 // The variable byte of position 0 and infinity is 0.
-fn variable_byte_fits(kind: u8, v: usize) -> bool
-    ensures { λ r. ⌜ r ≡ (eqb kind 2 || eqb v 0) ⌝ }
+fn variable_byte_fits(kind: u8, variable: usize) -> bool
+    ensures { λ r. ⌜ r ≡ (eqb kind 2 || eqb variable 0) ⌝ }
 {
     if kind == VARIABLE_KIND_BYTE {
         true
     } else {
-        v == 0
+        variable == 0
     }
 }
 
-// Infinity has no offset: its 16 bits w are 0.
-fn offset_allowed(kind: u8, w: usize) -> bool
-    ensures { λ r. ⌜ r ≡ (not (eqb kind 1) || eqb w 0) ⌝ }
+// Infinity has no offset: its 16-bit `word` is 0.
+fn offset_allowed(kind: u8, word: usize) -> bool
+    ensures { λ r. ⌜ r ≡ (not (eqb kind 1) || eqb word 0) ⌝ }
 {
     if kind == INFINITY_KIND_BYTE {
-        w == 0
+        word == 0
     } else {
         true
     }
 }
 
-// An offset of 16 bits w lies from -4,095 to 4,095.
-fn offset_in_range(w: usize) -> bool
-    ensures { λ r. ⌜ r ≡ leb (natAbs (signed w)) 4095 ⌝ }
+// An offset of the 16-bit `word` lies from -4,095 to 4,095.
+fn offset_in_range(word: usize) -> bool
+    ensures { λ r. ⌜ r ≡ leb (natAbs (signed word)) 4095 ⌝ }
 {
-    if w <= LARGEST_OFFSET {
+    if word <= LARGEST_OFFSET {
         return true;
     }
-    LEAST_NEGATIVE <= w
+    LEAST_NEGATIVE <= word
 }
 
-// The bound whose 4 bytes start at a position, inside m quantifiers.
-pub(crate) fn bound_check(s: &[u8], at: usize, m: usize) -> Check
-    requires { ⌜ at + 4 ≤ length (now s) ⌝ }
-    ensures { λ r. ⌜ check-number r ≡ head-number (require-bound (now (s .entry)) at m negate-head) ⌝ }
+// The bound whose 4 bytes start at a position, inside `depth` quantifiers.
+pub(crate) fn bound_check(body: &[u8], at: usize, depth: usize) -> Check
+    requires { ⌜ at + 4 ≤ length (now body) ⌝ }
+    ensures { λ r. ⌜ check-number r ≡ head-number (require-bound (now (body .entry)) at depth negate-head) ⌝ }
 {
-    let kind = s[at];
-    let v = byte_after(s, at, 1);
-    let w = word_at(s, at + 2);
-    let is_bound = variable_is_bound(kind, v, m);
-    let byte_fits = variable_byte_fits(kind, v);
-    let allowed = offset_allowed(kind, w);
-    let in_range = offset_in_range(w);
+    let kind = body[at];
+    let variable = byte_after(body, at, 1);
+    let word = word_at(body, at + 2);
+    let is_bound = variable_is_bound(kind, variable, depth);
+    let byte_fits = variable_byte_fits(kind, variable);
+    let allowed = offset_allowed(kind, word);
+    let in_range = offset_in_range(word);
     if VARIABLE_KIND_BYTE < kind {
         return Check::Refused(Refusal::UnknownCode);
     }

@@ -21,43 +21,43 @@ pub enum Check {
     Refused(Refusal),
 }
 
-// A flag's variable and flag, inside m quantifiers.
-fn flag_check(s: &[u8], at: usize, m: usize) -> Check
-    requires { ⌜ byte (now s) at ≡ 1 ⌝ }
-    ensures { λ r. ⌜ check-number r ≡ head-number (after-code (now (s .entry)) at m) ⌝ }
+// A flag's variable and flag, inside `depth` quantifiers.
+fn flag_check(body: &[u8], at: usize, depth: usize) -> Check
+    requires { ⌜ byte (now body) at ≡ 1 ⌝ }
+    ensures { λ r. ⌜ check-number r ≡ head-number (after-code (now (body .entry)) at depth) ⌝ }
 {
-    if m < byte_after(s, at, 1) {
+    if depth < byte_after(body, at, 1) {
         return Check::Refused(Refusal::UnboundVariable);
     }
-    if 7 < byte_after(s, at, 2) {
+    if 7 < byte_after(body, at, 2) {
         return Check::Refused(Refusal::NoSuchFlag);
     }
     Check::Fine
 }
 
-// A quantifier's two bounds, inside m others.
-fn bounds_check(s: &[u8], at: usize, m: usize) -> Check
-    requires { ⌜ (byte (now s) at ≡ 5) × (at + 9 ≤ length (now s)) ⌝ }
-    ensures { λ r. ⌜ check-number r ≡ head-number (after-code (now (s .entry)) at m) ⌝ }
+// A quantifier's two bounds, inside `depth` others.
+fn bounds_check(body: &[u8], at: usize, depth: usize) -> Check
+    requires { ⌜ (byte (now body) at ≡ 5) × (at + 9 ≤ length (now body)) ⌝ }
+    ensures { λ r. ⌜ check-number r ≡ head-number (after-code (now (body .entry)) at depth) ⌝ }
 {
-    let first = bound_check(s, at + 1, m);
+    let first = bound_check(body, at + 1, depth);
     match first {
-        Check::Refused(x) => Check::Refused(x),
-        Check::Fine => bound_check(s, at + 5, m),
+        Check::Refused(refusal) => Check::Refused(refusal),
+        Check::Fine => bound_check(body, at + 5, depth),
     }
 }
 
 // What follows a known code, of which all fixed bytes are there.
-fn contents_check(s: &[u8], at: usize, m: usize) -> Check
-    requires { ⌜ (at < length (now s)) × (byte (now s) at ≡ 5 → at + 9 ≤ length (now s)) × (1 ≤ byte (now s) at) × (byte (now s) at ≤ 5) ⌝ }
-    ensures { λ r. ⌜ check-number r ≡ head-number (after-code (now (s .entry)) at m) ⌝ }
+fn contents_check(body: &[u8], at: usize, depth: usize) -> Check
+    requires { ⌜ (at < length (now body)) × (byte (now body) at ≡ 5 → at + 9 ≤ length (now body)) × (1 ≤ byte (now body) at) × (byte (now body) at ≤ 5) ⌝ }
+    ensures { λ r. ⌜ check-number r ≡ head-number (after-code (now (body .entry)) at depth) ⌝ }
 {
-    let code = s[at];
+    let code = body[at];
     if code == FLAG_CODE_BYTE {
-        return flag_check(s, at, m);
+        return flag_check(body, at, depth);
     }
     if code == FORALL_CODE_BYTE {
-        return bounds_check(s, at, m);
+        return bounds_check(body, at, depth);
     }
     Check::Fine
 }
@@ -85,14 +85,14 @@ fn code_known(code: u8) -> bool
 }
 
 // It is no 65th formula and no 5th nested quantifier.
-fn formula_fits(code: u8, m: usize, left: usize) -> bool
-    ensures { λ r. ⌜ r ≡ (leb 1 left && (not (eqb code 5) || ltb m 4)) ⌝ }
+fn formula_fits(code: u8, depth: usize, left: usize) -> bool
+    ensures { λ r. ⌜ r ≡ (leb 1 left && (not (eqb code 5) || ltb depth 4)) ⌝ }
 {
     if left < 1 {
         return false;
     }
     if code == FORALL_CODE_BYTE {
-        m < NESTED
+        depth < NESTED
     } else {
         true
     }

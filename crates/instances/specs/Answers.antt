@@ -12,19 +12,19 @@ use Rattle.instances.specs.declared.batch.BatchAnswer.{BatchAnswer}
 use Rattle.instances.specs.declared.batch.BatchAnswer.the-variants as batches
 
 abbrev pub step-answer : State → StepAnswer → Answer Taken
-step-answer s (steps.Taken n live) = accepted (taken-from s n live)
-step-answer s (steps.Refused x) = refused (number-of x)
+step-answer state (steps.Taken reported live) = accepted (taken-from state reported live)
+step-answer state (steps.Refused refusal) = refused (number-of refusal)
 
 abbrev pub batch-answer : State → BatchAnswer → Answer Counts
-batch-answer s (batches.Taken n pairs live) = accepted (counts-from s n pairs live)
-batch-answer s (batches.Refused x) = refused (number-of x)
+batch-answer state (batches.Taken taken pairs live) = accepted (counts-from state taken pairs live)
+batch-answer state (batches.Refused refusal) = refused (number-of refusal)
 
 -- A step of the rule with this body, whose history was opened with L bytes and which takes tick t, however many ticks are live.
 abbrev pub StepOf : List ℕ → ℕ → ℕ → ℕ → List ℕ → List ℕ → List ℕ → StepAnswer → List ℕ → List ℕ → List ℕ → Type 0
-StepOf b L t flag history cells report r history′ cells′ report′ =
-    (live : ℕ) → Stepped Stands (state-at b L t live) (step-of (step-answer (state-at b L t live) r) flag history cells report history′ cells′ report′) (step-answer (state-at b L t live) r)
+StepOf body L t flag history cells report answer history′ cells′ report′ =
+    (live : ℕ) → Stepped Stands (state-at body L t live) (step-of (step-answer (state-at body L t live) answer) flag history cells report history′ cells′ report′) (step-answer (state-at body L t live) answer)
 
 -- The same of a batch, which starts with so many live ticks.
 abbrev pub BatchOf : List ℕ → ℕ → ℕ → ℕ → List ℕ → List ℕ → List ℕ → List ℕ → BatchAnswer → List ℕ → List ℕ → List ℕ → Type 0
-BatchOf b L t live flags history cells report r history′ cells′ report′ =
-    Batched Stands (state-at b L t live) (batch-of (batch-answer (state-at b L t live) r) flags history cells report history′ cells′ report′) (batch-answer (state-at b L t live) r)
+BatchOf body L t live flags history cells report answer history′ cells′ report′ =
+    Batched Stands (state-at body L t live) (batch-of (batch-answer (state-at body L t live) answer) flags history cells report history′ cells′ report′) (batch-answer (state-at body L t live) answer)

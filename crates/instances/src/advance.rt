@@ -34,89 +34,89 @@ use rule::Verdict;
 // How many numbers a byte can hold.
 const BYTE_VALUES: u32 = 256;
 
-// Moves the formula whose run is the words from a to z, and whose outcome the words k and k + 2 hold.
+// Moves the formula whose run is the words from `start` to `end`, and whose outcome the words `word` and `word` + 2 hold.
 fn advance_part(
     nodes: &[u32; TABLE_WORDS],
     left: usize,
-    i: usize,
+    node: usize,
     run: &mut [u32],
-    k: usize,
-    a: usize,
-    z: usize,
+    word: usize,
+    start: usize,
+    end: usize,
     history: &[u8],
     flag: u8,
-    m: usize,
+    depth: usize,
     pos: &[u64; 5],
     byte: &[u8; 5],
     s: u64,
     t: u64,
 ) -> Outcome
-    requires { ⌜ PartFit (tree-at left (now nodes) i) (variables-of m (now pos) (now byte)) t k a z (length (now run)) ⌝ }
-    ensures { λ r. ⌜ PartAdvanced (tree-at left (now (nodes .entry)) i) (now (history .entry)) flag (variables-of m (now (pos .entry)) (now (byte .entry))) s t k a z (now (run .entry)) r (now (run .exit)) ⌝ }
+    requires { ⌜ PartFit (tree-at left (now nodes) node) (variables-of depth (now pos) (now byte)) t word start end (length (now run)) ⌝ }
+    ensures { λ r. ⌜ PartAdvanced (tree-at left (now (nodes .entry)) node) (now (history .entry)) flag (variables-of depth (now (pos .entry)) (now (byte .entry))) s t word start end (now (run .entry)) r (now (run .exit)) ⌝ }
 {
     let p = own_tick(pos);
     if t != s {
-        let h = load_outcome(run, k, p);
-        if let Outcome::Decided(_, _) = h {
-            return h;
+        let held = load_outcome(run, word, p);
+        if let Outcome::Decided(_, _) = held {
+            return held;
         }
     }
-    let o = advance(
+    let outcome = advance(
         nodes,
         left,
-        i,
-        &mut run[a..z],
+        node,
+        &mut run[start..end],
         history,
         flag,
-        m,
+        depth,
         pos,
         byte,
         s,
         t,
     );
-    store_outcome(run, k, p, o);
-    o
+    store_outcome(run, word, p, outcome);
+    outcome
 }
 
 // One position q of a range, in its slot: the position's cell, then the body's run. The byte at q is saved when the body starts.
 pub(crate) fn advance_position(
     nodes: &[u32; TABLE_WORDS],
     left: usize,
-    i: usize,
+    node: usize,
     slot: &mut [u32],
     history: &[u8],
     flag: u8,
-    m: usize,
+    depth: usize,
     pos: &[u64; 5],
     byte: &[u8; 5],
     s: u64,
     t: u64,
     q: u64,
 ) -> Outcome
-    requires { ⌜ SlotFit (tree-at left (now nodes) i) (variables-of m (now pos) (now byte)) t q (length (now slot)) ⌝ }
-    ensures { λ r. ⌜ PositionAdvanced (tree-at left (now (nodes .entry)) i) (now (history .entry)) flag (variables-of m (now (pos .entry)) (now (byte .entry))) s t q (now (slot .entry)) r (now (slot .exit)) ⌝ }
+    requires { ⌜ SlotFit (tree-at left (now nodes) node) (variables-of depth (now pos) (now byte)) t q (length (now slot)) ⌝ }
+    ensures { λ r. ⌜ PositionAdvanced (tree-at left (now (nodes .entry)) node) (now (history .entry)) flag (variables-of depth (now (pos .entry)) (now (byte .entry))) s t q (now (slot .entry)) r (now (slot .exit)) ⌝ }
 {
     let start = outcomes::later(s, q);
     if t == start {
         slot[1] = wide(byte_of(history, flag, t, q));
     }
-    let c = (slot[1] % BYTE_VALUES) as u8;
+    let saved = (slot[1] % BYTE_VALUES) as u8;
     let mut places = *pos;
-    places[m] = q;
+    places[depth] = q;
     let mut bytes = *byte;
-    bytes[m] = c;
-    let z = slot.len();
+    bytes[depth] = saved;
+    let length = slot.len();
     advance_part(
         nodes,
         left,
-        i,
+        node,
         slot,
         0,
         CELL_WORDS,
-        z,
+        length,
         history,
         flag,
-        m + 1,
+        depth + 1,
         &places,
         &bytes,
         start,
@@ -124,155 +124,155 @@ pub(crate) fn advance_position(
     )
 }
 
-// Of n positions from `first` on, each in its slot of z words, those after the leading ones, all side by side, and `end` beside them. It goes no
-// further once one is false: the range is then false at this step, and its cells are not looked at again.
+// Of so many positions from `first` on, each in its slot of `size` words, those after the leading ones, all side by side, and `end` beside them. It
+// goes no further once one is false: the range is then false at this step, and its cells are not looked at again.
 fn walk_positions(
     nodes: &[u32; TABLE_WORDS],
     left: usize,
-    i: usize,
+    node: usize,
     run: &mut [u32],
     history: &[u8],
     flag: u8,
-    m: usize,
+    depth: usize,
     pos: &[u64; 5],
     byte: &[u8; 5],
     s: u64,
     t: u64,
     first: u64,
     leading: u64,
-    n: u64,
+    positions: u64,
     end: Outcome,
-    z: usize,
+    size: usize,
 ) -> Outcome
-    requires { ⌜ WalkFit (tree-at left (now nodes) i) (variables-of m (now pos) (now byte)) t first leading n z (length (now run)) ⌝ }
-    ensures { λ r. ⌜ PositionsWalked (tree-at left (now (nodes .entry)) i) (now (history .entry)) flag (variables-of m (now (pos .entry)) (now (byte .entry))) s t first leading n end z (now (run .entry)) r (now (run .exit)) ⌝ }
+    requires { ⌜ WalkFit (tree-at left (now nodes) node) (variables-of depth (now pos) (now byte)) t first leading positions size (length (now run)) ⌝ }
+    ensures { λ r. ⌜ PositionsWalked (tree-at left (now (nodes .entry)) node) (now (history .entry)) flag (variables-of depth (now (pos .entry)) (now (byte .entry))) s t first leading positions end size (now (run .entry)) r (now (run .exit)) ⌝ }
 {
     let mut acc = end;
-    let mut j = n;
-    while leading < j {
-        j -= 1;
-        let at = (j as usize) * z;
-        let top = at + z;
-        let o = advance_position(
+    let mut count = positions;
+    while leading < count {
+        count -= 1;
+        let at = (count as usize) * size;
+        let top = at + size;
+        let outcome = advance_position(
             nodes,
             left,
-            i,
+            node,
             &mut run[at..top],
             history,
             flag,
-            m,
+            depth,
             pos,
             byte,
             s,
             t,
-            first + j,
+            first + count,
         );
-        acc = outcomes::both(o, acc);
-        if is_false(o) {
+        acc = outcomes::both(outcome, acc);
+        if is_false(outcome) {
             return acc;
         }
     }
     acc
 }
 
-// The range whose node starts at word i.
+// The range whose node starts at word `node`.
 fn advance_range(
     nodes: &[u32; TABLE_WORDS],
     left: usize,
-    i: usize,
+    node: usize,
     run: &mut [u32],
     history: &[u8],
     flag: u8,
-    m: usize,
+    depth: usize,
     pos: &[u64; 5],
     byte: &[u8; 5],
     s: u64,
     t: u64,
 ) -> Outcome
-    requires { ⌜ (i < 768) × Fit (range-node (bound-at (now nodes) (i + 1)) (bound-at (now nodes) (i + 4)) (getD (now nodes) (i + 8) 0) (tree-at left (now nodes) (i + 12))) (variables-of m (now pos) (now byte)) t (length (now run)) ⌝ }
-    ensures { λ r. ⌜ Advanced (range-node (bound-at (now (nodes .entry)) (i + 1)) (bound-at (now (nodes .entry)) (i + 4)) (getD (now (nodes .entry)) (i + 8) 0) (tree-at left (now (nodes .entry)) (i + 12))) (now (history .entry)) flag (variables-of m (now (pos .entry)) (now (byte .entry))) s t (now (run .entry)) r (now (run .exit)) ⌝ }
+    requires { ⌜ (node < 768) × Fit (range-node (bound-at (now nodes) (node + 1)) (bound-at (now nodes) (node + 4)) (getD (now nodes) (node + 8) 0) (tree-at left (now nodes) (node + 12))) (variables-of depth (now pos) (now byte)) t (length (now run)) ⌝ }
+    ensures { λ r. ⌜ Advanced (range-node (bound-at (now (nodes .entry)) (node + 1)) (bound-at (now (nodes .entry)) (node + 4)) (getD (now (nodes .entry)) (node + 8) 0) (tree-at left (now (nodes .entry)) (node + 12))) (now (history .entry)) flag (variables-of depth (now (pos .entry)) (now (byte .entry))) s t (now (run .entry)) r (now (run .exit)) ⌝ }
 {
-    let z = node_word(nodes, i, SLOT_WORDS) as usize;
-    let span = ranges::range_at(nodes, i, pos);
+    let size = node_word(nodes, node, SLOT_WORDS) as usize;
+    let span = ranges::range_at(nodes, node, pos);
     let plan = ranges::plan_up_to(span, t, s);
     let first = plan.first;
-    let n = plan.n;
+    let positions = plan.count;
     let end = plan.end;
     let p = own_tick(pos);
-    let h = load_head(run, p, s, t, n);
+    let head = load_head(run, p, s, t, positions);
     let rest = walk_positions(
         nodes,
         left,
-        i + NODE_WORDS,
+        node + NODE_WORDS,
         &mut run[CELL_WORDS..],
         history,
         flag,
-        m,
+        depth,
         pos,
         byte,
         s,
         t,
         first,
-        h.leading,
-        n,
+        head.leading,
+        positions,
         end,
-        z,
+        size,
     );
-    move_head(run, h.leading, n, z, p, h.latest);
-    outcomes::both(Outcome::Decided(Verdict::True, h.latest), rest)
+    move_head(run, head.leading, positions, size, p, head.latest);
+    outcomes::both(Outcome::Decided(Verdict::True, head.latest), rest)
 }
 
-// "Then" at word i: its first part, then the second, which is started at the first one's step.
+// "Then" at word `node`: its first part, then the second, which is started at the first one's step.
 fn advance_then(
     nodes: &[u32; TABLE_WORDS],
     left: usize,
-    i: usize,
+    node: usize,
     run: &mut [u32],
     history: &[u8],
     flag: u8,
-    m: usize,
+    depth: usize,
     pos: &[u64; 5],
     byte: &[u8; 5],
     s: u64,
     t: u64,
 ) -> Outcome
-    requires { ⌜ (i < 768) × Fit (then-node (tree-at left (now nodes) (i + 12)) (tree-at left (now nodes) (getD (now nodes) (i + 7) 0))) (variables-of m (now pos) (now byte)) t (length (now run)) ⌝ }
-    ensures { λ r. ⌜ Advanced (then-node (tree-at left (now (nodes .entry)) (i + 12)) (tree-at left (now (nodes .entry)) (getD (now (nodes .entry)) (i + 7) 0))) (now (history .entry)) flag (variables-of m (now (pos .entry)) (now (byte .entry))) s t (now (run .entry)) r (now (run .exit)) ⌝ }
+    requires { ⌜ (node < 768) × Fit (then-node (tree-at left (now nodes) (node + 12)) (tree-at left (now nodes) (getD (now nodes) (node + 7) 0))) (variables-of depth (now pos) (now byte)) t (length (now run)) ⌝ }
+    ensures { λ r. ⌜ Advanced (then-node (tree-at left (now (nodes .entry)) (node + 12)) (tree-at left (now (nodes .entry)) (getD (now (nodes .entry)) (node + 7) 0))) (now (history .entry)) flag (variables-of depth (now (pos .entry)) (now (byte .entry))) s t (now (run .entry)) r (now (run .exit)) ⌝ }
 {
-    let z = run.len();
-    let o = advance_part(
+    let length = run.len();
+    let outcome = advance_part(
         nodes,
         left,
-        i + NODE_WORDS,
+        node + NODE_WORDS,
         run,
         0,
         CELL_WORDS,
-        z,
+        length,
         history,
         flag,
-        m,
+        depth,
         pos,
         byte,
         s,
         t,
     );
-    match o {
-        Outcome::Open => o,
-        Outcome::Decided(v, d) => match v {
-            Verdict::False => o,
+    match outcome {
+        Outcome::Open => outcome,
+        Outcome::Decided(verdict, step) => match verdict {
+            Verdict::False => outcome,
             Verdict::True => {
-                let g = node_word(nodes, i, SECOND_PART) as usize;
+                let second = node_word(nodes, node, SECOND_PART) as usize;
                 advance(
                     nodes,
                     left,
-                    g,
+                    second,
                     &mut run[CELL_WORDS..],
                     history,
                     flag,
-                    m,
+                    depth,
                     pos,
                     byte,
-                    d,
+                    step,
                     t,
                 )
             }
@@ -280,115 +280,175 @@ fn advance_then(
     }
 }
 
-// "Beside" at word i: its first part, in the words that the node says, and the second, which is left out where the first is false.
+// "Beside" at word `node`: its first part, in the words that the node says, and the second, which is left out where the first is false.
 fn advance_beside(
     nodes: &[u32; TABLE_WORDS],
     left: usize,
-    i: usize,
+    node: usize,
     run: &mut [u32],
     history: &[u8],
     flag: u8,
-    m: usize,
+    depth: usize,
     pos: &[u64; 5],
     byte: &[u8; 5],
     s: u64,
     t: u64,
 ) -> Outcome
-    requires { ⌜ (i < 768) × Fit (beside-node (getD (now nodes) (i + 9) 0) (tree-at left (now nodes) (i + 12)) (tree-at left (now nodes) (getD (now nodes) (i + 7) 0))) (variables-of m (now pos) (now byte)) t (length (now run)) ⌝ }
-    ensures { λ r. ⌜ Advanced (beside-node (getD (now (nodes .entry)) (i + 9) 0) (tree-at left (now (nodes .entry)) (i + 12)) (tree-at left (now (nodes .entry)) (getD (now (nodes .entry)) (i + 7) 0))) (now (history .entry)) flag (variables-of m (now (pos .entry)) (now (byte .entry))) s t (now (run .entry)) r (now (run .exit)) ⌝ }
+    requires { ⌜ (node < 768) × Fit (beside-node (getD (now nodes) (node + 9) 0) (tree-at left (now nodes) (node + 12)) (tree-at left (now nodes) (getD (now nodes) (node + 7) 0))) (variables-of depth (now pos) (now byte)) t (length (now run)) ⌝ }
+    ensures { λ r. ⌜ Advanced (beside-node (getD (now (nodes .entry)) (node + 9) 0) (tree-at left (now (nodes .entry)) (node + 12)) (tree-at left (now (nodes .entry)) (getD (now (nodes .entry)) (node + 7) 0))) (now (history .entry)) flag (variables-of depth (now (pos .entry)) (now (byte .entry))) s t (now (run .entry)) r (now (run .exit)) ⌝ }
 {
-    let z = run.len();
-    let mid = CELL_WORDS + node_word(nodes, i, FIRST_WORDS) as usize;
-    let x = advance_part(
+    let length = run.len();
+    let mid = CELL_WORDS + node_word(nodes, node, FIRST_WORDS) as usize;
+    let first = advance_part(
         nodes,
         left,
-        i + NODE_WORDS,
+        node + NODE_WORDS,
         run,
         0,
         CELL_WORDS,
         mid,
         history,
         flag,
-        m,
+        depth,
         pos,
         byte,
         s,
         t,
     );
-    if is_false(x) {
-        return x;
+    if is_false(first) {
+        return first;
     }
-    let g = node_word(nodes, i, SECOND_PART) as usize;
-    let y = advance_part(
+    let second_node = node_word(nodes, node, SECOND_PART) as usize;
+    let second = advance_part(
         nodes,
         left,
-        g,
+        second_node,
         run,
         1,
         mid,
-        z,
+        length,
         history,
         flag,
-        m,
+        depth,
         pos,
         byte,
         s,
         t,
     );
-    outcomes::both(x, y)
+    outcomes::both(first, second)
 }
 
-// A run of nots from word i on: what stands under it has the same run of cells, and is moved in one call.
+// A run of nots from word `node` on: what stands under it has the same run of cells, and is moved in one call.
 fn advance_not(
     nodes: &[u32; TABLE_WORDS],
     left: usize,
-    i: usize,
+    node: usize,
     run: &mut [u32],
     history: &[u8],
     flag: u8,
-    m: usize,
+    depth: usize,
     pos: &[u64; 5],
     byte: &[u8; 5],
     s: u64,
     t: u64,
 ) -> Outcome
-    requires { ⌜ (left ≡ 0 → ⊥) × ((getD (now nodes) (i + 0) 0 ≡ 2) × Fit (tree-at left (now nodes) i) (variables-of m (now pos) (now byte)) t (length (now run))) ⌝ }
-    ensures { λ r. ⌜ Advanced (tree-at left (now (nodes .entry)) i) (now (history .entry)) flag (variables-of m (now (pos .entry)) (now (byte .entry))) s t (now (run .entry)) r (now (run .exit)) ⌝ }
+    requires { ⌜ (left ≡ 0 → ⊥) × ((getD (now nodes) (node + 0) 0 ≡ 2) × Fit (tree-at left (now nodes) node) (variables-of depth (now pos) (now byte)) t (length (now run))) ⌝ }
+    ensures { λ r. ⌜ Advanced (tree-at left (now (nodes .entry)) node) (now (history .entry)) flag (variables-of depth (now (pos .entry)) (now (byte .entry))) s t (now (run .entry)) r (now (run .exit)) ⌝ }
 {
-    let u = skip_nots(nodes, left, i);
-    let o = advance(nodes, u.left, u.i, run, history, flag, m, pos, byte, s, t);
-    outcomes::opposite_if(u.odd, o)
+    let under = skip_nots(nodes, left, node);
+    let outcome = advance(
+        nodes,
+        under.left,
+        under.node,
+        run,
+        history,
+        flag,
+        depth,
+        pos,
+        byte,
+        s,
+        t,
+    );
+    outcomes::opposite_if(under.odd, outcome)
 }
 
-// Moves the formula at word i, started at s, to tick t. Flags come most often, and are looked for first.
+// Moves the formula at word `node`, started at s, to tick t. Flags come most often, and are looked for first.
 fn advance(
     nodes: &[u32; TABLE_WORDS],
     left: usize,
-    i: usize,
+    node: usize,
     run: &mut [u32],
     history: &[u8],
     flag: u8,
-    m: usize,
+    depth: usize,
     pos: &[u64; 5],
     byte: &[u8; 5],
     s: u64,
     t: u64,
 ) -> Outcome
-    requires { ⌜ Fit (tree-at left (now nodes) i) (variables-of m (now pos) (now byte)) t (length (now run)) ⌝ }
-    ensures { λ r. ⌜ Advanced (tree-at left (now (nodes .entry)) i) (now (history .entry)) flag (variables-of m (now (pos .entry)) (now (byte .entry))) s t (now (run .entry)) r (now (run .exit)) ⌝ }
+    requires { ⌜ Fit (tree-at left (now nodes) node) (variables-of depth (now pos) (now byte)) t (length (now run)) ⌝ }
+    ensures { λ r. ⌜ Advanced (tree-at left (now (nodes .entry)) node) (now (history .entry)) flag (variables-of depth (now (pos .entry)) (now (byte .entry))) s t (now (run .entry)) r (now (run .exit)) ⌝ }
 {
-    if is_flag(nodes, left, i) {
-        return flag_in(nodes, i, byte, s);
+    if is_flag(nodes, left, node) {
+        return flag_in(nodes, node, byte, s);
     }
-    let code = node_word(nodes, i, CODE);
+    let code = node_word(nodes, node, CODE);
     if code == NOT_CODE {
-        return advance_not(nodes, left, i, run, history, flag, m, pos, byte, s, t);
+        return advance_not(
+            nodes,
+            left,
+            node,
+            run,
+            history,
+            flag,
+            depth,
+            pos,
+            byte,
+            s,
+            t,
+        );
     }
     if code == THEN_CODE {
-        return advance_then(nodes, left - 1, i, run, history, flag, m, pos, byte, s, t);
+        return advance_then(
+            nodes,
+            left - 1,
+            node,
+            run,
+            history,
+            flag,
+            depth,
+            pos,
+            byte,
+            s,
+            t,
+        );
     }
     if code == BESIDE_CODE {
-        return advance_beside(nodes, left - 1, i, run, history, flag, m, pos, byte, s, t);
+        return advance_beside(
+            nodes,
+            left - 1,
+            node,
+            run,
+            history,
+            flag,
+            depth,
+            pos,
+            byte,
+            s,
+            t,
+        );
     }
-    advance_range(nodes, left - 1, i, run, history, flag, m, pos, byte, s, t)
+    advance_range(
+        nodes,
+        left - 1,
+        node,
+        run,
+        history,
+        flag,
+        depth,
+        pos,
+        byte,
+        s,
+        t,
+    )
 }

@@ -33,25 +33,25 @@ pub(crate) struct BatchCounts {
     pub live: usize,
 }
 
-// How many of n flags can be taken before the tick numbers end.
-fn flags_left(n: usize, tick: u32) -> usize
-    ensures { λ r. ⌜ r ≡ min n (4294967295 - tick) ⌝ }
+// How many of `count` flags can be taken before the tick numbers end.
+fn flags_left(count: usize, tick: u32) -> usize
+    ensures { λ r. ⌜ r ≡ min count (4294967295 - tick) ⌝ }
 {
     let left = (TICKS - tick) as usize;
-    if n < left { n } else { left }
+    if count < left { count } else { left }
 }
 
-// Puts the step after each of the first n ticks, from the last one down.
-fn spread(report: &mut [u32], n: usize, step: u32)
-    requires { ⌜ 2 * n ≤ length (now report) ⌝ }
-    ensures { λ _. ⌜ now (report .exit) ≡ paired step (take n (now (report .entry))) ++ drop (2 * n) (now (report .entry)) ⌝ }
+// Puts the step after each of the first `count` ticks, from the last one down.
+fn spread(report: &mut [u32], count: usize, step: u32)
+    requires { ⌜ 2 * count ≤ length (now report) ⌝ }
+    ensures { λ _. ⌜ now (report .exit) ≡ paired step (take count (now (report .entry))) ++ drop (2 * count) (now (report .entry)) ⌝ }
 {
-    let mut i = n;
-    while 0 < i {
-        i -= 1;
-        let tick = report[i];
-        report[2 * i] = tick;
-        report[2 * i + 1] = step;
+    let mut at = count;
+    while 0 < at {
+        at -= 1;
+        let tick = report[at];
+        report[2 * at] = tick;
+        report[2 * at + 1] = step;
     }
 }
 
@@ -89,36 +89,36 @@ fn move_flags(
     ensures { λ r. ⌜ FlagsTaken (now (nodes .entry)) figures tick live (now (flags .entry)) (now (history .entry)) (now (cells .entry)) (now (report .entry)) (r .taken) (r .pairs) (r .live) (now (history .exit)) (now (cells .exit)) (now (report .exit)) ⌝ }
 {
     let half = figures.delay as usize + 1;
-    let n = flags_left(flags.len(), tick);
-    let mut i: usize = 0;
+    let count = flags_left(flags.len(), tick);
+    let mut taken: usize = 0;
     let mut pairs: usize = 0;
     let mut still_open = live;
-    while i < n {
+    while taken < count {
         let at = 2 * pairs;
         if report.len() - at < 2 * half {
             return BatchCounts {
-                taken: i,
+                taken,
                 pairs,
                 live: still_open,
             };
         }
-        let t = tick as u64 + i as u64;
+        let t = tick as u64 + taken as u64;
         let moved = move_pairs(
             nodes,
             figures,
             t,
             history,
-            flags[i],
+            flags[taken],
             cells,
             &mut report[at..],
             half,
         );
         pairs += moved.reported;
         still_open = moved.live;
-        i += 1;
+        taken += 1;
     }
     BatchCounts {
-        taken: i,
+        taken,
         pairs,
         live: still_open,
     }
@@ -148,10 +148,10 @@ pub fn take_batch(
         &mut nodes,
     );
     match admitted {
-        FigureAnswer::Refused(x) => BatchAnswer::Refused(x),
-        FigureAnswer::Sized(f) => {
-            let p = move_flags(&nodes, f, tick, live, flags, history, cells, report);
-            BatchAnswer::Taken(p.taken, p.pairs, p.live)
+        FigureAnswer::Refused(refusal) => BatchAnswer::Refused(refusal),
+        FigureAnswer::Sized(figures) => {
+            let counts = move_flags(&nodes, figures, tick, live, flags, history, cells, report);
+            BatchAnswer::Taken(counts.taken, counts.pairs, counts.live)
         }
     }
 }

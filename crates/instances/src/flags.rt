@@ -13,14 +13,14 @@ use nodes::VARIABLE;
 use nodes::node_word;
 use rule::Outcome;
 
-// Whether the formula at word i is a flag: so is every code but 2 to 5, and whatever stands there with no formula left.
-pub(crate) fn is_flag(nodes: &[u32], left: usize, i: usize) -> bool
-    ensures { λ r. ⌜ (r ≡ true → tree-at left (now (nodes .entry)) i ≡ flag-node (getD (now (nodes .entry)) (i + 1) 0) (getD (now (nodes .entry)) (i + 2) 0)) × (r ≡ false → HasParts left (now (nodes .entry)) i) ⌝ }
+// Whether the formula at word `node` is a flag: so is every code but 2 to 5, and whatever stands there with no formula left.
+pub(crate) fn is_flag(nodes: &[u32], left: usize, node: usize) -> bool
+    ensures { λ r. ⌜ (r ≡ true → tree-at left (now (nodes .entry)) node ≡ flag-node (getD (now (nodes .entry)) (node + 1) 0) (getD (now (nodes .entry)) (node + 2) 0)) × (r ≡ false → HasParts left (now (nodes .entry)) node) ⌝ }
 {
     if left == 0 {
         return true;
     }
-    let code = node_word(nodes, i, CODE);
+    let code = node_word(nodes, node, CODE);
     if code < NOT_CODE {
         return true;
     }
@@ -30,12 +30,12 @@ pub(crate) fn is_flag(nodes: &[u32], left: usize, i: usize) -> bool
     false
 }
 
-// The flag whose node starts at word i, at step s.
-pub(crate) fn flag_in(nodes: &[u32], i: usize, byte: &[u8; 5], s: u64) -> Outcome
-    requires { ⌜ getD (now nodes) (i + 1) 0 < 5 ⌝ }
-    ensures { λ r. ⌜ r ≡ flagged (now (byte .entry)) (getD (now (nodes .entry)) (i + 1) 0) (getD (now (nodes .entry)) (i + 2) 0) s ⌝ }
+// The flag whose node starts at word `node`, at step s.
+pub(crate) fn flag_in(nodes: &[u32], node: usize, byte: &[u8; 5], s: u64) -> Outcome
+    requires { ⌜ getD (now nodes) (node + 1) 0 < 5 ⌝ }
+    ensures { λ r. ⌜ r ≡ flagged (now (byte .entry)) (getD (now (nodes .entry)) (node + 1) 0) (getD (now (nodes .entry)) (node + 2) 0) s ⌝ }
 {
-    let v = node_word(nodes, i, VARIABLE) as usize;
-    let k = node_word(nodes, i, FLAG);
-    outcomes::flag_outcome(byte[v], k, s)
+    let variable = node_word(nodes, node, VARIABLE) as usize;
+    let k = node_word(nodes, node, FLAG);
+    outcomes::flag_outcome(byte[variable], k, s)
 }

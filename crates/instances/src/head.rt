@@ -11,44 +11,58 @@ use cells::elapsed;
 use cells::head_of;
 use cells::step_after;
 
-// What the head cell says at tick t, of n positions; none where the range starts now.
-pub(crate) fn load_head(run: &[u32], p: u32, s: u64, t: u64, n: u64) -> Head
+// What the head cell says at tick t, of so many positions; none where the range starts now.
+pub(crate) fn load_head(run: &[u32], p: u32, s: u64, t: u64, positions: u64) -> Head
     requires { ⌜ 4 ≤ length (now run) ⌝ }
-    ensures { λ r. ⌜ (r .leading ≡ leading-of s t n (getD (now (run .entry)) 0 0)) × (r .latest ≡ latest-of p s (r .leading) (getD (now (run .entry)) 2 0)) ⌝ }
+    ensures { λ r. ⌜ (r .leading ≡ leading-of s t positions (getD (now (run .entry)) 0 0)) × (r .latest ≡ latest-of p s (r .leading) (getD (now (run .entry)) 2 0)) ⌝ }
 {
-    head_of(run[0], run[2], p, s, t, n)
+    head_of(run[0], run[2], p, s, t, positions)
 }
 
 // Moves the head on over the slots, while they hold true.
-fn leading_true(slots: &[u32], leading: u64, n: u64, z: usize, p: u32, latest: u64) -> Head
-    requires { ⌜ HeadFit z n leading (4 + length (now slots)) ⌝ }
-    ensures { λ r. ⌜ MovedOn p z n (now (slots .entry)) leading latest (r .leading) (r .latest) ⌝ }
+fn leading_true(
+    slots: &[u32],
+    leading: u64,
+    positions: u64,
+    size: usize,
+    p: u32,
+    latest: u64,
+) -> Head
+    requires { ⌜ HeadFit size positions leading (4 + length (now slots)) ⌝ }
+    ensures { λ r. ⌜ MovedOn p size positions (now (slots .entry)) leading latest (r .leading) (r .latest) ⌝ }
 {
-    let mut l = leading;
-    let mut m = latest;
-    while l < n {
-        let at = (l as usize) * z;
+    let mut count = leading;
+    let mut step = latest;
+    while count < positions {
+        let at = (count as usize) * size;
         if slots[at] != 1 {
             return Head {
-                leading: l,
-                latest: m,
+                leading: count,
+                latest: step,
             };
         }
-        m = outcomes::later(m, step_after(p, slots[at + 2]));
-        l += 1;
+        step = outcomes::later(step, step_after(p, slots[at + 2]));
+        count += 1;
     }
     Head {
-        leading: l,
-        latest: m,
+        leading: count,
+        latest: step,
     }
 }
 
 // Moves the head on and writes its cell.
-pub(crate) fn move_head(run: &mut [u32], leading: u64, n: u64, z: usize, p: u32, latest: u64)
-    requires { ⌜ HeadFit z n leading (length (now run)) ⌝ }
-    ensures { λ _. ⌜ HeadMoved p z n (now (run .entry)) leading latest (now (run .exit)) ⌝ }
+pub(crate) fn move_head(
+    run: &mut [u32],
+    leading: u64,
+    positions: u64,
+    size: usize,
+    p: u32,
+    latest: u64,
+)
+    requires { ⌜ HeadFit size positions leading (length (now run)) ⌝ }
+    ensures { λ _. ⌜ HeadMoved p size positions (now (run .entry)) leading latest (now (run .exit)) ⌝ }
 {
-    let head = leading_true(&run[CELL_WORDS..], leading, n, z, p, latest);
+    let head = leading_true(&run[CELL_WORDS..], leading, positions, size, p, latest);
     run[2] = elapsed(p, head.latest);
     run[0] = (head.leading % WORD_VALUES) as u32;
 }

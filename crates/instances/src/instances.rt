@@ -39,9 +39,9 @@ fn move_instance(
     ensures { λ r. ⌜ InstanceMoved (tree-at left (now (nodes .entry)) 0) (now (history .entry)) flag t p (now (run .entry)) r (now (run .exit)) ⌝ }
 {
     if p != t {
-        let h = load_outcome(run, 0, p as u32);
-        if let Outcome::Decided(_, _) = h {
-            return h;
+        let held = load_outcome(run, 0, p as u32);
+        if let Outcome::Decided(_, _) = held {
+            return held;
         }
     }
     let pos = [0u64; 5];
@@ -50,27 +50,27 @@ fn move_instance(
 }
 
 // One for an open outcome.
-fn one_if_open(o: Outcome) -> usize
-    ensures { λ r. ⌜ (r ≡ open-count o) × (r ≤ 1) ⌝ }
+fn one_if_open(outcome: Outcome) -> usize
+    ensures { λ r. ⌜ (r ≡ open-count outcome) × (r ≤ 1) ⌝ }
 {
-    match o {
+    match outcome {
         Outcome::Open => 1,
         Outcome::Decided(_, _) => 0,
     }
 }
 
-// Writes p into the report where o is false at step t, and answers the next place.
-fn report_if_false(report: &mut [u32], at: usize, o: Outcome, t: u64, p: u32) -> usize
+// Writes p into the report where the outcome is false at step t, and answers the next place.
+fn report_if_false(report: &mut [u32], at: usize, outcome: Outcome, t: u64, p: u32) -> usize
     requires { ⌜ at < length (now report) ⌝ }
-    ensures { λ r. ⌜ (r ≡ at + length (tick-if-false o t p)) × (r ≤ at + 1) ⌝ }
-    ensures { λ r. ⌜ now (report .exit) ≡ take at (now (report .entry)) ++ (tick-if-false o t p ++ drop r (now (report .entry))) ⌝ }
+    ensures { λ r. ⌜ (r ≡ at + length (tick-if-false outcome t p)) × (r ≤ at + 1) ⌝ }
+    ensures { λ r. ⌜ now (report .exit) ≡ take at (now (report .entry)) ++ (tick-if-false outcome t p ++ drop r (now (report .entry))) ⌝ }
 {
-    match o {
+    match outcome {
         Outcome::Open => at,
-        Outcome::Decided(v, d) => match v {
+        Outcome::Decided(verdict, step) => match verdict {
             Verdict::True => at,
             Verdict::False => {
-                if d == t {
+                if step == t {
                     report[at] = p;
                     at + 1
                 } else {
@@ -81,26 +81,26 @@ fn report_if_false(report: &mut [u32], at: usize, o: Outcome, t: u64, p: u32) ->
     }
 }
 
-// The oldest of the last n ticks up to t.
-fn oldest_tick(t: u64, n: u64) -> u64
+// The oldest of the last `count` ticks up to t.
+fn oldest_tick(t: u64, count: u64) -> u64
     requires { ⌜ t < 4294967296 ⌝ }
-    ensures { λ r. ⌜ r ≡ t + 1 - n ⌝ }
+    ensures { λ r. ⌜ r ≡ t + 1 - count ⌝ }
 {
-    if t + 1 <= n {
+    if t + 1 <= count {
         return 0;
     }
-    t + 1 - n
+    t + 1 - count
 }
 
-// The slot after slot j of n; after the last comes the first. Counting on saves a division for each tick.
-fn next_slot(j: u64, n: u64) -> u64
-    requires { ⌜ j < n ⌝ }
-    ensures { λ r. ⌜ r ≡ cond (eqb (j + 1) n) 0 (j + 1) ⌝ }
+// The slot after this one of `count`; after the last comes the first. Counting on saves a division for each tick.
+fn next_slot(slot: u64, count: u64) -> u64
+    requires { ⌜ slot < count ⌝ }
+    ensures { λ r. ⌜ r ≡ cond (eqb (slot + 1) count) 0 (slot + 1) ⌝ }
 {
-    if j + 1 == n { 0 } else { j + 1 }
+    if slot + 1 == count { 0 } else { slot + 1 }
 }
 
-// Moves the ticks from `low` to t, each in its slot of c words.
+// Moves the ticks from `low` to t, each in its slot of `size` words.
 fn move_ticks(
     nodes: &[u32; TABLE_WORDS],
     left: usize,
@@ -110,26 +110,26 @@ fn move_ticks(
     report: &mut [u32],
     t: u64,
     low: u64,
-    n: u64,
-    c: usize,
+    count: u64,
+    size: usize,
 ) -> Moved
-    requires { ⌜ TicksFit (tree-at left (now nodes) 0) t n c (length (now table)) (length (now report)) ⌝ }
-    requires { ⌜ low ≡ t + 1 - n ⌝ }
-    ensures { λ r. ⌜ TicksMoved (tree-at left (now (nodes .entry)) 0) n c (now (history .entry)) flag t low (now (table .entry)) (now (report .entry)) (r .reported) (r .live) (now (table .exit)) (now (report .exit)) ⌝ }
-    ensures { λ r. ⌜ Spared n (n * c) (now (table .entry)) (now (report .entry)) (r .reported) (r .live) (now (table .exit)) (now (report .exit)) ⌝ }
+    requires { ⌜ TicksFit (tree-at left (now nodes) 0) t count size (length (now table)) (length (now report)) ⌝ }
+    requires { ⌜ low ≡ t + 1 - count ⌝ }
+    ensures { λ r. ⌜ TicksMoved (tree-at left (now (nodes .entry)) 0) count size (now (history .entry)) flag t low (now (table .entry)) (now (report .entry)) (r .reported) (r .live) (now (table .exit)) (now (report .exit)) ⌝ }
+    ensures { λ r. ⌜ Spared count (count * size) (now (table .entry)) (now (report .entry)) (r .reported) (r .live) (now (table .exit)) (now (report .exit)) ⌝ }
 {
     let mut p = low;
     let mut reported: usize = 0;
     let mut live: usize = 0;
-    let mut j = low % n;
+    let mut slot = low % count;
     while p <= t {
-        let at = (j as usize) * c;
-        let end = at + c;
-        let o = move_instance(nodes, left, &mut table[at..end], history, flag, p, t);
-        reported = report_if_false(report, reported, o, t, p as u32);
-        live = live + one_if_open(o);
+        let at = (slot as usize) * size;
+        let end = at + size;
+        let outcome = move_instance(nodes, left, &mut table[at..end], history, flag, p, t);
+        reported = report_if_false(report, reported, outcome, t, p as u32);
+        live = live + one_if_open(outcome);
         p = p + 1;
-        j = next_slot(j, n);
+        slot = next_slot(slot, count);
     }
     Moved { reported, live }
 }
@@ -148,10 +148,21 @@ pub(crate) fn move_tick(
     requires { ⌜ TickFit (now nodes) figures (length (now history)) t (length (now cells)) (length (now report)) ⌝ }
     ensures { λ r. ⌜ TickMoved (now (nodes .entry)) figures t (now (history .entry)) flag (now (cells .entry)) (now (report .entry)) (r .reported) (r .live) (now (history .exit)) (now (cells .exit)) (now (report .exit)) ⌝ }
 {
-    let n = figures.delay + 1;
-    let c = (figures.cells / n) as usize * CELL_WORDS;
-    let low = oldest_tick(t, n);
-    let moved = move_ticks(nodes, FORMULAS, cells, history, flag, report, t, low, n, c);
+    let count = figures.delay + 1;
+    let size = (figures.cells / count) as usize * CELL_WORDS;
+    let low = oldest_tick(t, count);
+    let moved = move_ticks(
+        nodes,
+        FORMULAS,
+        cells,
+        history,
+        flag,
+        report,
+        t,
+        low,
+        count,
+        size,
+    );
     remember(history, t, flag);
     moved
 }

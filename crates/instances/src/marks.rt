@@ -9,31 +9,31 @@ use cells::outcome_of;
 use rule::Outcome;
 use rule::Verdict;
 
-// The outcome that the words k and k + 2 of a cell hold.
-pub(crate) fn load_outcome(cell: &[u32], k: usize, p: u32) -> Outcome
-    requires { ⌜ (4 ≤ length (now cell)) × (k < 2) ⌝ }
-    ensures { λ r. ⌜ r ≡ held p (getD (now (cell .entry)) k 0) (getD (now (cell .entry)) (k + 2) 0) ⌝ }
+// The outcome that the words `word` and `word` + 2 of a cell hold.
+pub(crate) fn load_outcome(cell: &[u32], word: usize, p: u32) -> Outcome
+    requires { ⌜ (4 ≤ length (now cell)) × (word < 2) ⌝ }
+    ensures { λ r. ⌜ r ≡ held p (getD (now (cell .entry)) word 0) (getD (now (cell .entry)) (word + 2) 0) ⌝ }
 {
-    outcome_of(cell[k], cell[k + 2], p)
+    outcome_of(cell[word], cell[word + 2], p)
 }
 
-// Writes an outcome into the words k and k + 2 of a cell.
-pub(crate) fn store_outcome(cell: &mut [u32], k: usize, p: u32, o: Outcome)
-    requires { ⌜ (4 ≤ length (now cell)) × (k < 2) ⌝ }
-    ensures { λ _. ⌜ now (cell .exit) ≡ mark p k o (now (cell .entry)) ⌝ }
+// Writes an outcome into the words `word` and `word` + 2 of a cell.
+pub(crate) fn store_outcome(cell: &mut [u32], word: usize, p: u32, outcome: Outcome)
+    requires { ⌜ (4 ≤ length (now cell)) × (word < 2) ⌝ }
+    ensures { λ _. ⌜ now (cell .exit) ≡ mark p word outcome (now (cell .entry)) ⌝ }
 {
-    match o {
+    match outcome {
         Outcome::Open => {
-            cell[k] = 0;
+            cell[word] = 0;
         }
-        Outcome::Decided(v, d) => {
-            cell[k + 2] = elapsed(p, d);
-            match v {
+        Outcome::Decided(verdict, step) => {
+            cell[word + 2] = elapsed(p, step);
+            match verdict {
                 Verdict::True => {
-                    cell[k] = 1;
+                    cell[word] = 1;
                 }
                 Verdict::False => {
-                    cell[k] = 2;
+                    cell[word] = 2;
                 }
             }
         }
@@ -49,11 +49,11 @@ pub(crate) fn own_tick(pos: &[u64; 5]) -> u32
 }
 
 // Whether an outcome is false.
-pub(crate) fn is_false(o: Outcome) -> bool
-    ensures { λ r. ⌜ (r ≡ true → (d : ℕ) × (o ≡ Outcome.Decided Verdict.False d)) ⌝ }
+pub(crate) fn is_false(outcome: Outcome) -> bool
+    ensures { λ r. ⌜ (r ≡ true → (step : ℕ) × (outcome ≡ Outcome.Decided Verdict.False step)) ⌝ }
 {
-    match o {
-        Outcome::Decided(v, _) => match v {
+    match outcome {
+        Outcome::Decided(verdict, _) => match verdict {
             Verdict::True => false,
             Verdict::False => true,
         },
@@ -62,8 +62,8 @@ pub(crate) fn is_false(o: Outcome) -> bool
 }
 
 // A byte as a word.
-pub(crate) fn wide(b: u8) -> u32
-    ensures { λ r. ⌜ (r ≡ b) × (r < 256) ⌝ }
+pub(crate) fn wide(byte: u8) -> u32
+    ensures { λ r. ⌜ (r ≡ byte) × (r < 256) ⌝ }
 {
-    b as u32
+    byte as u32
 }

@@ -34,9 +34,9 @@ pub fn take_step(
         &mut nodes,
     );
     match admitted {
-        FigureAnswer::Refused(x) => StepAnswer::Refused(x),
-        FigureAnswer::Sized(f) => {
-            let moved = move_tick(&nodes, f, tick as u64, history, flag, cells, report);
+        FigureAnswer::Refused(refusal) => StepAnswer::Refused(refusal),
+        FigureAnswer::Sized(figures) => {
+            let moved = move_tick(&nodes, figures, tick as u64, history, flag, cells, report);
             StepAnswer::Taken(moved.reported, moved.live)
         }
     }

@@ -17,15 +17,15 @@ use nodes::VARIABLE;
 use nodes::has_second_part;
 use nodes::node_word;
 
-// The bound whose words start at word j: only one of kind 2 has a variable.
-fn bound_names(nodes: &[u32], j: usize, v: u32) -> bool
-    ensures { λ r. ⌜ r ≡ bound-names v (bound-at (now (nodes .entry)) j) ⌝ }
+// The bound whose words start at word `at`: only one of kind 2 has a variable.
+fn bound_names(nodes: &[u32], at: usize, variable: u32) -> bool
+    ensures { λ r. ⌜ r ≡ bound-names variable (bound-at (now (nodes .entry)) at) ⌝ }
 {
-    let kind = node_word(nodes, j, KIND);
+    let kind = node_word(nodes, at, KIND);
     if kind <= INFINITY_KIND {
         return false;
     }
-    node_word(nodes, j, BOUND_VARIABLE) == v
+    node_word(nodes, at, BOUND_VARIABLE) == variable
 }
 
 // Whether the formula at word `node`, inside `depth` quantifiers, with `left` formulas left, names the variable: at a flag, or in a bound of a quantifier inside. This holds of every

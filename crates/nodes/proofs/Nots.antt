@@ -16,21 +16,21 @@ module _ (ns : List ℕ) where
   unfolding past-nots
   at-not left i odd c = simp (eq-eqb (getD ns (i + 0) 0) 2 c)
 
-  pub at-other : (left i : ℕ) (odd : Bool) → (getD ns (i + 0) 0 ≡ 2 → ⊥) → past-nots (suc left) ns i odd ≡ record { left = suc left; i = i; odd = odd }
+  pub at-other : (left i : ℕ) (odd : Bool) → (getD ns (i + 0) 0 ≡ 2 → ⊥) → past-nots (suc left) ns i odd ≡ record { left = suc left; node = i; odd = odd }
   unfolding past-nots
   at-other left i odd c = simp (ne-eqb (getD ns (i + 0) 0) 2 c)
 
-  pub at-end : (i : ℕ) (odd : Bool) → past-nots zero ns i odd ≡ record { left = zero; i = i; odd = odd }
+  pub at-end : (i : ℕ) (odd : Bool) → past-nots zero ns i odd ≡ record { left = zero; node = i; odd = odd }
   unfolding past-nots
   at-end i odd = refl
 
   -- What one not passes on upward, a run of nots passes on: from the formula u under it to the one at word i.
   pub over-nots : (P : Bool → ℕ → ℕ → Type 0) → ((odd : Bool) (left i : ℕ) → getD ns (i + 0) 0 ≡ 2 → P (not odd) left (i + 12) → P odd (suc left) i)
-      → (left i : ℕ) (odd : Bool) (u : Operand) → u ≡ past-nots left ns i odd → P (u .odd) (u .left) (u .i) → P odd left i
-  over-nots P step zero i odd u e = subst (λ (x : Operand). P (x .odd) (x .left) (x .i)) (e ∙ at-end i odd)
+      → (left i : ℕ) (odd : Bool) (u : Operand) → u ≡ past-nots left ns i odd → P (u .odd) (u .left) (u .node) → P odd left i
+  over-nots P step zero i odd u e = subst (λ (x : Operand). P (x .odd) (x .left) (x .node)) (e ∙ at-end i odd)
   over-nots P step (suc left) i odd u e = elim (ℕ-discrete (getD ns (i + 0) 0) 2) [
     | yes c ↦ λ p. step odd left i c (over-nots P step left (i + 12) (not odd) u (e ∙ at-not left i odd c) p)
-    | no c ↦ subst (λ (x : Operand). P (x .odd) (x .left) (x .i)) (e ∙ at-other left i odd c)
+    | no c ↦ subst (λ (x : Operand). P (x .odd) (x .left) (x .node)) (e ∙ at-other left i odd c)
   ]
 
   -- Under the nots no more formulas are left than above, fewer where a not stands; and no not stands there.
@@ -41,9 +41,9 @@ module _ (ns : List ℕ) where
   nots-less zero i odd u e h c = absurd (h refl)
   nots-less (suc left) i odd u e h c = omega (arith, nots-left left (i + 12) (not odd) u (e ∙ at-not left i odd c))
 
-  pub nots-end : (left i : ℕ) (odd : Bool) (u : Operand) → u ≡ past-nots left ns i odd → (u .left ≡ 0 → ⊥) → getD ns (u .i + 0) 0 ≡ 2 → ⊥
+  pub nots-end : (left i : ℕ) (odd : Bool) (u : Operand) → u ≡ past-nots left ns i odd → (u .left ≡ 0 → ⊥) → getD ns (u .node + 0) 0 ≡ 2 → ⊥
   nots-end zero i odd u e h = absurd (h (ap (λ (x : Operand). x .left) (e ∙ at-end i odd)))
   nots-end (suc left) i odd u e h = elim (ℕ-discrete (getD ns (i + 0) 0) 2) [
     | yes c ↦ nots-end left (i + 12) (not odd) u (e ∙ at-not left i odd c) h
-    | no c ↦ λ d. c (ap (λ (x : Operand). getD ns (x .i + 0) 0) (sym (e ∙ at-other left i odd c)) ∙ d)
+    | no c ↦ λ d. c (ap (λ (x : Operand). getD ns (x .node + 0) 0) (sym (e ∙ at-other left i odd c)) ∙ d)
   ]

@@ -10,7 +10,7 @@ use crate::node_word;
 // The formula under a run of nots: its word, the formulas left there, and whether the nots are odd in number.
 pub struct Operand {
     pub left: usize,
-    pub i: usize,
+    pub node: usize,
     pub odd: bool,
 }
 
@@ -18,24 +18,24 @@ pub struct Operand {
 pub fn skip_nots(nodes: &[u32], left: usize, node: usize) -> Operand
     ensures { λ r. ⌜ r ≡ past-nots left (now (nodes .entry)) node false ⌝ }
 {
-    let mut rest = left;
+    let mut remaining = left;
     let mut at = node;
     let mut odd = false;
-    while 0 < rest {
+    while 0 < remaining {
         if node_word(nodes, at, CODE) != NOT_CODE {
             return Operand {
-                left: rest,
-                i: at,
+                left: remaining,
+                node: at,
                 odd,
             };
         }
-        rest -= 1;
+        remaining -= 1;
         at += NODE_WORDS;
         odd = !odd;
     }
     Operand {
-        left: rest,
-        i: at,
+        left: remaining,
+        node: at,
         odd,
     }
 }

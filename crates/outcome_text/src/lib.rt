@@ -17,11 +17,11 @@ pub fn number(value: u64) {
 // A name and then bytes, each as a space and two digits.
 pub fn bytes(name: &[u8], value: &[u8]) {
     text(name);
-    let mut i = 0;
-    while i < value.len() {
+    let mut at = 0;
+    while at < value.len() {
         text(b" ");
-        io::print_hex(STDOUT_FILENO, wide(value[i]), 2);
-        i += 1;
+        io::print_hex(STDOUT_FILENO, wide(value[at]), 2);
+        at += 1;
     }
     text(b"\n");
 }
@@ -34,10 +34,10 @@ pub fn outcome(body: &[u8], flags: &[u8], tick: usize) {
     text(b"\n");
 }
 
-fn answer(a: Evaluated) {
-    match a {
-        Evaluated::Answered(o) => match o {
-            Outcome::Decided(v, d) => decided(v, d),
+fn answer(answer: Evaluated) {
+    match answer {
+        Evaluated::Answered(outcome) => match outcome {
+            Outcome::Decided(verdict, step) => decided(verdict, step),
             Outcome::Open => text(b"open"),
         },
         Evaluated::Refused(why) => {
@@ -47,14 +47,14 @@ fn answer(a: Evaluated) {
     }
 }
 
-fn decided(v: Verdict, d: u64) {
-    match v {
+fn decided(verdict: Verdict, step: u64) {
+    match verdict {
         Verdict::True => text(b"true at "),
         Verdict::False => text(b"false at "),
     }
-    number(d);
+    number(step);
 }
 
-fn wide(b: u8) -> u64 {
-    b as u64
+fn wide(byte: u8) -> u64 {
+    byte as u64
 }

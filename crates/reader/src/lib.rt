@@ -30,33 +30,33 @@ pub enum Reading {
     Refused(Refusal),
 }
 
-// Reads the formula at a position, inside m quantifiers and with some formulas left, into the table.
-fn read_formula(s: &[u8], nodes: &mut [u32], at: usize, m: usize, left: usize) -> Part
+// Reads the formula at a position, inside `depth` quantifiers and with some formulas left, into the table.
+fn read_formula(body: &[u8], nodes: &mut [u32], at: usize, depth: usize, left: usize) -> Part
     requires { ⌜ (left ≤ 64) × (768 ≤ length (now nodes)) ⌝ }
-    ensures { λ r. ⌜ Filled (now (s .entry)) at m left (now (nodes .entry)) r (now (nodes .exit)) ⌝ }
+    ensures { λ r. ⌜ Filled (now (body .entry)) at depth left (now (nodes .entry)) r (now (nodes .exit)) ⌝ }
 {
-    let check = head_check(s, at, m, left);
-    if let Check::Refused(x) = check {
-        return Part::Refused(x);
+    let check = head_check(body, at, depth, left);
+    if let Check::Refused(refusal) = check {
+        return Part::Refused(refusal);
     }
-    let i = node_place(left);
-    write_head(s, at, nodes, i);
-    let code = s[at];
+    let node = node_place(left);
+    write_head(body, at, nodes, node);
+    let code = body[at];
     if code == FLAG_CODE_BYTE {
         return Part::Ended(at + 3, left - 1);
     }
     if code == NOT_CODE_BYTE {
-        return read_formula(s, nodes, at + 1, m, left - 1);
+        return read_formula(body, nodes, at + 1, depth, left - 1);
     }
     if code == FORALL_CODE_BYTE {
-        return read_formula(s, nodes, at + 9, m + 1, left - 1);
+        return read_formula(body, nodes, at + 9, depth + 1, left - 1);
     }
-    let first = read_formula(s, nodes, at + 1, m, left - 1);
+    let first = read_formula(body, nodes, at + 1, depth, left - 1);
     match first {
-        Part::Refused(x) => Part::Refused(x),
+        Part::Refused(refusal) => Part::Refused(refusal),
         Part::Ended(next, rest) => {
-            write_second(nodes, i, rest);
-            read_formula(s, nodes, next, m, rest)
+            write_second(nodes, node, rest);
+            read_formula(body, nodes, next, depth, rest)
         }
     }
 }
@@ -68,9 +68,9 @@ pub fn read_body(body: &[u8], nodes: &mut [u32; TABLE_WORDS]) -> Reading
 {
     let part = read_formula(body, nodes, 0, 0, FORMULAS);
     match part {
-        Part::Refused(x) => {
+        Part::Refused(refusal) => {
             clear(nodes);
-            Reading::Refused(x)
+            Reading::Refused(refusal)
         }
         Part::Ended(next, _) => {
             if next == body.len() {

@@ -9,32 +9,32 @@ use nodes::SECOND_PART;
 use words::byte_after;
 use words::word_at;
 
-// Word k of the node of the formula whose bytes start at a position.
-fn head_word(s: &[u8], at: usize, k: usize) -> u32
-    requires { ⌜ (at < length (now s)) × (k < 7) ⌝ }
-    ensures { λ r. ⌜ r ≡ head-word (now (s .entry)) at k ⌝ }
+// Word `index` of the node of the formula whose bytes start at a position.
+fn head_word(body: &[u8], at: usize, index: usize) -> u32
+    requires { ⌜ (at < length (now body)) × (index < 7) ⌝ }
+    ensures { λ r. ⌜ r ≡ head-word (now (body .entry)) at index ⌝ }
 {
-    if k < 3 {
-        return byte_after(s, at, k) as u32;
+    if index < 3 {
+        return byte_after(body, at, index) as u32;
     }
-    if k == 3 {
-        return word_at(s, at + 3) as u32;
+    if index == 3 {
+        return word_at(body, at + 3) as u32;
     }
-    if k == 6 {
-        return word_at(s, at + 7) as u32;
+    if index == 6 {
+        return word_at(body, at + 7) as u32;
     }
-    byte_after(s, at, k + 1) as u32
+    byte_after(body, at, index + 1) as u32
 }
 
 // Writes a node's words 0 to 6.
-pub(crate) fn write_head(s: &[u8], at: usize, nodes: &mut [u32], i: usize)
-    requires { ⌜ (at < length (now s)) × (i + 12 ≤ length (now nodes)) ⌝ }
-    ensures { λ _. ⌜ Headed (now (s .entry)) at i (now (nodes .entry)) (now (nodes .exit)) ⌝ }
+pub(crate) fn write_head(body: &[u8], at: usize, nodes: &mut [u32], node: usize)
+    requires { ⌜ (at < length (now body)) × (node + 12 ≤ length (now nodes)) ⌝ }
+    ensures { λ _. ⌜ Headed (now (body .entry)) at node (now (nodes .entry)) (now (nodes .exit)) ⌝ }
 {
-    let mut k: usize = 0;
-    while k < 7 {
-        nodes[i + k] = head_word(s, at, k);
-        k += 1;
+    let mut index: usize = 0;
+    while index < 7 {
+        nodes[node + index] = head_word(body, at, index);
+        index += 1;
     }
 }
 
@@ -47,9 +47,9 @@ pub(crate) fn node_place(left: usize) -> usize
 }
 
 // Writes where a node's second part starts, whose node is written where so many of 64 are left.
-pub(crate) fn write_second(nodes: &mut [u32], i: usize, rest: usize)
-    requires { ⌜ (rest ≤ 64) × (i + 12 ≤ length (now nodes)) ⌝ }
-    ensures { λ _. ⌜ now (nodes .exit) ≡ set (now (nodes .entry)) (i + 7) (node-start rest) ⌝ }
+pub(crate) fn write_second(nodes: &mut [u32], node: usize, rest: usize)
+    requires { ⌜ (rest ≤ 64) × (node + 12 ≤ length (now nodes)) ⌝ }
+    ensures { λ _. ⌜ now (nodes .exit) ≡ set (now (nodes .entry)) (node + 7) (node-start rest) ⌝ }
 {
-    nodes[i + SECOND_PART] = node_place(rest) as u32;
+    nodes[node + SECOND_PART] = node_place(rest) as u32;
 }

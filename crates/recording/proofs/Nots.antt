@@ -18,13 +18,13 @@ use Rattle.recording.proofs.Environment.{ready-part}
 use Rattle.naming.proofs.Nodes.{negate-next}
 
 module _ (ns : List ℕ) (left i : ℕ) (u : Operand) (e : u ≡ past-nots left ns i false) where
-  pub ready-nots : {t : ℕ} {env : Env} → Evaluable left i t env → Evaluable (u .left) (u .i) t env
+  pub ready-nots : {t : ℕ} {env : Env} → Evaluable left i t env → Evaluable (u .left) (u .node) t env
   ready-nots {t} {env} =
-      over-nots ns (λ odd n j. Evaluable n j t env → Evaluable (u .left) (u .i) t env)
+      over-nots ns (λ odd n j. Evaluable n j t env → Evaluable (u .left) (u .node) t env)
       (λ odd n j c below r. below (subst (λ (k : ℕ). Evaluable k (j + 12) t env) (omega arith) (ready-part r (λ z. omega arith) (omega (arith, r .near)))))
       left i false u e (λ r. r)
 
-  pub by-nots : (m : ℕ) (flags : ℕ → ℕ) (t : ℕ) (env : List ℕ) (s : ℕ) (o r : Outcome) → o ≡ outcome (formula-in (u .left) ns m (u .i)) flags t env s
+  pub by-nots : (m : ℕ) (flags : ℕ → ℕ) (t : ℕ) (env : List ℕ) (s : ℕ) (o r : Outcome) → o ≡ outcome (formula-in (u .left) ns m (u .node)) flags t env s
       → r ≡ cond (u .odd) (opposite o) o → r ≡ outcome (formula-in left ns m i) flags t env s
   unfolding outcome
   by-nots m flags t env s o r eo er =

@@ -7,15 +7,15 @@ ghost use Rattle.rule.specs.Naming.{names};
 ghost use Rattle.nodes.specs.Table.{formula-in};
 use nodes::NODE_WORDS;
 
-// Whether the range at word i, inside m quantifiers, has n positions that are more than one, and a body that does not name its variable. One
+// Whether the range at word `node`, inside `depth` quantifiers, has more than one position and a body that does not name its variable. One
 // position alone is evaluated as it is, and none costs nothing.
-pub(crate) fn alike(nodes: &[u32], left: u64, m: usize, i: usize, n: u64) -> bool
-    requires { ⌜ (i ≤ 4294968064) × (m < 4) ⌝ }
-    ensures { λ r. ⌜ r ≡ (ltb 1 n && not (names (m + 1) (formula-in left (now (nodes .entry)) (m + 1) (i + 12)))) ⌝ }
+pub(crate) fn alike(nodes: &[u32], left: u64, depth: usize, node: usize, positions: u64) -> bool
+    requires { ⌜ (node ≤ 4294968064) × (depth < 4) ⌝ }
+    ensures { λ r. ⌜ r ≡ (ltb 1 positions && not (names (depth + 1) (formula-in left (now (nodes .entry)) (depth + 1) (node + 12)))) ⌝ }
 {
-    if n <= 1 {
+    if positions <= 1 {
         return false;
     }
-    let v = m + 1;
-    !naming::names(nodes, left, v, i + NODE_WORDS, v as u32)
+    let variable = depth + 1;
+    !naming::names(nodes, left, variable, node + NODE_WORDS, variable as u32)
 }

@@ -25,20 +25,20 @@ pub(crate) fn enter(env: Env, q: u64) -> Env
     requires { ⌜ env .nested < 4 ⌝ }
     ensures { λ r. ⌜ r ≡ entered env q ⌝ }
 {
-    let v = env.nested + 1;
-    let mut e = env;
-    e.pos[v] = q;
-    e.nested = v;
-    e
+    let variable = env.nested + 1;
+    let mut inner = env;
+    inner.pos[variable] = q;
+    inner.nested = variable;
+    inner
 }
 
-// The position of variable v; 0 if there is none.
-pub(crate) fn position(env: Env, v: u32) -> u64
-    ensures { λ r. ⌜ r ≡ getD (env .pos) v 0 ⌝ }
+// The position of a variable; 0 if there is none.
+pub(crate) fn position(env: Env, variable: u32) -> u64
+    ensures { λ r. ⌜ r ≡ getD (env .pos) variable 0 ⌝ }
 {
-    if v < 5 {
-        let i = v as usize;
-        env.pos[i]
+    if variable < 5 {
+        let at = variable as usize;
+        env.pos[at]
     } else {
         0
     }

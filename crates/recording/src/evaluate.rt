@@ -32,136 +32,148 @@ use rule::Verdict;
 fn flag_byte(recording: &[u8], q: u64) -> u8
     ensures { λ r. ⌜ r ≡ recorded (now (recording .entry)) q ⌝ }
 {
-    let i = q as usize;
-    if i < recording.len() { recording[i] } else { 0 }
+    let at = q as usize;
+    if at < recording.len() {
+        recording[at]
+    } else {
+        0
+    }
 }
 
-// Flag k at variable v.
-fn flag_at(recording: &[u8], env: Env, v: u32, k: u32, s: u64) -> Outcome
-    ensures { λ r. ⌜ r ≡ Outcome.Decided (verdict (up k (recorded (now (recording .entry)) (getD (env .pos) v 0)))) s ⌝ }
+// Flag k at a variable.
+fn flag_at(recording: &[u8], env: Env, variable: u32, k: u32, s: u64) -> Outcome
+    ensures { λ r. ⌜ r ≡ Outcome.Decided (verdict (up k (recorded (now (recording .entry)) (getD (env .pos) variable 0)))) s ⌝ }
 {
-    let q = position(env, v);
+    let q = position(env, variable);
     outcomes::flag_outcome(flag_byte(recording, q), k, s)
 }
 
 // Whether no formula started at this step or later can change an outcome beside it, since none is decided before it starts.
-fn settled(o: Outcome, start: u64) -> bool
-    ensures { λ r. ⌜ r ≡ false-by o start ⌝ }
+fn settled(outcome: Outcome, start: u64) -> bool
+    ensures { λ r. ⌜ r ≡ false-by outcome start ⌝ }
 {
-    match o {
-        Outcome::Decided(v, d) => match v {
+    match outcome {
+        Outcome::Decided(verdict, step) => match verdict {
             Verdict::True => false,
-            Verdict::False => d <= start,
+            Verdict::False => step <= start,
         },
         Outcome::Open => false,
     }
 }
 
 // The outcome, at step s or later.
-fn raise(s: u64, o: Outcome) -> Outcome
-    ensures { λ r. ⌜ r ≡ raise s o ⌝ }
+fn raise(s: u64, outcome: Outcome) -> Outcome
+    ensures { λ r. ⌜ r ≡ raise s outcome ⌝ }
 {
-    match o {
-        Outcome::Decided(v, d) => Outcome::Decided(v, outcomes::later(s, d)),
+    match outcome {
+        Outcome::Decided(verdict, step) => Outcome::Decided(verdict, outcomes::later(s, step)),
         Outcome::Open => Outcome::Open,
     }
 }
 
-// The outcome over the ticks 0..t of the formula at word i, started at step s, with `left` formulas left. It is that of any table; one that the
+// The outcome over the ticks 0..t of the formula at word `node`, started at step s, with `left` formulas left. It is that of any table; one that the
 // reader filled never runs out of formulas. A run of nots is taken in one call.
 pub(crate) fn evaluate(
     nodes: &[u32],
     left: u64,
-    i: usize,
+    node: usize,
     recording: &[u8],
     t: u64,
     env: Env,
     s: u64,
 ) -> Outcome
-    requires { ⌜ Evaluable left i t env ⌝ }
-    ensures { λ r. ⌜ r ≡ outcome (formula-in left (now (nodes .entry)) (env .nested) i) (recorded (now (recording .entry))) t (bound-positions env) s ⌝ }
+    requires { ⌜ Evaluable left node t env ⌝ }
+    ensures { λ r. ⌜ r ≡ outcome (formula-in left (now (nodes .entry)) (env .nested) node) (recorded (now (recording .entry))) t (bound-positions env) s ⌝ }
 {
     if left == 0 {
         return flag_at(recording, env, 0, 0, s);
     }
-    let code = node_word(nodes, i, CODE);
+    let code = node_word(nodes, node, CODE);
     if code == NOT_CODE {
-        let u = skip_nots(nodes, left as usize, i);
-        let o = evaluate(nodes, u.left as u64, u.i, recording, t, env, s);
-        return outcomes::opposite_if(u.odd, o);
+        let operand = skip_nots(nodes, left as usize, node);
+        let outcome = evaluate(
+            nodes,
+            operand.left as u64,
+            operand.node,
+            recording,
+            t,
+            env,
+            s,
+        );
+        return outcomes::opposite_if(operand.odd, outcome);
     }
     if code == THEN_CODE {
-        let first = evaluate(nodes, left - 1, i + NODE_WORDS, recording, t, env, s);
-        let second = node_word(nodes, i, SECOND_PART) as usize;
+        let first = evaluate(nodes, left - 1, node + NODE_WORDS, recording, t, env, s);
+        let second = node_word(nodes, node, SECOND_PART) as usize;
         return match first {
-            Outcome::Decided(v, d) => match v {
-                Verdict::True => evaluate(nodes, left - 1, second, recording, t, env, d),
-                Verdict::False => Outcome::Decided(Verdict::False, d),
+            Outcome::Decided(verdict, step) => match verdict {
+                Verdict::True => evaluate(nodes, left - 1, second, recording, t, env, step),
+                Verdict::False => Outcome::Decided(Verdict::False, step),
             },
             Outcome::Open => Outcome::Open,
         };
     }
     if code == BESIDE_CODE {
-        let first = evaluate(nodes, left - 1, i + NODE_WORDS, recording, t, env, s);
+        let first = evaluate(nodes, left - 1, node + NODE_WORDS, recording, t, env, s);
         if settled(first, s) {
             return first;
         }
-        let second = node_word(nodes, i, SECOND_PART) as usize;
+        let second = node_word(nodes, node, SECOND_PART) as usize;
         let other = evaluate(nodes, left - 1, second, recording, t, env, s);
         return outcomes::both(first, other);
     }
     if code == FORALL_CODE {
-        return walk_range(nodes, left - 1, i, recording, t, env, s);
+        return walk_range(nodes, left - 1, node, recording, t, env, s);
     }
-    let v = node_word(nodes, i, VARIABLE);
-    let k = node_word(nodes, i, FLAG);
-    flag_at(recording, env, v, k, s)
+    let variable = node_word(nodes, node, VARIABLE);
+    let k = node_word(nodes, node, FLAG);
+    flag_at(recording, env, variable, k, s)
 }
 
-// The outcome of the "for all" at word i: its bodies side by side, position by position upward, each started at max(s, q), never above t, and
+// The outcome of the "for all" at word `node`: its bodies side by side, position by position upward, each started at max(s, q), never above t, and
 // no further once it is settled. Where the body does not name the range's variable, the bodies are alike but for their start: the first is
 // evaluated, and the last is the same, raised. A loop: so many calls as a recording has ticks would be too deep.
 fn walk_range(
     nodes: &[u32],
     left: u64,
-    i: usize,
+    node: usize,
     recording: &[u8],
     t: u64,
     env: Env,
     s: u64,
 ) -> Outcome
-    requires { ⌜ Evaluable (suc left) i t env ⌝ }
-    ensures { λ r. ⌜ r ≡ outcome (forall-of-node left (now (nodes .entry)) (env .nested) i) (recorded (now (recording .entry))) t (bound-positions env) s ⌝ }
+    requires { ⌜ Evaluable (suc left) node t env ⌝ }
+    ensures { λ r. ⌜ r ≡ outcome (forall-of-node left (now (nodes .entry)) (env .nested) node) (recorded (now (recording .entry))) t (bound-positions env) s ⌝ }
 {
     if NESTED <= env.nested {
         return flag_at(recording, env, 0, 0, s);
     }
     let pos = env.pos;
-    let plan = ranges::plan_up_to(ranges::range_at(nodes, i, &pos), t, s);
-    let alike = alike(nodes, left, env.nested, i, plan.n);
+    let plan = ranges::plan_up_to(ranges::range_at(nodes, node, &pos), t, s);
+    let alike = alike(nodes, left, env.nested, node, plan.count);
     let mut acc = plan.end;
     let mut q = plan.first;
-    let mut n = plan.n;
-    while 0 < n {
+    let mut count = plan.count;
+    while 0 < count {
         let start = outcomes::later(s, q);
         if settled(acc, start) {
             return acc;
         }
-        let o = evaluate(
+        let outcome = evaluate(
             nodes,
             left,
-            i + NODE_WORDS,
+            node + NODE_WORDS,
             recording,
             t,
             enter(env, q),
             start,
         );
-        acc = outcomes::both(o, acc);
+        acc = outcomes::both(outcome, acc);
         if alike {
-            return outcomes::both(raise(q + (n - 1), o), acc);
+            return outcomes::both(raise(q + (count - 1), outcome), acc);
         }
         q += 1;
-        n -= 1;
+        count -= 1;
     }
     acc
 }

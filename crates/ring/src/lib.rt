@@ -8,10 +8,10 @@ ghost use Rattle.ring.specs.Ring.{byte-of};
 pub fn zero(history: &mut [u8])
     ensures { λ _. ⌜ now (history .exit) ≡ replicate (length (now (history .entry))) 0 ⌝ }
 {
-    let mut i: usize = 0;
-    while i < history.len() {
-        history[i] = 0;
-        i += 1;
+    let mut at: usize = 0;
+    while at < history.len() {
+        history[at] = 0;
+        at += 1;
     }
 }
 
@@ -25,8 +25,8 @@ pub fn byte_of(history: &[u8], flag: u8, t: u64, q: u64) -> u8
     if history.len() == 0 {
         return 0;
     }
-    let n = history.len() as u64;
-    let at = (q % n) as usize;
+    let length = history.len() as u64;
+    let at = (q % length) as usize;
     history[at]
 }
 
@@ -38,7 +38,7 @@ pub fn remember(history: &mut [u8], t: u64, flag: u8)
     if history.len() == 0 {
         return;
     }
-    let n = history.len() as u64;
-    let at = (t % n) as usize;
+    let length = history.len() as u64;
+    let at = (t % length) as usize;
     history[at] = flag;
 }

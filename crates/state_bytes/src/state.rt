@@ -33,8 +33,8 @@ fn load_body(state: &[u8], body: &mut [u8])
     requires { ⌜ length (now body) ≤ length (now state) ⌝ }
     ensures { λ _. ⌜ now (body .exit) ≡ take (length (now (body .entry))) (now (state .entry)) ⌝ }
 {
-    let n = body.len();
-    bytes::copy(&state[..n], body);
+    let length = body.len();
+    bytes::copy(&state[..length], body);
 }
 
 // The engine's state that the bytes hold, with this next tick: a state's is of 32 bits and theirs of 64, so the caller has read it and tested that it fits.

@@ -23,15 +23,15 @@ pub fn base_end(text: &[u8], at: usize) -> usize
 }
 
 // The position after an offset or none; 0 where its digits are missing.
-fn offset_end(s: &[u8], at: usize) -> usize
-    requires { ⌜ (1 ≤ at) × (at ≤ length (now s)) ⌝ }
-    ensures { λ r. ⌜ Found (now (s .entry)) r (read-offset (drop at (now (s .entry)))) ⌝ }
+fn offset_end(text: &[u8], at: usize) -> usize
+    requires { ⌜ (1 ≤ at) × (at ≤ length (now text)) ⌝ }
+    ensures { λ r. ⌜ Found (now (text .entry)) r (read-offset (drop at (now (text .entry)))) ⌝ }
 {
-    if starts_at(s, at, b"+") {
-        return numeral_end(s, at + 1);
+    if starts_at(text, at, b"+") {
+        return numeral_end(text, at + 1);
     }
-    if starts_at(s, at, b"-") {
-        return numeral_end(s, at + 1);
+    if starts_at(text, at, b"-") {
+        return numeral_end(text, at + 1);
     }
     at
 }
@@ -40,9 +40,9 @@ fn offset_end(s: &[u8], at: usize) -> usize
 pub fn bound_end(text: &[u8], at: usize) -> usize
     ensures { λ r. ⌜ Found (now (text .entry)) r (read-end (drop at (now (text .entry)))) ⌝ }
 {
-    let b = base_end(text, at);
-    if b == 0 {
+    let after_base = base_end(text, at);
+    if after_base == 0 {
         return 0;
     }
-    offset_end(text, b)
+    offset_end(text, after_base)
 }

@@ -11,64 +11,64 @@ use crate::scan::starts_at;
 pub fn is_word(text: &[u8], at: usize, word: &[u8]) -> bool
     ensures { λ r. ⌜ r ≡ same (run letter (drop at (now (text .entry)))) (now (word .entry)) ⌝ }
 {
-    let e = run_end(text, at, b'a', b'z');
-    if e - at != word.len() {
+    let end = run_end(text, at, b'a', b'z');
+    if end - at != word.len() {
         return false;
     }
     starts_at(text, at, word)
 }
 
 // The run of letters at a position is one of the notation's words.
-fn is_reserved(s: &[u8], at: usize) -> bool
-    ensures { λ r. ⌜ r ≡ reserved (run letter (drop at (now (s .entry)))) ⌝ }
+fn is_reserved(text: &[u8], at: usize) -> bool
+    ensures { λ r. ⌜ r ≡ reserved (run letter (drop at (now (text .entry)))) ⌝ }
 {
-    if is_word(s, at, b"monitor") {
+    if is_word(text, at, b"monitor") {
         return true;
     }
-    if is_word(s, at, b"forall") {
+    if is_word(text, at, b"forall") {
         return true;
     }
-    if is_word(s, at, b"in") {
+    if is_word(text, at, b"in") {
         return true;
     }
-    is_word(s, at, b"infinity")
+    is_word(text, at, b"infinity")
 }
 
-// The run of n letters at a position is a name.
-fn is_name(s: &[u8], at: usize, n: usize) -> bool
-    requires { ⌜ n ≡ length (run letter (drop at (now s))) ⌝ }
-    ensures { λ r. ⌜ r ≡ is-name (run letter (drop at (now (s .entry)))) ⌝ }
+// The run of `count` letters at a position is a name.
+fn is_name(text: &[u8], at: usize, count: usize) -> bool
+    requires { ⌜ count ≡ length (run letter (drop at (now text))) ⌝ }
+    ensures { λ r. ⌜ r ≡ is-name (run letter (drop at (now (text .entry)))) ⌝ }
 {
-    if n < 1 {
+    if count < 1 {
         return false;
     }
-    if 8 < n {
+    if 8 < count {
         return false;
     }
-    !is_reserved(s, at)
+    !is_reserved(text, at)
 }
 
 // The position after the name at a position; 0 where there is none.
-pub(crate) fn name_end(s: &[u8], at: usize) -> usize
-    ensures { λ r. ⌜ Found (now (s .entry)) r (read-name (drop at (now (s .entry)))) ⌝ }
+pub(crate) fn name_end(text: &[u8], at: usize) -> usize
+    ensures { λ r. ⌜ Found (now (text .entry)) r (read-name (drop at (now (text .entry)))) ⌝ }
 {
-    let e = run_end(s, at, b'a', b'z');
-    if !is_name(s, at, e - at) {
+    let end = run_end(text, at, b'a', b'z');
+    if !is_name(text, at, end - at) {
         return 0;
     }
-    e
+    end
 }
 
 // The position after the numeral at a position; 0 where there is none.
-pub(crate) fn numeral_end(s: &[u8], at: usize) -> usize
-    ensures { λ r. ⌜ Found (now (s .entry)) r (read-numeral (drop at (now (s .entry)))) ⌝ }
+pub(crate) fn numeral_end(text: &[u8], at: usize) -> usize
+    ensures { λ r. ⌜ Found (now (text .entry)) r (read-numeral (drop at (now (text .entry)))) ⌝ }
 {
-    let e = run_end(s, at, b'0', b'9');
-    if e - at < 1 {
+    let end = run_end(text, at, b'0', b'9');
+    if end - at < 1 {
         return 0;
     }
-    if 4 < e - at {
+    if 4 < end - at {
         return 0;
     }
-    e
+    end
 }

@@ -17,45 +17,45 @@ pub enum Piece {
 }
 
 // The position after a name, a point and a digit; 0 where they are not there.
-fn flag_end(s: &[u8], at: usize) -> usize
-    ensures { λ r. ⌜ Found (now (s .entry)) r (read-flag (drop at (now (s .entry)))) ⌝ }
+fn flag_end(text: &[u8], at: usize) -> usize
+    ensures { λ r. ⌜ Found (now (text .entry)) r (read-flag (drop at (now (text .entry)))) ⌝ }
 {
-    let n = name_end(s, at);
-    if n == 0 {
+    let after_name = name_end(text, at);
+    if after_name == 0 {
         return 0;
     }
-    if !starts_at(s, n, b".") {
+    if !starts_at(text, after_name, b".") {
         return 0;
     }
-    digit_end(s, n + 1)
+    digit_end(text, after_name + 1)
 }
 
 // The position after what stands between "forall " and its formula; 0 where it is not there.
-fn forall_end(s: &[u8], at: usize) -> usize
-    ensures { λ r. ⌜ Found (now (s .entry)) r (read-forall (drop at (now (s .entry)))) ⌝ }
+fn forall_end(text: &[u8], at: usize) -> usize
+    ensures { λ r. ⌜ Found (now (text .entry)) r (read-forall (drop at (now (text .entry)))) ⌝ }
 {
-    let n = name_end(s, at);
-    if n == 0 {
+    let after_name = name_end(text, at);
+    if after_name == 0 {
         return 0;
     }
-    if !starts_at(s, n, b" in ") {
+    if !starts_at(text, after_name, b" in ") {
         return 0;
     }
-    let a = bound_end(s, n + 4);
-    if a == 0 {
+    let after_first = bound_end(text, after_name + 4);
+    if after_first == 0 {
         return 0;
     }
-    if !starts_at(s, a, b"..") {
+    if !starts_at(text, after_first, b"..") {
         return 0;
     }
-    let b = bound_end(s, a + 2);
-    if b == 0 {
+    let after_second = bound_end(text, after_first + 2);
+    if after_second == 0 {
         return 0;
     }
-    if !starts_at(s, b, b" : ") {
+    if !starts_at(text, after_second, b" : ") {
         return 0;
     }
-    b + 3
+    after_second + 3
 }
 
 // The start of a formula at a position.
@@ -63,11 +63,11 @@ pub fn piece_at(text: &[u8], at: usize) -> Piece
     ensures { λ r. ⌜ Pieced (now (text .entry)) at r (read-token (drop at (now (text .entry)))) ⌝ }
 {
     if starts_at(text, at, b"@") {
-        let q = flag_end(text, at + 1);
-        if q == 0 {
+        let end = flag_end(text, at + 1);
+        if end == 0 {
             return Piece::Wrong;
         }
-        return Piece::Flag(q);
+        return Piece::Flag(end);
     }
     if starts_at(text, at, b"~") {
         return Piece::Negate(at + 1);
@@ -78,11 +78,11 @@ pub fn piece_at(text: &[u8], at: usize) -> Piece
     if !starts_at(text, at, b"forall ") {
         return Piece::Wrong;
     }
-    let q = forall_end(text, at + 7);
-    if q == 0 {
+    let end = forall_end(text, at + 7);
+    if end == 0 {
         return Piece::Wrong;
     }
-    Piece::Forall(q)
+    Piece::Forall(end)
 }
 
 // The position after a connective; 0 where there is none.

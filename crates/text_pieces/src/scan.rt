@@ -20,15 +20,15 @@ pub fn is_between(lo: u8, hi: u8, byte: u8) -> bool
 pub fn run_end(text: &[u8], at: usize, lo: u8, hi: u8) -> usize
     ensures { λ r. ⌜ r ≡ at + length (run (between lo hi) (drop at (now (text .entry)))) ⌝ }
 {
-    let mut i = at;
-    while i < text.len() {
-        let c = text[i];
-        if !is_between(lo, hi, c) {
-            return i;
+    let mut index = at;
+    while index < text.len() {
+        let byte = text[index];
+        if !is_between(lo, hi, byte) {
+            return index;
         }
-        i += 1;
+        index += 1;
     }
-    i
+    index
 }
 
 // The text at a position starts with a word.
@@ -41,25 +41,25 @@ pub fn starts_at(text: &[u8], at: usize, word: &[u8]) -> bool
     if text.len() - at < word.len() {
         return false;
     }
-    let mut k: usize = 0;
-    while k < word.len() {
-        if text[at + k] != word[k] {
+    let mut index: usize = 0;
+    while index < word.len() {
+        if text[at + index] != word[index] {
             return false;
         }
-        k += 1;
+        index += 1;
     }
     true
 }
 
 // The position after a digit; 0 where there is none.
-pub(crate) fn digit_end(s: &[u8], at: usize) -> usize
-    ensures { λ r. ⌜ Found (now (s .entry)) r (one-digit (drop at (now (s .entry)))) ⌝ }
+pub(crate) fn digit_end(text: &[u8], at: usize) -> usize
+    ensures { λ r. ⌜ Found (now (text .entry)) r (one-digit (drop at (now (text .entry)))) ⌝ }
 {
-    if s.len() <= at {
+    if text.len() <= at {
         return 0;
     }
-    let c = s[at];
-    if !is_between(b'0', b'9', c) {
+    let byte = text[at];
+    if !is_between(b'0', b'9', byte) {
         return 0;
     }
     at + 1

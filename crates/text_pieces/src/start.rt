@@ -11,12 +11,12 @@ pub fn rule_start(text: &[u8]) -> usize
     if !starts_at(text, 0, b"monitor ") {
         return 0;
     }
-    let n = name_end(text, 8);
-    if n == 0 {
+    let after_name = name_end(text, 8);
+    if after_name == 0 {
         return 0;
     }
-    if !starts_at(text, n, b" : ") {
+    if !starts_at(text, after_name, b" : ") {
         return 0;
     }
-    n + 3
+    after_name + 3
 }

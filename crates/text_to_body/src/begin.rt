@@ -16,89 +16,96 @@ use crate::stores::write_forall;
 use text_pieces::Piece;
 use text_pieces::piece_at;
 
-// A flag that ends at q.
-fn begin_flag(s: &[u8], names: &[usize], out: &mut [u8], p: Cursor, q: usize) -> Cursor
-    requires { ⌜ (p .mode ≡ 0) × CursorFits (now s) p × (length (now s) ≤ 4096) × (256 ≤ length (now names)) × (4096 ≤ length (now out)) × FlagAt (now s) (p .at + 1) q (read-token (drop (p .at) (now s))) ⌝ }
-    ensures { λ r. ⌜ ((frames : List ℕ) → Moved (now (s .entry)) frames (now (names .entry)) (now (out .entry)) p frames (now (names .entry)) (now (out .exit)) r) ⌝ }
+// A flag that ends at `end`.
+fn begin_flag(text: &[u8], names: &[usize], out: &mut [u8], cursor: Cursor, end: usize) -> Cursor
+    requires { ⌜ (cursor .mode ≡ 0) × CursorFits (now text) cursor × (length (now text) ≤ 4096) × (256 ≤ length (now names)) × (4096 ≤ length (now out)) × FlagAt (now text) (cursor .at + 1) end (read-token (drop (cursor .at) (now text))) ⌝ }
+    ensures { λ r. ⌜ ((frames : List ℕ) → Moved (now (text .entry)) frames (now (names .entry)) (now (out .entry)) cursor frames (now (names .entry)) (now (out .exit)) r) ⌝ }
 {
-    let ok = write_flag(s, p.at + 1, names, p.scope, out, p.written);
+    let ok = write_flag(
+        text,
+        cursor.at + 1,
+        names,
+        cursor.scope,
+        out,
+        cursor.written,
+    );
     Cursor {
         mode: 1,
-        at: q,
-        depth: p.depth,
-        scope: p.scope,
-        written: p.written + 3,
-        resolved: both(p.resolved, ok),
+        at: end,
+        depth: cursor.depth,
+        scope: cursor.scope,
+        written: cursor.written + 3,
+        resolved: both(cursor.resolved, ok),
     }
 }
 
-// A quantifier whose formula begins at q: its name is in scope there, and its bounds do not see it.
+// A quantifier whose formula begins at `end`: its name is in scope there, and its bounds do not see it.
 fn begin_range(
-    s: &[u8],
+    text: &[u8],
     frames: &mut [u16],
     names: &mut [usize],
     out: &mut [u8],
-    p: Cursor,
-    q: usize,
+    cursor: Cursor,
+    end: usize,
 ) -> Cursor
-    requires { ⌜ (p .mode ≡ 0) × CursorFits (now s) p × Rooms (now s) (now frames) (now names) (now out) × ForallAt (now s) (p .at + 7) q (read-token (drop (p .at) (now s))) ⌝ }
-    ensures { λ r. ⌜ Moved (now (s .entry)) (now (frames .entry)) (now (names .entry)) (now (out .entry)) p (now (frames .exit)) (now (names .exit)) (now (out .exit)) r ⌝ }
+    requires { ⌜ (cursor .mode ≡ 0) × CursorFits (now text) cursor × Rooms (now text) (now frames) (now names) (now out) × ForallAt (now text) (cursor .at + 7) end (read-token (drop (cursor .at) (now text))) ⌝ }
+    ensures { λ r. ⌜ Moved (now (text .entry)) (now (frames .entry)) (now (names .entry)) (now (out .entry)) cursor (now (frames .exit)) (now (names .exit)) (now (out .exit)) r ⌝ }
 {
-    let name = p.at + 7;
-    let depth = p.depth;
-    let scope = p.scope;
-    let ok = write_forall(s, name, names, scope, out, p.written);
+    let name = cursor.at + 7;
+    let depth = cursor.depth;
+    let scope = cursor.scope;
+    let ok = write_forall(text, name, names, scope, out, cursor.written);
     names[scope] = name;
     frames[depth] = 1;
     Cursor {
         mode: 0,
-        at: q,
+        at: end,
         depth: depth + 1,
         scope: scope + 1,
-        written: p.written + 9,
-        resolved: both(p.resolved, ok),
+        written: cursor.written + 9,
+        resolved: both(cursor.resolved, ok),
     }
 }
 
-// By how the formula at the point starts.
+// By how the formula at the cursor starts.
 pub(crate) fn begin_formula(
-    s: &[u8],
+    text: &[u8],
     frames: &mut [u16],
     names: &mut [usize],
     out: &mut [u8],
-    p: Cursor,
+    cursor: Cursor,
 ) -> Cursor
-    requires { ⌜ (p .mode ≡ 0) × CursorFits (now s) p × Rooms (now s) (now frames) (now names) (now out) ⌝ }
-    ensures { λ r. ⌜ Moved (now (s .entry)) (now (frames .entry)) (now (names .entry)) (now (out .entry)) p (now (frames .exit)) (now (names .exit)) (now (out .exit)) r ⌝ }
+    requires { ⌜ (cursor .mode ≡ 0) × CursorFits (now text) cursor × Rooms (now text) (now frames) (now names) (now out) ⌝ }
+    ensures { λ r. ⌜ Moved (now (text .entry)) (now (frames .entry)) (now (names .entry)) (now (out .entry)) cursor (now (frames .exit)) (now (names .exit)) (now (out .exit)) r ⌝ }
 {
-    let depth = p.depth;
-    let written = p.written;
-    let piece = piece_at(s, p.at);
+    let depth = cursor.depth;
+    let written = cursor.written;
+    let piece = piece_at(text, cursor.at);
     match piece {
         Piece::Wrong => misspelt(),
-        Piece::Flag(q) => begin_flag(s, names, out, p, q),
-        Piece::Forall(q) => begin_range(s, frames, names, out, p, q),
-        Piece::Negate(q) => {
+        Piece::Flag(end) => begin_flag(text, names, out, cursor, end),
+        Piece::Forall(end) => begin_range(text, frames, names, out, cursor, end),
+        Piece::Negate(end) => {
             out[written] = NOT_CODE_BYTE;
             Cursor {
                 mode: 0,
-                at: q,
+                at: end,
                 depth,
-                scope: p.scope,
+                scope: cursor.scope,
                 written: written + 1,
-                resolved: p.resolved,
+                resolved: cursor.resolved,
             }
         }
-        Piece::Open(q) => {
+        Piece::Open(end) => {
             frames[depth] = bracket_frame(written);
             out[written] = 0;
             Cursor {
                 mode: 0,
-                at: q,
+                at: end,
                 depth: depth + 1,
-                scope: p.scope,
+                scope: cursor.scope,
                 written: written + 1,
-                resolved: p.resolved,
+                resolved: cursor.resolved,
             }
         }
     }

@@ -16,113 +16,113 @@ use text_pieces::starts_at;
 use words::word_value;
 
 // The code of the connective at a position: 03 for "&&", 04 for "/\".
-fn joint_code(s: &[u8], at: usize) -> u8
-    ensures { λ r. ⌜ ((j : Joint) (t : List ℕ) → joint (drop at (now (s .entry))) ≡ got j t → r ≡ joint-code j) ⌝ }
+fn joint_code(text: &[u8], at: usize) -> u8
+    ensures { λ r. ⌜ ((connective : Joint) (rest : List ℕ) → joint (drop at (now (text .entry))) ≡ got connective rest → r ≡ joint-code connective) ⌝ }
 {
-    if starts_at(s, at, b" && ") {
+    if starts_at(text, at, b" && ") {
         return THEN_CODE_BYTE;
     }
     BESIDE_CODE_BYTE
 }
 
 // One less, and 0 for 0.
-fn less_one(n: usize) -> usize
-    ensures { λ r. ⌜ r ≡ n - 1 ⌝ }
+fn less_one(number: usize) -> usize
+    ensures { λ r. ⌜ r ≡ number - 1 ⌝ }
 {
-    if n == 0 {
+    if number == 0 {
         return 0;
     }
-    n - 1
+    number - 1
 }
 
 // At the text's end nothing may be open.
-fn end_text(s: &[u8], p: Cursor) -> Cursor
-    requires { ⌜ (p .mode ≡ 1) × CursorFits (now s) p × (p .depth ≡ 0) ⌝ }
-    ensures { λ r. ⌜ ((frames names out : List ℕ) → Moved (now (s .entry)) frames names out p frames names out r) ⌝ }
+fn end_text(text: &[u8], cursor: Cursor) -> Cursor
+    requires { ⌜ (cursor .mode ≡ 1) × CursorFits (now text) cursor × (cursor .depth ≡ 0) ⌝ }
+    ensures { λ r. ⌜ ((frames names out : List ℕ) → Moved (now (text .entry)) frames names out cursor frames names out r) ⌝ }
 {
-    if p.at != s.len() {
+    if cursor.at != text.len() {
         return misspelt();
     }
     Cursor {
         mode: 2,
-        at: p.at,
+        at: cursor.at,
         depth: 0,
-        scope: p.scope,
-        written: p.written,
-        resolved: p.resolved,
+        scope: cursor.scope,
+        written: cursor.written,
+        resolved: cursor.resolved,
     }
 }
 
 // After a bracket's second part.
-fn end_bracket(s: &[u8], p: Cursor) -> Cursor
-    requires { ⌜ (p .mode ≡ 1) × CursorFits (now s) p × (1 ≤ p .depth) ⌝ }
-    ensures { λ r. ⌜ ((frames names out : List ℕ) → getD frames (p .depth - 1) 0 ≡ 0 → Moved (now (s .entry)) frames names out p frames names out r) ⌝ }
+fn end_bracket(text: &[u8], cursor: Cursor) -> Cursor
+    requires { ⌜ (cursor .mode ≡ 1) × CursorFits (now text) cursor × (1 ≤ cursor .depth) ⌝ }
+    ensures { λ r. ⌜ ((frames names out : List ℕ) → getD frames (cursor .depth - 1) 0 ≡ 0 → Moved (now (text .entry)) frames names out cursor frames names out r) ⌝ }
 {
-    if !starts_at(s, p.at, b")") {
+    if !starts_at(text, cursor.at, b")") {
         return misspelt();
     }
     Cursor {
         mode: 1,
-        at: p.at + 1,
-        depth: p.depth - 1,
-        scope: p.scope,
-        written: p.written,
-        resolved: p.resolved,
+        at: cursor.at + 1,
+        depth: cursor.depth - 1,
+        scope: cursor.scope,
+        written: cursor.written,
+        resolved: cursor.resolved,
     }
 }
 
 // After a quantifier's formula: its name goes out of scope.
-fn end_range(p: Cursor) -> Cursor
-    requires { ⌜ (p .mode ≡ 1) × (1 ≤ p .depth) ⌝ }
-    ensures { λ r. ⌜ ((s frames names out : List ℕ) → CursorFits s p → getD frames (p .depth - 1) 0 ≡ 1 → Moved s frames names out p frames names out r) ⌝ }
+fn end_range(cursor: Cursor) -> Cursor
+    requires { ⌜ (cursor .mode ≡ 1) × (1 ≤ cursor .depth) ⌝ }
+    ensures { λ r. ⌜ ((text frames names out : List ℕ) → CursorFits text cursor → getD frames (cursor .depth - 1) 0 ≡ 1 → Moved text frames names out cursor frames names out r) ⌝ }
 {
     Cursor {
         mode: 1,
-        at: p.at,
-        depth: p.depth - 1,
-        scope: less_one(p.scope),
-        written: p.written,
-        resolved: p.resolved,
+        at: cursor.at,
+        depth: cursor.depth - 1,
+        scope: less_one(cursor.scope),
+        written: cursor.written,
+        resolved: cursor.resolved,
     }
 }
 
 // After a bracket's first part, whose frame is `top`: now it is known which code the bracket has.
-fn end_first(s: &[u8], frames: &mut [u16], out: &mut [u8], p: Cursor, top: usize) -> Cursor
-    requires { ⌜ (p .mode ≡ 1) × CursorFits (now s) p × (1 ≤ p .depth) × (p .depth ≤ length (now frames)) × (2 ≤ top) × (getD (now frames) (p .depth - 1) 0 ≡ top) ⌝ }
-    ensures { λ r. ⌜ ((names : List ℕ) → Moved (now (s .entry)) (now (frames .entry)) names (now (out .entry)) p (now (frames .exit)) names (now (out .exit)) r) ⌝ }
+fn end_first(text: &[u8], frames: &mut [u16], out: &mut [u8], cursor: Cursor, top: usize) -> Cursor
+    requires { ⌜ (cursor .mode ≡ 1) × CursorFits (now text) cursor × (1 ≤ cursor .depth) × (cursor .depth ≤ length (now frames)) × (2 ≤ top) × (getD (now frames) (cursor .depth - 1) 0 ≡ top) ⌝ }
+    ensures { λ r. ⌜ ((names : List ℕ) → Moved (now (text .entry)) (now (frames .entry)) names (now (out .entry)) cursor (now (frames .exit)) names (now (out .exit)) r) ⌝ }
 {
-    let inner = p.depth - 1;
-    let q = joint_end(s, p.at);
-    if q == 0 {
+    let inner = cursor.depth - 1;
+    let end = joint_end(text, cursor.at);
+    if end == 0 {
         return misspelt();
     }
-    put(out, top - 2, joint_code(s, p.at));
+    put(out, top - 2, joint_code(text, cursor.at));
     frames[inner] = 0;
     Cursor {
         mode: 0,
-        at: q,
-        depth: p.depth,
-        scope: p.scope,
-        written: p.written,
-        resolved: p.resolved,
+        at: end,
+        depth: cursor.depth,
+        scope: cursor.scope,
+        written: cursor.written,
+        resolved: cursor.resolved,
     }
 }
 
 // By the innermost frame that is open.
-pub(crate) fn end_formula(s: &[u8], frames: &mut [u16], out: &mut [u8], p: Cursor) -> Cursor
-    requires { ⌜ (p .mode ≡ 1) × CursorFits (now s) p × (p .depth ≤ length (now frames)) ⌝ }
-    ensures { λ r. ⌜ ((names : List ℕ) → Moved (now (s .entry)) (now (frames .entry)) names (now (out .entry)) p (now (frames .exit)) names (now (out .exit)) r) ⌝ }
+pub(crate) fn end_formula(text: &[u8], frames: &mut [u16], out: &mut [u8], cursor: Cursor) -> Cursor
+    requires { ⌜ (cursor .mode ≡ 1) × CursorFits (now text) cursor × (cursor .depth ≤ length (now frames)) ⌝ }
+    ensures { λ r. ⌜ ((names : List ℕ) → Moved (now (text .entry)) (now (frames .entry)) names (now (out .entry)) cursor (now (frames .exit)) names (now (out .exit)) r) ⌝ }
 {
-    if p.depth == 0 {
-        return end_text(s, p);
+    if cursor.depth == 0 {
+        return end_text(text, cursor);
     }
-    let inner = p.depth - 1;
+    let inner = cursor.depth - 1;
     let top = word_value(frames[inner]);
     if top == 0 {
-        return end_bracket(s, p);
+        return end_bracket(text, cursor);
     }
     if top == 1 {
-        return end_range(p);
+        return end_range(cursor);
     }
-    end_first(s, frames, out, p, top)
+    end_first(text, frames, out, cursor, top)
 }

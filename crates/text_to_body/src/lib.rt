@@ -27,7 +27,7 @@ fn write_if_legal(body: &[u8], out: &mut [u8]) -> Written
     let mut nodes = [0u32; TABLE_WORDS];
     let reading = read_body(body, &mut nodes);
     match reading {
-        Reading::Refused(x) => Written::Refused(x),
+        Reading::Refused(refusal) => Written::Refused(refusal),
         Reading::Stored => deliver(body, out),
     }
 }
@@ -39,7 +39,7 @@ pub fn write_body(text: &[u8], out: &mut [u8]) -> Written
     let mut bytes = [0u8; 4096];
     let translated = translate(text, &mut bytes);
     match translated {
-        Written::Refused(x) => Written::Refused(x),
-        Written::Length(n) => write_if_legal(&bytes[..n], out),
+        Written::Refused(refusal) => Written::Refused(refusal),
+        Written::Length(length) => write_if_legal(&bytes[..length], out),
     }
 }

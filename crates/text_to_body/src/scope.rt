@@ -10,35 +10,35 @@ use text_pieces::is_word;
 use text_pieces::run_end;
 
 // The names at two positions are the same.
-fn same_name(s: &[u8], a: usize, b: usize) -> bool
-    requires { ⌜ b ≤ length (now s) ⌝ }
-    ensures { λ r. ⌜ r ≡ same (run letter (drop a (now (s .entry)))) (run letter (drop b (now (s .entry)))) ⌝ }
+fn same_name(text: &[u8], first: usize, second: usize) -> bool
+    requires { ⌜ second ≤ length (now text) ⌝ }
+    ensures { λ r. ⌜ r ≡ same (run letter (drop first (now (text .entry)))) (run letter (drop second (now (text .entry)))) ⌝ }
 {
-    let f = run_end(s, b, b'a', b'z');
-    is_word(s, a, &s[b..f])
+    let end = run_end(text, second, b'a', b'z');
+    is_word(text, first, &text[second..end])
 }
 
 // The variable, plus 1, of the name at a position; 0 where it is bound nowhere.
-pub(crate) fn lookup(s: &[u8], names: &[usize], m: usize, at: usize) -> usize
-    requires { ⌜ (m ≤ length (now names)) × (at ≤ length (now s)) × (m ≤ 4096) ⌝ }
-    ensures { λ r. ⌜ r ≡ seek (scope-of (now (s .entry)) (now (names .entry)) m) (run letter (drop at (now (s .entry)))) ⌝ }
+pub(crate) fn lookup(text: &[u8], names: &[usize], scope: usize, at: usize) -> usize
+    requires { ⌜ (scope ≤ length (now names)) × (at ≤ length (now text)) × (scope ≤ 4096) ⌝ }
+    ensures { λ r. ⌜ r ≡ seek (scope-of (now (text .entry)) (now (names .entry)) scope) (run letter (drop at (now (text .entry)))) ⌝ }
 {
-    let mut i = m;
-    while 0 < i {
-        if same_name(s, names[i - 1], at) {
-            return i;
+    let mut count = scope;
+    while 0 < count {
+        if same_name(text, names[count - 1], at) {
+            return count;
         }
-        i -= 1;
+        count -= 1;
     }
     0
 }
 
 // Writes a byte; nothing where the position is beyond the buffer.
-pub(crate) fn put(out: &mut [u8], i: usize, b: u8)
-    ensures { λ _. ⌜ now (out .exit) ≡ set (now (out .entry)) i b ⌝ }
+pub(crate) fn put(out: &mut [u8], at: usize, byte: u8)
+    ensures { λ _. ⌜ now (out .exit) ≡ set (now (out .entry)) at byte ⌝ }
 {
-    if out.len() <= i {
+    if out.len() <= at {
         return;
     }
-    out[i] = b;
+    out[at] = byte;
 }

@@ -22,121 +22,133 @@ use text_pieces::run_end;
 use text_pieces::starts_at;
 
 // Writes two bytes.
-fn put_two(out: &mut [u8], o: usize, a: u8, b: u8)
-    requires { ⌜ o + 2 ≤ length (now out) ⌝ }
-    ensures { λ _. ⌜ (length (now (out .exit)) ≡ length (now (out .entry))) × (take (o + 2) (now (out .exit)) ≡ take o (now (out .entry)) ++ (a ∷ b ∷ [])) ⌝ }
+fn put_two(out: &mut [u8], at: usize, first: u8, second: u8)
+    requires { ⌜ at + 2 ≤ length (now out) ⌝ }
+    ensures { λ _. ⌜ (length (now (out .exit)) ≡ length (now (out .entry))) × (take (at + 2) (now (out .exit)) ≡ take at (now (out .entry)) ++ (first ∷ second ∷ [])) ⌝ }
 {
-    out[o] = a;
-    out[o + 1] = b;
+    out[at] = first;
+    out[at + 1] = second;
 }
 
-// A variable's byte, from the variable plus 1.
-fn variable_byte(v: usize) -> u8
-    ensures { λ r. ⌜ r ≡ (v - 1) % 256 ⌝ }
+// A variable's byte, from what `lookup` found: the variable plus 1, or 0.
+fn variable_byte(found: usize) -> u8
+    ensures { λ r. ⌜ r ≡ (found - 1) % 256 ⌝ }
 {
-    if v == 0 {
+    if found == 0 {
         return 0;
     }
-    ((v - 1) % 256) as u8
+    ((found - 1) % 256) as u8
 }
 
 // Writes a bound's kind and variable, and answers whether its name is bound.
-fn write_base(s: &[u8], at: usize, names: &[usize], m: usize, out: &mut [u8], o: usize) -> bool
-    requires { ⌜ (at ≤ length (now s)) × (m ≤ length (now names)) × (m ≤ 4096) × (o + 2 ≤ length (now out)) ⌝ }
-    ensures { λ r. ⌜ (length (now (out .exit)) ≡ length (now (out .entry))) × ((b : Base) (t : List ℕ) → read-base (drop at (now (s .entry))) ≡ got b t → (r ≡ base-bound (scope-of (now (s .entry)) (now (names .entry)) m) b) × (take (o + 2) (now (out .exit)) ≡ take o (now (out .entry)) ++ base-bytes (scope-of (now (s .entry)) (now (names .entry)) m) b)) ⌝ }
+fn write_base(
+    text: &[u8],
+    at: usize,
+    names: &[usize],
+    scope: usize,
+    out: &mut [u8],
+    written: usize,
+) -> bool
+    requires { ⌜ (at ≤ length (now text)) × (scope ≤ length (now names)) × (scope ≤ 4096) × (written + 2 ≤ length (now out)) ⌝ }
+    ensures { λ r. ⌜ (length (now (out .exit)) ≡ length (now (out .entry))) × ((base : Base) (rest : List ℕ) → read-base (drop at (now (text .entry))) ≡ got base rest → (r ≡ base-bound (scope-of (now (text .entry)) (now (names .entry)) scope) base) × (take (written + 2) (now (out .exit)) ≡ take written (now (out .entry)) ++ base-bytes (scope-of (now (text .entry)) (now (names .entry)) scope) base)) ⌝ }
 {
-    if starts_at(s, at, b"0") {
-        put_two(out, o, ORIGIN_KIND_BYTE, 0);
+    if starts_at(text, at, b"0") {
+        put_two(out, written, ORIGIN_KIND_BYTE, 0);
         return true;
     }
-    if is_word(s, at, b"infinity") {
-        put_two(out, o, INFINITY_KIND_BYTE, 0);
+    if is_word(text, at, b"infinity") {
+        put_two(out, written, INFINITY_KIND_BYTE, 0);
         return true;
     }
-    let v = lookup(s, names, m, at);
-    put_two(out, o, VARIABLE_KIND_BYTE, variable_byte(v));
-    1 <= v
+    let found = lookup(text, names, scope, at);
+    put_two(out, written, VARIABLE_KIND_BYTE, variable_byte(found));
+    1 <= found
 }
 
 // Writes a bound's four bytes, and answers whether its name is bound.
 pub(crate) fn write_bound(
-    s: &[u8],
+    text: &[u8],
     at: usize,
     names: &[usize],
-    m: usize,
+    scope: usize,
     out: &mut [u8],
-    o: usize,
+    written: usize,
 ) -> bool
-    requires { ⌜ (at ≤ length (now s)) × (m ≤ length (now names)) × (m ≤ 4096) × (o + 4 ≤ length (now out)) ⌝ }
-    ensures { λ r. ⌜ (length (now (out .exit)) ≡ length (now (out .entry))) × ((E : End) (t : List ℕ) → read-end (drop at (now (s .entry))) ≡ got E t → (r ≡ end-bound (scope-of (now (s .entry)) (now (names .entry)) m) E) × (take (o + 4) (now (out .exit)) ≡ take o (now (out .entry)) ++ end-bytes (scope-of (now (s .entry)) (now (names .entry)) m) E)) ⌝ }
+    requires { ⌜ (at ≤ length (now text)) × (scope ≤ length (now names)) × (scope ≤ 4096) × (written + 4 ≤ length (now out)) ⌝ }
+    ensures { λ r. ⌜ (length (now (out .exit)) ≡ length (now (out .entry))) × ((bound : End) (rest : List ℕ) → read-end (drop at (now (text .entry))) ≡ got bound rest → (r ≡ end-bound (scope-of (now (text .entry)) (now (names .entry)) scope) bound) × (take (written + 4) (now (out .exit)) ≡ take written (now (out .entry)) ++ end-bytes (scope-of (now (text .entry)) (now (names .entry)) scope) bound)) ⌝ }
 {
-    let ok = write_base(s, at, names, m, out, o);
-    let q = base_end(s, at);
-    let x = offset_at(s, q);
-    put_two(out, o + 2, (x % 256) as u8, (x / 256 % 256) as u8);
+    let ok = write_base(text, at, names, scope, out, written);
+    let after_base = base_end(text, at);
+    let offset = offset_at(text, after_base);
+    put_two(
+        out,
+        written + 2,
+        (offset % 256) as u8,
+        (offset / 256 % 256) as u8,
+    );
     ok
 }
 
 // Writes a flag's three bytes, from the name's position, and answers whether the name is bound.
 pub(crate) fn write_flag(
-    s: &[u8],
+    text: &[u8],
     at: usize,
     names: &[usize],
-    m: usize,
+    scope: usize,
     out: &mut [u8],
-    o: usize,
+    written: usize,
 ) -> bool
-    requires { ⌜ (at ≤ length (now s)) × (m ≤ length (now names)) × (m ≤ 4096) × (o + 3 ≤ length (now out)) ⌝ }
-    ensures { λ r. ⌜ (length (now (out .exit)) ≡ length (now (out .entry))) × ((n : List ℕ) (k : ℕ) (t : List ℕ) → read-flag (drop at (now (s .entry))) ≡ got (flag-token n k) t → (r ≡ is-bound (scope-of (now (s .entry)) (now (names .entry)) m) n) × (take (o + 3) (now (out .exit)) ≡ take o (now (out .entry)) ++ flag-bytes (scope-of (now (s .entry)) (now (names .entry)) m) n k)) ⌝ }
+    requires { ⌜ (at ≤ length (now text)) × (scope ≤ length (now names)) × (scope ≤ 4096) × (written + 3 ≤ length (now out)) ⌝ }
+    ensures { λ r. ⌜ (length (now (out .exit)) ≡ length (now (out .entry))) × ((name : List ℕ) (digit : ℕ) (rest : List ℕ) → read-flag (drop at (now (text .entry))) ≡ got (flag-token name digit) rest → (r ≡ is-bound (scope-of (now (text .entry)) (now (names .entry)) scope) name) × (take (written + 3) (now (out .exit)) ≡ take written (now (out .entry)) ++ flag-bytes (scope-of (now (text .entry)) (now (names .entry)) scope) name digit)) ⌝ }
 {
-    let v = lookup(s, names, m, at);
-    let e = run_end(s, at, b'a', b'z');
-    let k = digit_value(s, e);
-    out[o] = FLAG_CODE_BYTE;
-    put_two(out, o + 1, variable_byte(v), k);
-    1 <= v
+    let found = lookup(text, names, scope, at);
+    let after_name = run_end(text, at, b'a', b'z');
+    let k = digit_value(text, after_name);
+    out[written] = FLAG_CODE_BYTE;
+    put_two(out, written + 1, variable_byte(found), k);
+    1 <= found
 }
 
 // The digit after the byte at a position; 0 where there is none.
-fn digit_value(s: &[u8], e: usize) -> u8
-    ensures { λ r. ⌜ (e + 1 < length (now (s .entry)) → 48 ≤ getD (now (s .entry)) (e + 1) 0 → r ≡ getD (now (s .entry)) (e + 1) 0 - 48) ⌝ }
+fn digit_value(text: &[u8], at: usize) -> u8
+    ensures { λ r. ⌜ (at + 1 < length (now (text .entry)) → 48 ≤ getD (now (text .entry)) (at + 1) 0 → r ≡ getD (now (text .entry)) (at + 1) 0 - 48) ⌝ }
 {
-    if s.len() <= e {
+    if text.len() <= at {
         return 0;
     }
-    if s.len() - e <= 1 {
+    if text.len() - at <= 1 {
         return 0;
     }
-    let c = s[e + 1];
-    if c < b'0' {
+    let byte = text[at + 1];
+    if byte < b'0' {
         return 0;
     }
-    c - b'0'
+    byte - b'0'
 }
 
 // Writes a quantifier's nine bytes, from the position of its name, and answers whether the names of its bounds are bound.
 pub(crate) fn write_forall(
-    s: &[u8],
+    text: &[u8],
     at: usize,
     names: &[usize],
-    m: usize,
+    scope: usize,
     out: &mut [u8],
-    o: usize,
+    written: usize,
 ) -> bool
-    requires { ⌜ (at ≤ length (now s)) × (m ≤ length (now names)) × (m ≤ 4096) × (o + 9 ≤ length (now out)) × ((n : List ℕ) × (A : End) × (B : End) × (t : List ℕ) × (read-forall (drop at (now s)) ≡ got (forall-token n A B) t)) ⌝ }
-    ensures { λ r. ⌜ (length (now (out .exit)) ≡ length (now (out .entry))) × ((n : List ℕ) (A B : End) (t : List ℕ) → read-forall (drop at (now (s .entry))) ≡ got (forall-token n A B) t → (r ≡ (end-bound (scope-of (now (s .entry)) (now (names .entry)) m) A && end-bound (scope-of (now (s .entry)) (now (names .entry)) m) B)) × (take (o + 9) (now (out .exit)) ≡ take o (now (out .entry)) ++ forall-bytes (scope-of (now (s .entry)) (now (names .entry)) m) A B)) ⌝ }
+    requires { ⌜ (at ≤ length (now text)) × (scope ≤ length (now names)) × (scope ≤ 4096) × (written + 9 ≤ length (now out)) × ((name : List ℕ) × (first : End) × (second : End) × (rest : List ℕ) × (read-forall (drop at (now text)) ≡ got (forall-token name first second) rest)) ⌝ }
+    ensures { λ r. ⌜ (length (now (out .exit)) ≡ length (now (out .entry))) × ((name : List ℕ) (first second : End) (rest : List ℕ) → read-forall (drop at (now (text .entry))) ≡ got (forall-token name first second) rest → (r ≡ (end-bound (scope-of (now (text .entry)) (now (names .entry)) scope) first && end-bound (scope-of (now (text .entry)) (now (names .entry)) scope) second)) × (take (written + 9) (now (out .exit)) ≡ take written (now (out .entry)) ++ forall-bytes (scope-of (now (text .entry)) (now (names .entry)) scope) first second)) ⌝ }
 {
-    let e = run_end(s, at, b'a', b'z');
-    let q = bound_end(s, e + 4);
-    out[o] = FORALL_CODE_BYTE;
-    let first = write_bound(s, e + 4, names, m, out, o + 1);
-    let second = write_bound(s, q + 2, names, m, out, o + 5);
+    let after_name = run_end(text, at, b'a', b'z');
+    let after_first = bound_end(text, after_name + 4);
+    out[written] = FORALL_CODE_BYTE;
+    let first = write_bound(text, after_name + 4, names, scope, out, written + 1);
+    let second = write_bound(text, after_first + 2, names, scope, out, written + 5);
     both(first, second)
 }
 
 // Both hold.
-pub(crate) fn both(a: bool, b: bool) -> bool
-    ensures { λ r. ⌜ r ≡ (a && b) ⌝ }
+pub(crate) fn both(first: bool, second: bool) -> bool
+    ensures { λ r. ⌜ r ≡ (first && second) ⌝ }
 {
-    if a { b } else { false }
+    if first { second } else { false }
 }

@@ -13,40 +13,52 @@ use refusal::Refusal;
 use sheet::Written;
 use text_pieces::rule_start;
 
-// One step from a point before or after a formula.
-fn step(s: &[u8], frames: &mut [u16], names: &mut [usize], out: &mut [u8], p: Cursor) -> Cursor
-    requires { ⌜ (p .mode < 2) × CursorFits (now s) p × Rooms (now s) (now frames) (now names) (now out) ⌝ }
-    ensures { λ r. ⌜ Moved (now (s .entry)) (now (frames .entry)) (now (names .entry)) (now (out .entry)) p (now (frames .exit)) (now (names .exit)) (now (out .exit)) r ⌝ }
+// One step from a cursor before or after a formula.
+fn step(
+    text: &[u8],
+    frames: &mut [u16],
+    names: &mut [usize],
+    out: &mut [u8],
+    cursor: Cursor,
+) -> Cursor
+    requires { ⌜ (cursor .mode < 2) × CursorFits (now text) cursor × Rooms (now text) (now frames) (now names) (now out) ⌝ }
+    ensures { λ r. ⌜ Moved (now (text .entry)) (now (frames .entry)) (now (names .entry)) (now (out .entry)) cursor (now (frames .exit)) (now (names .exit)) (now (out .exit)) r ⌝ }
 {
-    if p.mode == 0 {
-        return begin_formula(s, frames, names, out, p);
+    if cursor.mode == 0 {
+        return begin_formula(text, frames, names, out, cursor);
     }
-    end_formula(s, frames, out, p)
+    end_formula(text, frames, out, cursor)
 }
 
-// From a point to the text's end, or to what is misspelt.
-fn go_on(s: &[u8], frames: &mut [u16], names: &mut [usize], out: &mut [u8], start: Cursor) -> Cursor
-    requires { ⌜ CursorFits (now s) start × Rooms (now s) (now frames) (now names) (now out) ⌝ }
-    ensures { λ r. ⌜ (length (now (out .exit)) ≡ length (now (out .entry))) × Reached (answer-at (now (s .entry)) (now (frames .entry)) (now (names .entry)) (now (out .entry)) start) (now (out .exit)) r ⌝ }
+// From a cursor to the text's end, or to what is misspelt.
+fn go_on(
+    text: &[u8],
+    frames: &mut [u16],
+    names: &mut [usize],
+    out: &mut [u8],
+    start: Cursor,
+) -> Cursor
+    requires { ⌜ CursorFits (now text) start × Rooms (now text) (now frames) (now names) (now out) ⌝ }
+    ensures { λ r. ⌜ (length (now (out .exit)) ≡ length (now (out .entry))) × Reached (answer-at (now (text .entry)) (now (frames .entry)) (now (names .entry)) (now (out .entry)) start) (now (out .exit)) r ⌝ }
 {
-    let mut p = start;
-    while p.mode < 2 {
-        p = step(s, frames, names, out, p);
+    let mut cursor = start;
+    while cursor.mode < 2 {
+        cursor = step(text, frames, names, out, cursor);
     }
-    p
+    cursor
 }
 
-// What a point past the last step answers: 25, 26, or how many bytes are written.
-fn answer_at_end(p: Cursor) -> Written
-    ensures { λ r. ⌜ ((l : List ℕ) → length l ≡ p .written → written r ≡ length-of (answer-at-end (p .mode) (p .resolved) l)) ⌝ }
+// What a cursor past the last step answers: 25, 26, or how many bytes are written.
+fn answer_at_end(cursor: Cursor) -> Written
+    ensures { λ r. ⌜ ((bytes : List ℕ) → length bytes ≡ cursor .written → written r ≡ length-of (answer-at-end (cursor .mode) (cursor .resolved) bytes)) ⌝ }
 {
-    if p.mode != 2 {
+    if cursor.mode != 2 {
         return Written::Refused(Refusal::Misspelt);
     }
-    if !p.resolved {
+    if !cursor.resolved {
         return Written::Refused(Refusal::UnboundName);
     }
-    Written::Length(p.written)
+    Written::Length(cursor.written)
 }
 
 // Writes the body of a rule's text, whose bytes may still be refused, and answers its length: refusals 25, 26. The rule's own name stands at byte 8.
@@ -64,7 +76,7 @@ pub(crate) fn translate(text: &[u8], out: &mut [u8]) -> Written
     let mut frames = [0u16; 4096];
     let mut names = [0usize; 256];
     names[0] = 8;
-    let p = Cursor {
+    let cursor = Cursor {
         mode: 0,
         at: start,
         depth: 0,
@@ -72,6 +84,6 @@ pub(crate) fn translate(text: &[u8], out: &mut [u8]) -> Written
         written: 0,
         resolved: true,
     };
-    let last = go_on(text, &mut frames, &mut names, out, p);
+    let last = go_on(text, &mut frames, &mut names, out, cursor);
     answer_at_end(last)
 }

@@ -11,39 +11,39 @@ use text_pieces::starts_at;
 use words::byte_value;
 
 // The number with one more digit, in 16 bits.
-fn with_digit(n: usize, c: u8) -> usize
-    requires { ⌜ (n < 65536) × (48 ≤ c) ⌝ }
-    ensures { λ r. ⌜ (r ≡ (n * 10 + (c - 48)) % 65536) × (r < 65536) ⌝ }
+fn with_digit(number: usize, byte: u8) -> usize
+    requires { ⌜ (number < 65536) × (48 ≤ byte) ⌝ }
+    ensures { λ r. ⌜ (r ≡ (number * 10 + (byte - 48)) % 65536) × (r < 65536) ⌝ }
 {
-    (n * 10 + byte_value(c - b'0')) % 65536
+    (number * 10 + byte_value(byte - b'0')) % 65536
 }
 
 // The number that the digits at a position say.
-fn value_at(s: &[u8], at: usize) -> usize
-    ensures { λ r. ⌜ (r ≡ value-on 0 (run digit (drop at (now (s .entry))))) × (r < 65536) ⌝ }
+fn value_at(text: &[u8], at: usize) -> usize
+    ensures { λ r. ⌜ (r ≡ value-on 0 (run digit (drop at (now (text .entry))))) × (r < 65536) ⌝ }
 {
-    let mut i = at;
-    let mut n: usize = 0;
-    while i < s.len() {
-        let c = s[i];
-        if !is_between(b'0', b'9', c) {
-            return n;
+    let mut index = at;
+    let mut number: usize = 0;
+    while index < text.len() {
+        let byte = text[index];
+        if !is_between(b'0', b'9', byte) {
+            return number;
         }
-        n = with_digit(n, c);
-        i += 1;
+        number = with_digit(number, byte);
+        index += 1;
     }
-    n
+    number
 }
 
 // The offset at a position, as a 16-bit word.
-pub(crate) fn offset_at(s: &[u8], at: usize) -> usize
-    ensures { λ r. ⌜ (r < 65536) × ((o : Offset) (t : List ℕ) → read-offset (drop at (now (s .entry))) ≡ got o t → r ≡ offset-word o) ⌝ }
+pub(crate) fn offset_at(text: &[u8], at: usize) -> usize
+    ensures { λ r. ⌜ (r < 65536) × ((offset : Offset) (rest : List ℕ) → read-offset (drop at (now (text .entry))) ≡ got offset rest → r ≡ offset-word offset) ⌝ }
 {
-    if starts_at(s, at, b"+") {
-        return value_at(s, at + 1);
+    if starts_at(text, at, b"+") {
+        return value_at(text, at + 1);
     }
-    if starts_at(s, at, b"-") {
-        return (65536 - value_at(s, at + 1)) % 65536;
+    if starts_at(text, at, b"-") {
+        return (65536 - value_at(text, at + 1)) % 65536;
     }
     0
 }

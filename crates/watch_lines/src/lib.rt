@@ -17,26 +17,26 @@ fn put_text(out: &mut [u8], at: usize, text: &[u8]) -> usize
 }
 
 // Puts a number's digits after the first `at` bytes.
-fn put_number(out: &mut [u8], at: usize, n: u64) -> usize
+fn put_number(out: &mut [u8], at: usize, number: u64) -> usize
     requires { ⌜ at + 20 ≤ length (now out) ⌝ }
     ensures { λ r. ⌜ r ≤ at + 20 ⌝ }
-    ensures { λ r. ⌜ r ≡ at + length (decimal n) ⌝ }
-    ensures { λ r. ⌜ now (out .exit) ≡ (take at (now (out .entry)) ++ decimal n) ++ drop r (now (out .entry)) ⌝ }
+    ensures { λ r. ⌜ r ≡ at + length (decimal number) ⌝ }
+    ensures { λ r. ⌜ now (out .exit) ≡ (take at (now (out .entry)) ++ decimal number) ++ drop r (now (out .entry)) ⌝ }
 {
     let mut digits = [0u8; 20];
-    let k = io::decimal(n, &mut digits);
-    put_text(out, at, &digits[..k])
+    let count = io::decimal(number, &mut digits);
+    put_text(out, at, &digits[..count])
 }
 
 // Puts a word and a number after the first `at` bytes.
-fn put_field(out: &mut [u8], at: usize, word: &[u8], n: u64) -> usize
+fn put_field(out: &mut [u8], at: usize, word: &[u8], number: u64) -> usize
     requires { ⌜ (at + length (now word)) + 20 ≤ length (now out) ⌝ }
     ensures { λ r. ⌜ r ≤ (at + length (now (word .entry))) + 20 ⌝ }
-    ensures { λ r. ⌜ r ≡ (at + length (now (word .entry))) + length (decimal n) ⌝ }
-    ensures { λ r. ⌜ now (out .exit) ≡ with-field (take at (now (out .entry))) (now (word .entry)) n ++ drop r (now (out .entry)) ⌝ }
+    ensures { λ r. ⌜ r ≡ (at + length (now (word .entry))) + length (decimal number) ⌝ }
+    ensures { λ r. ⌜ now (out .exit) ≡ with-field (take at (now (out .entry))) (now (word .entry)) number ++ drop r (now (out .entry)) ⌝ }
 {
-    let a = put_text(out, at, word);
-    put_number(out, a, n)
+    let next = put_text(out, at, word);
+    put_number(out, next, number)
 }
 
 // The line of a refusal, by its number.
@@ -45,8 +45,8 @@ pub fn refused_line(number: u64, out: &mut [u8; 128]) -> usize
     ensures { λ r. ⌜ r ≡ length (refused-line number) ⌝ }
     ensures { λ r. ⌜ now (out .exit) ≡ refused-line number ++ drop r (now (out .entry)) ⌝ }
 {
-    let a = put_field(out, 0, b"refused ", number);
-    put_text(out, a, b"\n")
+    let end = put_field(out, 0, b"refused ", number);
+    put_text(out, end, b"\n")
 }
 
 // The line of an opened rule: its three figures.
@@ -55,10 +55,10 @@ pub fn figures_line(history: u64, delay: u64, cells: u64, out: &mut [u8; 128]) -
     ensures { λ r. ⌜ r ≡ length (figures-line history delay cells) ⌝ }
     ensures { λ r. ⌜ now (out .exit) ≡ figures-line history delay cells ++ drop r (now (out .entry)) ⌝ }
 {
-    let a = put_field(out, 0, b"rule 0 history ", history);
-    let b = put_field(out, a, b" delay ", delay);
-    let c = put_field(out, b, b" cells ", cells);
-    put_text(out, c, b"\n")
+    let delay_at = put_field(out, 0, b"rule 0 history ", history);
+    let cells_at = put_field(out, delay_at, b" delay ", delay);
+    let end = put_field(out, cells_at, b" cells ", cells);
+    put_text(out, end, b"\n")
 }
 
 // The line of one violated tick, and of the step that decided it.
@@ -67,9 +67,9 @@ pub fn violation_line(tick: u64, step: u64, out: &mut [u8; 128]) -> usize
     ensures { λ r. ⌜ r ≡ length (violation-line tick step) ⌝ }
     ensures { λ r. ⌜ now (out .exit) ≡ violation-line tick step ++ drop r (now (out .entry)) ⌝ }
 {
-    let a = put_field(out, 0, b"violation ", tick);
-    let b = put_field(out, a, b" at ", step);
-    put_text(out, b, b"\n")
+    let step_at = put_field(out, 0, b"violation ", tick);
+    let end = put_field(out, step_at, b" at ", step);
+    put_text(out, end, b"\n")
 }
 
 // The last line of a run: the ticks taken, the violations, and the ticks still live.
@@ -78,8 +78,8 @@ pub fn end_line(ticks: u64, violations: u64, live: u64, out: &mut [u8; 128]) -> 
     ensures { λ r. ⌜ r ≡ length (end-line ticks violations live) ⌝ }
     ensures { λ r. ⌜ now (out .exit) ≡ end-line ticks violations live ++ drop r (now (out .entry)) ⌝ }
 {
-    let a = put_field(out, 0, b"end ", ticks);
-    let b = put_field(out, a, b" steps ", violations);
-    let c = put_field(out, b, b" violations ", live);
-    put_text(out, c, b" live\n")
+    let violations_at = put_field(out, 0, b"end ", ticks);
+    let live_at = put_field(out, violations_at, b" steps ", violations);
+    let end = put_field(out, live_at, b" violations ", live);
+    put_text(out, end, b" live\n")
 }

@@ -39,7 +39,7 @@ fn report_words() -> [u32; 4096]
 // Opens rule 0 over lent memory and takes the input. Like the functions below, it answers whether every line was written.
 fn watch_over(
     sheet: &[u8],
-    f: Figures,
+    figures: Figures,
     history: &mut [u8],
     cells: &mut [u32],
     report: &mut [u32],
@@ -48,9 +48,9 @@ fn watch_over(
     let answer = opened.answer;
     let state = opened.state;
     match answer {
-        OpenAnswer::Refused(x) => print_refusal(x),
+        OpenAnswer::Refused(refusal) => print_refusal(refusal),
         OpenAnswer::Opened => {
-            if !print_figures(f) {
+            if !print_figures(figures) {
                 return false;
             }
             watch_input(state, history, cells, report)
@@ -59,15 +59,21 @@ fn watch_over(
 }
 
 // Lends the history that the figure asks for, at most 4,096 bytes, and as much of the rest as a rule may need.
-fn watch_rule(sheet: &[u8], f: Figures) -> bool {
+fn watch_rule(sheet: &[u8], figures: Figures) -> bool {
     let mut history = io::buffer();
     let mut cells = cell_table();
     let mut report = report_words();
-    let h = f.history as usize;
-    if 4096 < h {
+    let length = figures.history as usize;
+    if 4096 < length {
         return false;
     }
-    watch_over(sheet, f, &mut history[..h], &mut cells, &mut report)
+    watch_over(
+        sheet,
+        figures,
+        &mut history[..length],
+        &mut cells,
+        &mut report,
+    )
 }
 
 // Runs rule 0 of a sheet over standard input. The first line shows the figures, so they are read before the rule is opened; the refusals of sheet
@@ -75,12 +81,12 @@ fn watch_rule(sheet: &[u8], f: Figures) -> bool {
 fn run_sheet(sheet: &[u8]) -> bool {
     let place = sheet::find_rule(sheet, 0);
     match place {
-        Found::Refused(x) => print_refusal(x),
+        Found::Refused(refusal) => print_refusal(refusal),
         Found::At { start, size } => {
-            let a = figures::figures(&sheet[start..start + size]);
-            match a {
-                FigureAnswer::Refused(x) => print_refusal(x),
-                FigureAnswer::Sized(f) => watch_rule(sheet, f),
+            let answer = figures::figures(&sheet[start..start + size]);
+            match answer {
+                FigureAnswer::Refused(refusal) => print_refusal(refusal),
+                FigureAnswer::Sized(figures) => watch_rule(sheet, figures),
             }
         }
     }
@@ -94,8 +100,8 @@ pub fn watch_sheet(sheet: &[u8]) {
 // The whole program.
 pub fn watch() {
     let mut buf = io::large_buffer();
-    let n = load(&mut buf);
-    if run_sheet(&buf[..n]) {
+    let count = load(&mut buf);
+    if run_sheet(&buf[..count]) {
         close_output();
     }
 }

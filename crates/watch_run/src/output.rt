@@ -9,42 +9,47 @@ use rule::Figures;
 // Says a refusal in words on standard error, behind the program's name: there stands each ending that is not the end of the input.
 fn say_refusal(number: u32) {
     let mut sentence = [0u8; 128];
-    let n = refusal_text::sentence(number, &mut sentence);
+    let length = refusal_text::sentence(number, &mut sentence);
     io::write_all(STDERR_FILENO, b"watch: refused ");
     io::print_decimal(STDERR_FILENO, number as u64);
     io::write_all(STDERR_FILENO, b": ");
-    io::write_all(STDERR_FILENO, &sentence[..n]);
+    io::write_all(STDERR_FILENO, &sentence[..length]);
     io::write_all(STDERR_FILENO, b"\n");
 }
 
 // The line of a refusal, with its number.
-pub(crate) fn print_refusal(x: Refusal) -> bool {
-    let number = refusal::number(x);
+pub(crate) fn print_refusal(refusal: Refusal) -> bool {
+    let number = refusal::number(refusal);
     say_refusal(number);
     let mut line = [0u8; 128];
-    let n = watch_lines::refused_line(number as u64, &mut line);
-    write_line(&line[..n])
+    let length = watch_lines::refused_line(number as u64, &mut line);
+    write_line(&line[..length])
 }
 
 // The line of a rule's figures.
-pub(crate) fn print_figures(f: Figures) -> bool {
+pub(crate) fn print_figures(figures: Figures) -> bool {
     let mut line = [0u8; 128];
-    let n = watch_lines::figures_line(f.history, f.delay, f.cells, &mut line);
-    write_line(&line[..n])
+    let length = watch_lines::figures_line(
+        figures.history,
+        figures.delay,
+        figures.cells,
+        &mut line,
+    );
+    write_line(&line[..length])
 }
 
 // The line of a tick that broke the rule, and of the step that said so.
 pub(crate) fn print_violation(tick: u32, step: u32) -> bool {
     let mut line = [0u8; 128];
-    let n = watch_lines::violation_line(tick as u64, step as u64, &mut line);
-    write_line(&line[..n])
+    let length = watch_lines::violation_line(tick as u64, step as u64, &mut line);
+    write_line(&line[..length])
 }
 
 // The last line: how many steps and violations there were, and how many ticks are live.
 pub(crate) fn print_end(ticks: u32, violations: u64, live: usize) -> bool {
     let mut line = [0u8; 128];
-    let n = watch_lines::end_line(ticks as u64, violations, live as u64, &mut line);
-    write_line(&line[..n])
+    let length = watch_lines::end_line(ticks as u64, violations, live as u64, &mut line);
+    write_line(&line[..length])
 }
 
 // Closes standard output once every line is written: a file system may say only now that it could not keep them.

@@ -21,19 +21,19 @@ fn say_not_opened() {
 fn read_sheet(fd: i32, buf: &mut [u8]) -> usize
     ensures { λ r. ⌜ Counts r (now (buf .exit)) ⌝ }
 {
-    let mut n: usize = 0;
-    while n < buf.len() {
-        let got = read_some(fd, &mut buf[n..]);
+    let mut count: usize = 0;
+    while count < buf.len() {
+        let got = read_some(fd, &mut buf[count..]);
         if got.failed {
             os::fail(b"watch: watch.sheet");
             return 0;
         }
         if got.count == 0 {
-            return n;
+            return count;
         }
-        n += got.count;
+        count += got.count;
     }
-    n
+    count
 }
 
 // The file's bytes at the front of buf, and how many there are: 0 where it is missing or cannot be read, and standard error says which. The largest
@@ -46,7 +46,7 @@ pub(crate) fn load(buf: &mut [u8]) -> usize
         say_not_opened();
         return 0;
     }
-    let n = read_sheet(fd, buf);
+    let count = read_sheet(fd, buf);
     libc::close(fd);
-    n
+    count
 }

@@ -49,20 +49,20 @@ fn after_nothing(failed: bool) -> Run {
 }
 
 // A count that stays at its largest value.
-fn more_by(count: u64, n: u64) -> u64
-    ensures { λ r. ⌜ r ≡ min (count + n) 18446744073709551615 ⌝ }
+fn more_by(count: u64, more: u64) -> u64
+    ensures { λ r. ⌜ r ≡ min (count + more) 18446744073709551615 ⌝ }
 {
-    if u64::MAX - count < n {
+    if u64::MAX - count < more {
         u64::MAX
     } else {
-        count + n
+        count + more
     }
 }
 
-// Prints the first n pairs of a report, each a tick and the step that decided it, and answers whether that was done.
-fn print_pairs(report: &[u32], n: usize) -> bool {
+// Prints the first `count` pairs of a report, each a tick and the step that decided it, and answers whether that was done.
+fn print_pairs(report: &[u32], count: usize) -> bool {
     let mut at: usize = 0;
-    let mut left = n;
+    let mut left = count;
     while 0 < left {
         if report.len() < 2 {
             return false;
@@ -81,20 +81,20 @@ fn print_pairs(report: &[u32], n: usize) -> bool {
 
 // Takes as many flag bytes as the report has room for. A refused batch prints its number and ends the run.
 fn take_flags(
-    p: Progress,
+    progress: Progress,
     flags: &[u8],
     history: &mut [u8],
     cells: &mut [u32],
     report: &mut [u32],
 ) -> Progress {
-    let before = p.state;
-    let violations = p.violations;
+    let before = progress.state;
+    let violations = progress.violations;
     let stepped = engine::steps(before, flags, history, cells, report);
     let answer = stepped.answer;
     let state = stepped.state;
     match answer {
-        BatchAnswer::Refused(x) => {
-            print_refusal(x);
+        BatchAnswer::Refused(refusal) => {
+            print_refusal(refusal);
             Progress {
                 state,
                 violations,
@@ -116,16 +116,16 @@ fn take_flags(
 
 // Takes the bytes of one chunk. A batch takes at least one of them, since the report has room for every step; a proved loop is told so by a test.
 fn take_chunk(
-    p: Progress,
+    progress: Progress,
     chunk: &[u8],
     history: &mut [u8],
     cells: &mut [u32],
     report: &mut [u32],
 ) -> Progress {
-    let mut so_far = p;
-    let mut i: usize = 0;
-    while i < chunk.len() {
-        so_far = take_flags(so_far, &chunk[i..], history, cells, report);
+    let mut so_far = progress;
+    let mut at: usize = 0;
+    while at < chunk.len() {
+        so_far = take_flags(so_far, &chunk[at..], history, cells, report);
         let run = so_far.run;
         if !goes_on(run) {
             return so_far;
@@ -134,36 +134,41 @@ fn take_chunk(
         if taken == 0 {
             return so_far;
         }
-        if chunk.len() - i < taken {
+        if chunk.len() - at < taken {
             return so_far;
         }
-        i += taken;
+        at += taken;
     }
     so_far
 }
 
 // One read of what the input has now, so that a pipe is followed.
-fn take_some(p: Progress, history: &mut [u8], cells: &mut [u32], report: &mut [u32]) -> Progress {
+fn take_some(
+    progress: Progress,
+    history: &mut [u8],
+    cells: &mut [u32],
+    report: &mut [u32],
+) -> Progress {
     let mut buf = io::buffer();
     let got = read_some(STDIN_FILENO, &mut buf);
-    let n = got.count;
-    if n == 0 {
-        let state = p.state;
+    let count = got.count;
+    if count == 0 {
+        let state = progress.state;
         let run = after_nothing(got.failed);
         return Progress {
             state,
-            violations: p.violations,
+            violations: progress.violations,
             taken: 0,
             run,
         };
     }
-    take_chunk(p, &buf[..n], history, cells, report)
+    take_chunk(progress, &buf[..count], history, cells, report)
 }
 
 // Takes the whole input. A proved loop has to end, so it counts its turns down from a number that no run uses up: each turn but the last takes a
 // tick, and there are fewer than 2^32 of them.
 fn take_all(state: State, history: &mut [u8], cells: &mut [u32], report: &mut [u32]) -> Progress {
-    let mut p = Progress {
+    let mut progress = Progress {
         state,
         violations: 0,
         taken: 0,
@@ -172,13 +177,13 @@ fn take_all(state: State, history: &mut [u8], cells: &mut [u32], report: &mut [u
     let mut turns = u64::MAX;
     while 0 < turns {
         turns -= 1;
-        p = take_some(p, history, cells, report);
-        let run = p.run;
+        progress = take_some(progress, history, cells, report);
+        let run = progress.run;
         if !goes_on(run) {
-            return p;
+            return progress;
         }
     }
-    p
+    progress
 }
 
 // Takes the whole input and prints the end line at its end, and nowhere else. Answers whether that was done.
@@ -188,11 +193,11 @@ pub(crate) fn watch_input(
     cells: &mut [u32],
     report: &mut [u32],
 ) -> bool {
-    let p = take_all(state, history, cells, report);
-    let end = p.state;
-    let run = p.run;
+    let progress = take_all(state, history, cells, report);
+    let end = progress.state;
+    let run = progress.run;
     match run {
-        Run::InputEnded => print_end(end.next, p.violations, end.live),
+        Run::InputEnded => print_end(end.next, progress.violations, end.live),
         Run::GoesOn => false,
         Run::Stopped => false,
     }

@@ -18,11 +18,11 @@ prepare-requires c κs = search needs
 enum-told : tie.Need-enum-told
 enum-told c = search needs
 
-enum-known-a : tie.Need-enum-known-a
-enum-known-a c = search needs
+enum-known-answer : tie.Need-enum-known-answer
+enum-known-answer c = search needs
 
 fit-state-requires : tie.Need-fit-state-requires
-fit-state-requires c κs = sized-small _ _ (c .before .before .before .prepare .ensures .answer) (c .before .a .given .1)
+fit-state-requires c κs = sized-small _ _ (c .before .before .before .prepare .ensures .answer) (c .before .answer .given .1)
 
 clear-if-refused-requires : tie.Need-clear-if-refused-requires
 clear-if-refused-requires c κs = search needs
@@ -33,7 +33,7 @@ returns-2 c = step-no-rule _ _ _ _ _ _ _ _ (c .before .before .before .before .i
 returns-3 : tie.Need-returns-3
 returns-3 c =
     let p = c .before .before .before .before .before .before in
-    step-fits _ _ _ _ _ _ _ _ (p .before .before .if1 .left) (search needs) (p .prepare .ensures) _ _ (c .before .before .before .before .a .given .1) (c .before .before .fit-state .ensures)
+    step-fits _ _ _ _ _ _ _ _ (p .before .before .if1 .left) (search needs) (p .prepare .ensures) _ _ (c .before .before .before .before .answer .given .1) (c .before .before .fit-state .ensures)
     (c .clear-if-refused .ensures)
 
 pub admit-step-spec : {M : Type 1} → statement M
@@ -44,7 +44,7 @@ admit-step-spec =
     returns
     prepare-requires
     enum-told
-    enum-known-a
+    enum-known-answer
     fit-state-requires
     clear-if-refused-requires
     returns-2

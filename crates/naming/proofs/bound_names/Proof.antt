@@ -10,7 +10,7 @@ node-word-requires c κs = search needs
 returns : tie.Need-returns
 returns c =
     let s = c .before .before .before in
-    no-variable-at (s .args .nodes .now) (s .args .j) (s .args .v) (c .before .node-word .ensures) (c .if1 .taken)
+    no-variable-at (s .args .nodes .now) (s .args .at) (s .args .variable) (c .before .node-word .ensures) (c .if1 .taken)
 
 node-word-requires-2 : tie.Need-node-word-requires-2
 node-word-requires-2 c κs = search needs
@@ -18,7 +18,7 @@ node-word-requires-2 c κs = search needs
 returns-2 : tie.Need-returns-2
 returns-2 c =
     let s = c .before .before .before .before in
-    variable-at (s .args .nodes .now) (s .args .j) (s .args .v) (c .before .before .node-word .ensures) (c .before .if1 .left) (c .node-word2 .ensures)
+    variable-at (s .args .nodes .now) (s .args .at) (s .args .variable) (c .before .before .node-word .ensures) (c .before .if1 .left) (c .node-word2 .ensures)
 
 pub bound-names-spec : {M : Type 1} → statement M
 bound-names-spec = tie.close (tie.spec node-word-requires returns node-word-requires-2 returns-2)

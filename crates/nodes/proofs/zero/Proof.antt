@@ -1,4 +1,4 @@
--- `nodes::zero` meets its contract: the first i words are 0, the rest are as they were. Assumes nothing.
+-- `nodes::zero` meets its contract: the first `at` words are 0, the rest are as they were. Assumes nothing.
 use Prim.Native.Nat.{ℕ, _-_, _≤_}
 use mathlib.Core.Path.{_≡_, refl, ap, _∙_, subst}
 use mathlib.Core.List.{List, _++_, append-nil}
@@ -11,11 +11,11 @@ use Rattle.nodes.proofs.zero.Statement.{statement}
 use Rattle.nodes.proofs.zero.Tie as tie
 
 abbrev Inv-loop : tie.InvT-loop
-Inv-loop ns₀ i₀ ns i =
-    (ns ≡ replicate i 0 ++ drop i ns₀) × ((i ≤ length ns₀) × (length ns ≡ length ns₀))
+Inv-loop ns₀ at₀ ns at =
+    (ns ≡ replicate at 0 ++ drop at ns₀) × ((at ≤ length ns₀) × (length ns ≡ length ns₀))
 
 abbrev μ-loop : tie.MeasureT-loop
-μ-loop ns₀ i₀ ns i = length ns₀ - i
+μ-loop ns₀ at₀ ns at = length ns₀ - at
 
 loop-holds : tie.Need-loop-holds Inv-loop μ-loop
 loop-holds c = (fill-none (c .args .ns .now) 0, (omega arith, refl))
@@ -26,8 +26,8 @@ mul-ns c = search needs
 slice-write-ns : tie.Need-slice-write-ns Inv-loop μ-loop
 slice-write-ns c = omega arith
 
-add-i : tie.Need-add-i Inv-loop μ-loop
-add-i c = search needs
+add-at : tie.Need-add-at Inv-loop μ-loop
+add-at c = search needs
 
 loop-less : tie.Need-loop-less Inv-loop μ-loop
 loop-less c = omega arith
@@ -36,8 +36,8 @@ loop-again : tie.Need-loop-again Inv-loop μ-loop
 loop-again c =
     let l = c .before .loop in
     let a = c .before .before .args in (
-      ap (λ (n : List ℕ). set n (l .i) 0) (l .inv .0) ∙ fill-more (l .i) 0 (a .ns .now) (omega arith),
-      (omega arith, length-set (l .ns) (l .i) 0 ∙ l .inv .1 .1),
+      ap (λ (n : List ℕ). set n (l .at) 0) (l .inv .0) ∙ fill-more (l .at) 0 (a .ns .now) (omega arith),
+      (omega arith, length-set (l .ns) (l .at) 0 ∙ l .inv .1 .1),
     )
 
 same-length : tie.Need-same-length Inv-loop μ-loop
@@ -47,7 +47,7 @@ returns : tie.Need-returns Inv-loop μ-loop
 returns c =
     let l = c .before .loop in
     let n₀ : List ℕ = c .before .before .args .ns .now in
-    let e : l .i ≡ length n₀ = omega arith in
+    let e : l .at ≡ length n₀ = omega arith in
     subst (λ (k : ℕ). l .ns ≡ replicate k 0 ++ drop k n₀) e (l .inv .0)
     ∙ ap (λ (r : List ℕ). replicate (length n₀) 0 ++ r) (drop-length n₀)
     ∙ append-nil (replicate (length n₀) 0)
@@ -61,7 +61,7 @@ zero-spec =
     loop-holds
     mul-ns
     slice-write-ns
-    add-i
+    add-at
     loop-less
     loop-again
     same-length

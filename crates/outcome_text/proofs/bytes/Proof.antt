@@ -7,10 +7,10 @@ use Rattle.outcome_text.proofs.bytes.Statement.{statement}
 use Rattle.outcome_text.proofs.bytes.Tie as tie
 
 abbrev Inv-loop : tie.InvT-loop
-Inv-loop name b i₀ t4 t5 i = i ≤ length b
+Inv-loop name b at₀ t4 t5 at = at ≤ length b
 
 abbrev μ-loop : tie.MeasureT-loop
-μ-loop name b i₀ t4 t5 i = length b - i
+μ-loop name b at₀ t4 t5 at = length b - at
 
 text-requires : tie.Need-text-requires Inv-loop μ-loop
 text-requires c κs = search needs
@@ -33,8 +33,8 @@ wide-requires c κs = search needs
 print-hex-requires : tie.Need-print-hex-requires Inv-loop μ-loop
 print-hex-requires c κs = search needs
 
-add-i : tie.Need-add-i Inv-loop μ-loop
-add-i c = search needs
+add-at : tie.Need-add-at Inv-loop μ-loop
+add-at c = search needs
 
 loop-less : tie.Need-loop-less Inv-loop μ-loop
 loop-less c = search needs
@@ -64,7 +64,7 @@ bytes-spec =
     shared-slice-read-wide
     wide-requires
     print-hex-requires
-    add-i
+    add-at
     loop-less
     loop-again
     slice-aggregate-text-2

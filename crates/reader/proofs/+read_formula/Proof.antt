@@ -48,19 +48,19 @@ abbrev Checked : ℕ → Type 0
 Checked t = read-formula-lts.After-enum-told (read-formula-claims t) (read-formula-at t) read-formula.Post
 
 module _ (t : ℕ) (n : Checked t) where
-  acc : Accepts (head (n .before .before .before .before .before .args .s .now) (n .before .before .before .before .before .args .at) (n .before .before .before .before .before .args .m) (n .before .before .before .before .before .args .left))
-  acc = head-accepts (n .before .before .before .before .before .args .s .now) (n .before .before .before .before .before .args .at) (n .before .before .before .before .before .args .m) (n .before .before .before .before .before .args .left) (sym (n .before .before .head-check .ensures) ∙ ap check-number (n .enum-told .given .1))
+  acc : Accepts (head (n .before .before .before .before .before .args .body .now) (n .before .before .before .before .before .args .at) (n .before .before .before .before .before .args .depth) (n .before .before .before .before .before .args .left))
+  acc = head-accepts (n .before .before .before .before .before .args .body .now) (n .before .before .before .before .before .args .at) (n .before .before .before .before .before .args .depth) (n .before .before .before .before .before .args .left) (sym (n .before .before .head-check .ensures) ∙ ap check-number (n .enum-told .given .1))
 
-  facts : Tested (n .before .before .before .before .before .args .s .now) (n .before .before .before .before .before .args .at) (n .before .before .before .before .before .args .m) (n .before .before .before .before .before .args .left)
-  facts = accepts-tested (n .before .before .before .before .before .args .s .now) (n .before .before .before .before .before .args .at) (n .before .before .before .before .before .args .m) (n .before .before .before .before .before .args .left) acc
+  facts : Tested (n .before .before .before .before .before .args .body .now) (n .before .before .before .before .before .args .at) (n .before .before .before .before .before .args .depth) (n .before .before .before .before .before .args .left)
+  facts = accepts-tested (n .before .before .before .before .before .args .body .now) (n .before .before .before .before .before .args .at) (n .before .before .before .before .before .args .depth) (n .before .before .before .before .before .args .left) acc
 
 -- what is known once the node's words are written
 abbrev Known : ℕ → Type 0
 Known t = read-formula-lts.After-shared-slice-known2 (read-formula-claims t) (read-formula-at t) read-formula.Post
 
 module _ (t : ℕ) (n : Known t) where
-  headed : Headed (n .before .before .before .before .before .before .before .before .before .before .before .args .s .now) (n .before .before .before .before .before .before .before .before .before .before .before .args .at) (node-start (n .before .before .before .before .before .before .before .before .before .before .before .args .left)) (n .before .before .before .before .before .before .before .before .before .before .before .args .nodes .now) (n .before .before .before .write-head .last .1 .1 .0)
-  headed = subst (λ (i : ℕ). Headed (n .before .before .before .before .before .before .before .before .before .before .before .args .s .now) (n .before .before .before .before .before .before .before .before .before .before .before .args .at) i (n .before .before .before .before .before .before .before .before .before .before .before .args .nodes .now) (n .before .before .before .write-head .last .1 .1 .0)) (n .before .before .before .before .before .node-place .ensures) (n .before .before .before .write-head .ensures)
+  headed : Headed (n .before .before .before .before .before .before .before .before .before .before .before .args .body .now) (n .before .before .before .before .before .before .before .before .before .before .before .args .at) (node-start (n .before .before .before .before .before .before .before .before .before .before .before .args .left)) (n .before .before .before .before .before .before .before .before .before .before .before .args .nodes .now) (n .before .before .before .write-head .last .1 .1 .0)
+  headed = subst (λ (i : ℕ). Headed (n .before .before .before .before .before .before .before .before .before .before .before .args .body .now) (n .before .before .before .before .before .before .before .before .before .before .before .args .at) i (n .before .before .before .before .before .before .before .before .before .before .before .args .nodes .now) (n .before .before .before .write-head .last .1 .1 .0)) (n .before .before .before .before .before .node-place .ensures) (n .before .before .before .write-head .ensures)
 
   room₁ : 768 ≤ length (n .before .before .before .write-head .last .1 .1 .0)
   room₁ = omega (arith, n .before .before .before .write-head .kept .1 .1 .0, n .before .before .before .before .before .before .before .before .before .before .before .pre .1 .1)
@@ -70,10 +70,10 @@ abbrev Two : ℕ → Type 0
 Two t = read-formula-lts.After-read-formula-arg3 (read-formula-claims t) (read-formula-at t) read-formula.Post
 
 module _ (t : ℕ) (d : Two t) where
-  low : 3 ≤ byte (d .before .before .before .before .before .before .before .before .before .before .before .before .before .before .before .args .s .now) (d .before .before .before .before .before .before .before .before .before .before .before .before .before .before .before .args .at)
+  low : 3 ≤ byte (d .before .before .before .before .before .before .before .before .before .before .before .before .before .before .before .args .body .now) (d .before .before .before .before .before .before .before .before .before .before .before .before .before .before .before .args .at)
   low = omega (arith, (facts t (d .before .before .before .before .before .before .before .before .before .before)) .known-low, d .before .if3 .left, d .before .before .if2 .left, d .before .before .before .if1 .left)
 
-  high : byte (d .before .before .before .before .before .before .before .before .before .before .before .before .before .before .before .args .s .now) (d .before .before .before .before .before .before .before .before .before .before .before .before .before .before .before .args .at) ≤ 4
+  high : byte (d .before .before .before .before .before .before .before .before .before .before .before .before .before .before .before .args .body .now) (d .before .before .before .before .before .before .before .before .before .before .before .before .before .before .before .args .at) ≤ 4
   high = omega (arith, (facts t (d .before .before .before .before .before .before .before .before .before .before)) .known-high, d .before .if3 .left)
 
 -- ... and its first part is read
@@ -84,7 +84,7 @@ module _ (t : ℕ) (e : Second t) where
   less : e .before .first2 .given .0 .1 .0 < e .before .before .before .before .before .before .before .before .before .before .before .before .before .before .before .before .before .before .before .before .before .args .left
   less =
       let s₀ = e .before .before .before .before .before .before .before .before .before .before .before .before .before .before .before .before .before .before .before .before .before in
-      second-left (s₀ .args .s .now) (s₀ .args .at) (s₀ .args .m) (s₀ .args .left) (s₀ .pre .1 .0) (acc t (e .before .before .before .before .before .before .before .before .before .before .before .before .before .before .before .before)) (s₀ .args .nodes .now)
+      second-left (s₀ .args .body .now) (s₀ .args .at) (s₀ .args .depth) (s₀ .args .left) (s₀ .pre .1 .0) (acc t (e .before .before .before .before .before .before .before .before .before .before .before .before .before .before .before .before)) (s₀ .args .nodes .now)
       (e .before .before .before .before .before .before .before .before .before .before .before .before .before .write-head .last .1 .1 .0) (headed t (e .before .before .before .before .before .before .before .before .before .before)) (low t (e .before .before .before .before .before .before)) (high t (e .before .before .before .before .before .before)) (e .before .before .before .before .before .read-formula3 .result) (e .before .before .before .before .before .read-formula3 .last .1 .0)
       (e .before .before .before .before .before .read-formula3 .ensures) (e .before .first2 .given .0 .0) (e .before .first2 .given .0 .1 .0) (e .before .first2 .given .1)
 
@@ -100,7 +100,7 @@ read-formula-enum-known-check t c = search needs
 read-formula-returns : (t : ℕ) → read-formula-lts.Need-returns (read-formula-claims t) (read-formula-at t) read-formula.Post
 read-formula-returns t c =
     let s₀ = c .before .before .before .before .before .before in
-    refused-fill (s₀ .args .s .now) (s₀ .args .at) (s₀ .args .m) (s₀ .args .left) (s₀ .args .nodes .now) (c .before .check .given .0 .0) (sym (ap check-number (c .before .check .given .1)) ∙ c .before .before .before .head-check .ensures)
+    refused-fill (s₀ .args .body .now) (s₀ .args .at) (s₀ .args .depth) (s₀ .args .left) (s₀ .args .nodes .now) (c .before .check .given .0 .0) (sym (ap check-number (c .before .check .given .1)) ∙ c .before .before .before .head-check .ensures)
 
 read-formula-enum-told : (t : ℕ) → read-formula-lts.Need-enum-told (read-formula-claims t) (read-formula-at t) read-formula.Post
 read-formula-enum-told t c = search needs
@@ -131,7 +131,7 @@ read-formula-same-length t c = search needs
 read-formula-returns-2 : (t : ℕ) → read-formula-lts.Need-returns-2 (read-formula-claims t) (read-formula-at t) read-formula.Post
 read-formula-returns-2 t c =
     let s₀ = c .before .before .before .before .before .before .before .before .before .before .before .before in
-    flag-fill (s₀ .args .s .now) (s₀ .args .at) (s₀ .args .m) (s₀ .args .left) (s₀ .pre .1 .0) (acc t (c .before .before .before .before .before .before .before)) (s₀ .args .nodes .now) (c .before .before .before .before .write-head .last .1 .1 .0) (headed t (c .before)) (c .if1 .taken)
+    flag-fill (s₀ .args .body .now) (s₀ .args .at) (s₀ .args .depth) (s₀ .args .left) (s₀ .pre .1 .0) (acc t (c .before .before .before .before .before .before .before)) (s₀ .args .nodes .now) (c .before .before .before .before .write-head .last .1 .1 .0) (headed t (c .before)) (c .if1 .taken)
 
 read-formula-add-read-formula : (t : ℕ) → read-formula-lts.Need-add-read-formula (read-formula-claims t) (read-formula-at t) read-formula.Post
 read-formula-add-read-formula t c = omega (arith, (facts t (c .before .before .before .before .before .before .before .before .before)) .there)
@@ -150,7 +150,7 @@ read-formula-same-length-2 t c = search needs
 read-formula-returns-3 : (t : ℕ) → read-formula-lts.Need-returns-3 (read-formula-claims t) (read-formula-at t) read-formula.Post
 read-formula-returns-3 t c =
     let s₀ = c .before .before .before .before .before .before .before .before .before .before .before .before .before .before .before .before .before in
-    negate-fill (s₀ .args .s .now) (s₀ .args .at) (s₀ .args .m) (s₀ .args .left) (s₀ .pre .1 .0) (acc t (c .before .before .before .before .before .before .before .before .before .before .before .before)) (s₀ .args .nodes .now) (c .before .before .before .before .before .before .before .before .before .write-head .last .1 .1 .0) (headed t (c .before .before .before .before .before .before)) (c .before .before .before .before .if2 .taken) (c .before .before .read-formula .result) (c .before .before .read-formula .last .1 .0) (c .before .before .read-formula .ensures)
+    negate-fill (s₀ .args .body .now) (s₀ .args .at) (s₀ .args .depth) (s₀ .args .left) (s₀ .pre .1 .0) (acc t (c .before .before .before .before .before .before .before .before .before .before .before .before)) (s₀ .args .nodes .now) (c .before .before .before .before .before .before .before .before .before .write-head .last .1 .1 .0) (headed t (c .before .before .before .before .before .before)) (c .before .before .before .before .if2 .taken) (c .before .before .read-formula .result) (c .before .before .read-formula .last .1 .0) (c .before .before .read-formula .ensures)
 
 read-formula-add-read-formula-2 : (t : ℕ) → read-formula-lts.Need-add-read-formula-2 (read-formula-claims t) (read-formula-at t) read-formula.Post
 read-formula-add-read-formula-2 t c =
@@ -174,7 +174,7 @@ read-formula-same-length-3 t c = search needs
 read-formula-returns-4 : (t : ℕ) → read-formula-lts.Need-returns-4 (read-formula-claims t) (read-formula-at t) read-formula.Post
 read-formula-returns-4 t c =
     let s₀ = c .before .before .before .before .before .before .before .before .before .before .before .before .before .before .before .before .before .before in
-    forall-fill (s₀ .args .s .now) (s₀ .args .at) (s₀ .args .m) (s₀ .args .left) (s₀ .pre .1 .0) (acc t (c .before .before .before .before .before .before .before .before .before .before .before .before .before)) (s₀ .args .nodes .now) (c .before .before .before .before .before .before .before .before .before .before .write-head .last .1 .1 .0) (headed t (c .before .before .before .before .before .before .before)) (c .before .before .before .before .if3 .taken) (c .before .before .read-formula2 .result) (c .before .before .read-formula2 .last .1 .0) (c .before .before .read-formula2 .ensures)
+    forall-fill (s₀ .args .body .now) (s₀ .args .at) (s₀ .args .depth) (s₀ .args .left) (s₀ .pre .1 .0) (acc t (c .before .before .before .before .before .before .before .before .before .before .before .before .before)) (s₀ .args .nodes .now) (c .before .before .before .before .before .before .before .before .before .before .write-head .last .1 .1 .0) (headed t (c .before .before .before .before .before .before .before)) (c .before .before .before .before .if3 .taken) (c .before .before .read-formula2 .result) (c .before .before .read-formula2 .last .1 .0) (c .before .before .read-formula2 .ensures)
 
 read-formula-add-read-formula-4 : (t : ℕ) → read-formula-lts.Need-add-read-formula-4 (read-formula-claims t) (read-formula-at t) read-formula.Post
 read-formula-add-read-formula-4 t c =
@@ -210,7 +210,7 @@ read-formula-same-length-4 t c = search needs
 read-formula-returns-5 : (t : ℕ) → read-formula-lts.Need-returns-5 (read-formula-claims t) (read-formula-at t) read-formula.Post
 read-formula-returns-5 t c =
     let s₀ = c .before .before .before .before .before .before .before .before .before .before .before .before .before .before .before .before .before .before .before .before .before in
-    first-fill (s₀ .args .s .now) (s₀ .args .at) (s₀ .args .m) (s₀ .args .left) (s₀ .pre .1 .0) (acc t (c .before .before .before .before .before .before .before .before .before .before .before .before .before .before .before .before)) (s₀ .args .nodes .now) (c .before .before .before .before .before .before .before .before .before .before .before .before .before .write-head .last .1 .1 .0) (headed t (c .before .before .before .before .before .before .before .before .before .before)) (low t (c .before .before .before .before .before .before)) (high t (c .before .before .before .before .before .before)) (c .before .before .before .before .before .read-formula3 .result) (c .before .before .before .before .before .read-formula3 .last .1 .0) (c .before .before .before .before .before .read-formula3 .ensures) (c .before .first .given .0 .0) (c .before .first .given .1)
+    first-fill (s₀ .args .body .now) (s₀ .args .at) (s₀ .args .depth) (s₀ .args .left) (s₀ .pre .1 .0) (acc t (c .before .before .before .before .before .before .before .before .before .before .before .before .before .before .before .before)) (s₀ .args .nodes .now) (c .before .before .before .before .before .before .before .before .before .before .before .before .before .write-head .last .1 .1 .0) (headed t (c .before .before .before .before .before .before .before .before .before .before)) (low t (c .before .before .before .before .before .before)) (high t (c .before .before .before .before .before .before)) (c .before .before .before .before .before .read-formula3 .result) (c .before .before .before .before .before .read-formula3 .last .1 .0) (c .before .before .before .before .before .read-formula3 .ensures) (c .before .first .given .0 .0) (c .before .first .given .1)
 
 read-formula-same-length-5 : (t : ℕ) → read-formula-lts.Need-same-length-5 (read-formula-claims t) (read-formula-at t) read-formula.Post
 read-formula-same-length-5 t c = search needs
@@ -220,9 +220,9 @@ read-formula-returns-6 t c =
     let s₀ = c .before .before .before .before .before .before .before .before .before .before .before .before .before .before .before .before .before .before .before .before .before .before .before .before .before .before .before .before .before in
     let x = c .before .before .before .before .before .before .before .before .before .first2 .given .0 .0 in
     let y = c .before .before .before .before .before .before .before .before .before .first2 .given .0 .1 .0 in
-    second-fill (s₀ .args .s .now) (s₀ .args .at) (s₀ .args .m) (s₀ .args .left) (s₀ .pre .1 .0) (acc t (c .before .before .before .before .before .before .before .before .before .before .before .before .before .before .before .before .before .before .before .before .before .before .before .before)) (s₀ .args .nodes .now) (c .before .before .before .before .before .before .before .before .before .before .before .before .before .before .before .before .before .before .before .before .before .write-head .last .1 .1 .0) (headed t (c .before .before .before .before .before .before .before .before .before .before .before .before .before .before .before .before .before .before)) (low t (c .before .before .before .before .before .before .before .before .before .before .before .before .before .before)) (high t (c .before .before .before .before .before .before .before .before .before .before .before .before .before .before)) (c .before .before .before .before .before .before .before .before .before .before .before .before .before .read-formula3 .result) (c .before .before .before .before .before .before .before .before .before .before .before .before .before .read-formula3 .last .1 .0) (c .before .before .before .before .before .before .before .before .before .before .before .before .before .read-formula3 .ensures) x y (c .before .before .before .before .before .before .before .before .before .first2 .given .1) (room₂ t (c .before .before .before .before .before .before .before .before))
+    second-fill (s₀ .args .body .now) (s₀ .args .at) (s₀ .args .depth) (s₀ .args .left) (s₀ .pre .1 .0) (acc t (c .before .before .before .before .before .before .before .before .before .before .before .before .before .before .before .before .before .before .before .before .before .before .before .before)) (s₀ .args .nodes .now) (c .before .before .before .before .before .before .before .before .before .before .before .before .before .before .before .before .before .before .before .before .before .write-head .last .1 .1 .0) (headed t (c .before .before .before .before .before .before .before .before .before .before .before .before .before .before .before .before .before .before)) (low t (c .before .before .before .before .before .before .before .before .before .before .before .before .before .before)) (high t (c .before .before .before .before .before .before .before .before .before .before .before .before .before .before)) (c .before .before .before .before .before .before .before .before .before .before .before .before .before .read-formula3 .result) (c .before .before .before .before .before .before .before .before .before .before .before .before .before .read-formula3 .last .1 .0) (c .before .before .before .before .before .before .before .before .before .before .before .before .before .read-formula3 .ensures) x y (c .before .before .before .before .before .before .before .before .before .first2 .given .1) (room₂ t (c .before .before .before .before .before .before .before .before))
     (c .before .before .read-formula4 .result) (c .before .before .read-formula4 .last .1 .0)
-    (subst (λ (z : List ℕ). Filled (s₀ .args .s .now) x (s₀ .args .m) y z (c .before .before .read-formula4 .result) (c .before .before .read-formula4 .last .1 .0))
+    (subst (λ (z : List ℕ). Filled (s₀ .args .body .now) x (s₀ .args .depth) y z (c .before .before .read-formula4 .result) (c .before .before .read-formula4 .last .1 .0))
     (c .before .before .before .before .before .before .write-second .ensures ∙ ap (λ (i : ℕ). set (c .before .before .before .before .before .before .before .before .before .before .before .before .before .read-formula3 .last .1 .0) (i + 7) (node-start y)) (c .before .before .before .before .before .before .before .before .before .before .before .before .before .before .before .before .before .before .before .before .before .before .before .node-place .ensures)) (c .before .before .read-formula4 .ensures))
 
 pub +read-formula-spec : {M : Type 1} → statement M

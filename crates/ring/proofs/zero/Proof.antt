@@ -23,8 +23,8 @@ loop-holds c = (fill-none (c .args .history .now) 0, (omega arith, refl))
 slice-write-history : tie.Need-slice-write-history Inv-loop μ-loop
 slice-write-history c = omega arith
 
-add-i : tie.Need-add-i Inv-loop μ-loop
-add-i c = omega arith
+add-at : tie.Need-add-at Inv-loop μ-loop
+add-at c = omega arith
 
 loop-less : tie.Need-loop-less Inv-loop μ-loop
 loop-less c = omega arith
@@ -33,8 +33,8 @@ loop-again : tie.Need-loop-again Inv-loop μ-loop
 loop-again c =
     let l = c .before .loop in
     let h₀ : List ℕ = c .before .before .args .history .now in (
-      ap (λ (h : List ℕ). set h (l .i) 0) (l .inv .0) ∙ fill-more (l .i) 0 h₀ (omega arith),
-      (omega arith, length-set (l .history) (l .i) 0 ∙ l .inv .1 .1),
+      ap (λ (h : List ℕ). set h (l .at) 0) (l .inv .0) ∙ fill-more (l .at) 0 h₀ (omega arith),
+      (omega arith, length-set (l .history) (l .at) 0 ∙ l .inv .1 .1),
     )
 
 same-length : tie.Need-same-length Inv-loop μ-loop
@@ -44,7 +44,7 @@ returns : tie.Need-returns Inv-loop μ-loop
 returns c =
     let l = c .before .loop in
     let h₀ : List ℕ = c .before .before .args .history .now in
-    let e : l .i ≡ length h₀ = omega arith in
+    let e : l .at ≡ length h₀ = omega arith in
     subst (λ (k : ℕ). l .history ≡ replicate k 0 ++ drop k h₀) e (l .inv .0)
     ∙ ap (λ (r : List ℕ). replicate (length h₀) 0 ++ r) (drop-length h₀)
     ∙ append-nil (replicate (length h₀) 0)
@@ -57,7 +57,7 @@ zero-spec =
     μ-loop
     loop-holds
     slice-write-history
-    add-i
+    add-at
     loop-less
     loop-again
     same-length

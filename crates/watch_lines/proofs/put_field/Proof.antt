@@ -32,9 +32,9 @@ returns c =
     let word = now (start .args .word) in
     let long : length (front ++ word) ≡ a .result =
     length-append front word ∙ ap (λ (k : ℕ). k + length word) (length-take-le (start .args .at) bytes (omega (arith, start .pre))) ∙ sym (a .ensures .0) in
-    let laid = laid-more (front ++ word) (decimal (start .args .n)) bytes (a .last .0) (n .last .0) (a .result) (n .result) (long, a .ensures .1) (n .ensures .1 .0) (n .ensures .1 .1) in
-    let sum : n .result ≡ (start .args .at + length word) + length (decimal (start .args .n)) =
-    n .ensures .1 .0 ∙ ap (λ (k : ℕ). k + length (decimal (start .args .n))) (a .ensures .0) in
+    let laid = laid-more (front ++ word) (decimal (start .args .number)) bytes (a .last .0) (n .last .0) (a .result) (n .result) (long, a .ensures .1) (n .ensures .1 .0) (n .ensures .1 .1) in
+    let sum : n .result ≡ (start .args .at + length word) + length (decimal (start .args .number)) =
+    n .ensures .1 .0 ∙ ap (λ (k : ℕ). k + length (decimal (start .args .number))) (a .ensures .0) in
     (omega (arith, a .ensures .0, n .ensures .0), (sum, laid .1))
 
 pub put-field-spec : {M : Type 1} → statement M

@@ -24,7 +24,7 @@ put-text-requires : tie.Need-put-text-requires
 put-text-requires c κs =
     let start = c .before .before .before .before .before in
     let d = c .before .before .decimal in
-    let k : d .result ≤ 20 = most-digits (d .result) (start .args .n) (omega (arith, start .fits .n)) (d .ensures .1 .0) in
+    let k : d .result ≤ 20 = most-digits (d .result) (start .args .number) (omega (arith, start .fits .number)) (d .ensures .1 .0) in
     let room : start .args .at + 20 ≤ length (now (start .args .out)) = start .pre in
     omega (arith, d .ensures .0 .1)
 
@@ -36,8 +36,8 @@ returns c =
     let d = c .before .before .before .before .before .decimal in
     let p = c .before .before .put-text in
     let start = c .before .before .before .before .before .before .before .before in
-    let n = start .args .n in
-    let small : n < 18446744073709551616 = omega (arith, start .fits .n) in
+    let n = start .args .number in
+    let small : n < 18446744073709551616 = omega (arith, start .fits .number) in
     let k : d .result ≤ 20 = most-digits (d .result) n small (d .ensures .1 .0) in
     let is = numeral-of (d .result) n small (d .ensures .1 .0) in
     let shown = d .ensures .1 .1 ∙ is in

@@ -42,14 +42,14 @@ part-figures-end c =
 figures-requires : tie.Need-figures-requires
 figures-requires c κs = search needs
 
-enum-known-a : tie.Need-enum-known-a
-enum-known-a c = search needs
+enum-known-answer : tie.Need-enum-known-answer
+enum-known-answer c = search needs
 
 print-refusal-requires-2 : tie.Need-print-refusal-requires-2
 print-refusal-requires-2 c κs = search needs
 
-enum-known-a-2 : tie.Need-enum-known-a-2
-enum-known-a-2 c = search needs
+enum-known-answer-2 : tie.Need-enum-known-answer-2
+enum-known-answer-2 c = search needs
 
 watch-rule-requires : tie.Need-watch-rule-requires
 watch-rule-requires c κs = search needs
@@ -76,9 +76,9 @@ run-sheet-spec =
     part-figures-start
     part-figures-end
     figures-requires
-    enum-known-a
+    enum-known-answer
     print-refusal-requires-2
-    enum-known-a-2
+    enum-known-answer-2
     watch-rule-requires
     returns
     returns-2

@@ -23,7 +23,7 @@ array-borrow-prefix-history c = search needs
 
 slice-aggregate-watch-over : tie.Need-slice-aggregate-watch-over
 slice-aggregate-watch-over c =
-    sym (length-take-le (c .before .before .before .before .before .before .args .f .history) (c .before .before .before .before .buffer .result) (omega arith))
+    sym (length-take-le (c .before .before .before .before .before .before .args .figures .history) (c .before .before .before .before .buffer .result) (omega arith))
 
 slice-aggregate-watch-over-2 : tie.Need-slice-aggregate-watch-over-2
 slice-aggregate-watch-over-2 c = search needs

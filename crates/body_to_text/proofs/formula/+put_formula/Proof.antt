@@ -72,16 +72,16 @@ module _ (t : ℕ) (n : Coded t) where
   ns = start .args .nodes .now
 
   abbrev place : Place
-  place = start .args .p
+  place = start .args .place
 
   some : place .left ≡ 0 → ⊥
   some = n .before .if1 .left
 
   -- a code that is not 0 stands in the table
-  inside : (c : ℕ) → n .node-word .result ≡ suc c → place .i < length ns
-  inside c e = word-in ns (place .i) c (sym (n .node-word .ensures) ∙ e)
+  inside : (c : ℕ) → n .node-word .result ≡ suc c → place .node < length ns
+  inside c e = word-in ns (place .node) c (sym (n .node-word .ensures) ∙ e)
 
-  two-inside : {two : Bool} → two ≡ (eqb (n .node-word .result) 3 || eqb (n .node-word .result) 4) → two ≡ true → place .i < length ns
+  two-inside : {two : Bool} → two ≡ (eqb (n .node-word .result) 3 || eqb (n .node-word .result) 4) → two ≡ true → place .node < length ns
   two-inside e f = elim (ℕ-discrete (n .node-word .result) 3) [
     | yes h ↦ inside 2 h
     | no h ↦ inside 3 (four (n .node-word .result) (sym e ∙ f) h)
@@ -105,7 +105,7 @@ put-formula-same-length t c = search needs
 put-formula-returns : (t : ℕ) → put-formula-lts.Need-returns (put-formula-claims t) (put-formula-at t) put-formula.Post
 put-formula-returns t c =
     let s = c .before .before .before .before .before .before .before .before in
-    at-end (s .args .nodes .now) (s .args .p) (c .before .before .before .before .if1 .taken) (c .before .before .put-flag .ensures)
+    at-end (s .args .nodes .now) (s .args .place) (c .before .before .before .before .if1 .taken) (c .before .before .put-flag .ensures)
 
 put-formula-node-word-requires : (t : ℕ) → put-formula-lts.Need-node-word-requires (put-formula-claims t) (put-formula-at t) put-formula.Post
 put-formula-node-word-requires t c κs = search needs
@@ -164,8 +164,8 @@ put-formula-put-sign-requires t c κs = search needs
 put-formula-node-word-requires-2 : (t : ℕ) → put-formula-lts.Need-node-word-requires-2 (put-formula-claims t) (put-formula-at t) put-formula.Post
 put-formula-node-word-requires-2 t c κs = search needs
 
-put-formula-cast-j : (t : ℕ) → put-formula-lts.Need-cast-j (put-formula-claims t) (put-formula-at t) put-formula.Post
-put-formula-cast-j t c = search needs
+put-formula-cast-second-node : (t : ℕ) → put-formula-lts.Need-cast-second-node (put-formula-claims t) (put-formula-at t) put-formula.Post
+put-formula-cast-second-node t c = search needs
 
 put-formula-part-at-requires-3 : (t : ℕ) → put-formula-lts.Need-part-at-requires-3 (put-formula-claims t) (put-formula-at t) put-formula.Post
 put-formula-part-at-requires-3 t c κs =
@@ -299,7 +299,7 @@ pub +put-formula-spec : {M : Type 1} → statement M
     (put-formula-put-formula-requires-2 t)
     (put-formula-put-sign-requires t)
     (put-formula-node-word-requires-2 t)
-    (put-formula-cast-j t)
+    (put-formula-cast-second-node t)
     (put-formula-part-at-requires-3 t)
     (put-formula-put-formula-requires-3 t)
     (put-formula-put-requires-3 t)

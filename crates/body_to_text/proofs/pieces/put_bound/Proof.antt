@@ -29,7 +29,7 @@ returns c =
     let at-if1 = past-put .before .before in
     let past-node-word = at-if1 .before in
     let a = past-node-word .before .before .before .args in
-    wrote-as (bound-origin (now (a .nodes)) (a .j) (past-node-word .node-word .ensures) (at-if1 .if1 .taken) (past-node-word2 .node-word2 .ensures))
+    wrote-as (bound-origin (now (a .nodes)) (a .bound) (past-node-word .node-word .ensures) (at-if1 .if1 .taken) (past-node-word2 .node-word2 .ensures))
     (wrote-then (past-put .put .ensures) (c .before .before .put-offset .ensures))
 
 slice-aggregate-put-word : tie.Need-slice-aggregate-put-word
@@ -46,7 +46,7 @@ returns-2 c =
     let past-if2 = c .before .before .before .before .before in
     let past-node-word = past-if2 .before .before in
     let a = past-node-word .before .before .before .args in
-    wrote-as (bound-infinity (now (a .nodes)) (a .j) (past-node-word .node-word .ensures) (past-if2 .if2 .taken)) (c .before .before .put-word .ensures)
+    wrote-as (bound-infinity (now (a .nodes)) (a .bound) (past-node-word .node-word .ensures) (past-if2 .if2 .taken)) (c .before .before .put-word .ensures)
 
 node-word-requires-3 : tie.Need-node-word-requires-3
 node-word-requires-3 c κs = search needs
@@ -73,7 +73,7 @@ returns-3 c =
     let n = at-if1 .before in
     let a = n .before .before .before .args in
     wrote-as
-    (bound-variable (now (a .nodes)) (a .j) (n .node-word .ensures) (at-if1 .if1 .left) (past-if2 .if2 .left) (past-node-word3 .node-word3 .ensures)
+    (bound-variable (now (a .nodes)) (a .bound) (n .node-word .ensures) (at-if1 .if1 .left) (past-if2 .if2 .left) (past-node-word3 .node-word3 .ensures)
     (past-node-word4 .node-word4 .ensures))
     (wrote-then (past-put-name .put-name .ensures) (c .before .before .put-offset2 .ensures))
 

@@ -23,7 +23,7 @@ returns c =
     let past-digit = c .before .before .before in
     let at-if1 = past-digit .before .before in
     let start = at-if1 .before .before in
-    let n = start .args .n in
+    let n = start .args .number in
     wrote-as (ap (λ (d : ℕ). d ∷ []) (past-digit .digit .ensures) ∙ one-digit n (at-if1 .if1 .taken)) (c .before .before .put .ensures)
 
 put-two-digits-requires : tie.Need-put-two-digits-requires
@@ -37,7 +37,7 @@ returns-2 c =
     let past-if2 = c .before .before .before .before in
     let at-if1 = past-if2 .before in
     let start = at-if1 .before .before in
-    let n = start .args .n in
+    let n = start .args .number in
     wrote-as (two-digits n (at-if1 .if1 .left) (past-if2 .if2 .taken)) (c .before .before .put-two-digits .ensures)
 
 put-three-digits-requires : tie.Need-put-three-digits-requires
@@ -51,7 +51,7 @@ returns-3 c =
     let past-if3 = c .before .before .before .before in
     let past-if2 = past-if3 .before in
     let start = past-if2 .before .before .before in
-    let n = start .args .n in
+    let n = start .args .number in
     wrote-as (three-digits n (past-if2 .if2 .left) (past-if3 .if3 .taken)) (c .before .before .put-three-digits .ensures)
 
 digit-requires-2 : tie.Need-digit-requires-2
@@ -72,7 +72,7 @@ returns-4 c =
     let past-digit2 = past-put2 .before in
     let past-if3 = past-digit2 .before .before in
     let start = past-if3 .before .before .before .before in
-    let n = start .args .n in
+    let n = start .args .number in
     wrote-as (four-digits n (past-if3 .if3 .left))
     (wrote-then (wrote-as (ap (λ (d : ℕ). d ∷ []) (past-digit2 .digit2 .ensures)) (past-put2 .put2 .ensures)) (c .before .before .put-three-digits2 .ensures))
 

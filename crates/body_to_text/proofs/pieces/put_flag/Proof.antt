@@ -31,7 +31,7 @@ returns c =
     let past-put-name = past-put2 .before .before .before .before in
     let past-put = past-put-name .before .before .before .before in
     let a = past-put .before .before .before .args in
-    λ h. wrote-as (flag-spelt (a .v) (a .k) (past-digit .digit .result) h (past-digit .digit .ensures))
+    λ h. wrote-as (flag-spelt (a .variable) (a .k) (past-digit .digit .result) h (past-digit .digit .ensures))
     (wrote-then (past-put .put .ensures)
     (wrote-then (past-put-name .put-name .ensures) (wrote-then (past-put2 .put2 .ensures) (c .before .before .put3 .ensures))))
 

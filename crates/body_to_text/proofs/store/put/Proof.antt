@@ -9,7 +9,7 @@ use Rattle.body_to_text.proofs.store.put.Tie as tie
 returns : tie.Need-returns
 returns c =
     let a = c .before .args in
-    wrote-past (now (a .out)) (a .at) (a .b) (c .if1 .taken)
+    wrote-past (now (a .out)) (a .at) (a .byte) (c .if1 .taken)
 
 slice-write-out : tie.Need-slice-write-out
 slice-write-out c = search needs
@@ -23,7 +23,7 @@ same-length c = search needs
 returns-2 : tie.Need-returns-2
 returns-2 c =
     let a = c .before .args in
-    wrote-byte (now (a .out)) (a .at) (a .b) (c .if1 .left)
+    wrote-byte (now (a .out)) (a .at) (a .byte) (c .if1 .left)
 
 pub put-spec : {M : Type 1} → statement M
 put-spec = tie.close (tie.spec returns slice-write-out add-result same-length returns-2)

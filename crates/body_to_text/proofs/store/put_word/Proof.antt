@@ -1,4 +1,4 @@
--- `body_to_text::store::put_word` meets its contract. The loop's invariant: the first i bytes of the word are stored.
+-- `body_to_text::store::put_word` meets its contract. The loop's invariant: the first `index` bytes of the word are stored.
 -- Assumes nothing.
 use Prim.Native.Nat.{_-_, _≤_}
 use native.Mathlib.Omega.{arith}
@@ -11,10 +11,10 @@ use Rattle.body_to_text.proofs.store.put_word.Statement.{statement}
 use Rattle.body_to_text.proofs.store.put_word.Tie as tie
 
 abbrev Inv-loop : tie.InvT-loop
-Inv-loop out₀ at word next₀ i₀ out next i = (i ≤ length word) × Wrote (take i word) out₀ at out next
+Inv-loop out₀ at word next₀ index₀ out next index = (index ≤ length word) × Wrote (take index word) out₀ at out next
 
 abbrev μ-loop : tie.MeasureT-loop
-μ-loop out₀ at word next₀ i₀ out next i = length word - i
+μ-loop out₀ at word next₀ index₀ out next index = length word - index
 
 loop-holds : tie.Need-loop-holds Inv-loop μ-loop
 loop-holds c =
@@ -27,8 +27,8 @@ shared-slice-read-put c = search needs
 put-requires : tie.Need-put-requires Inv-loop μ-loop
 put-requires c κs = search needs
 
-add-i : tie.Need-add-i Inv-loop μ-loop
-add-i c = omega arith
+add-index : tie.Need-add-index Inv-loop μ-loop
+add-index c = omega arith
 
 loop-less : tie.Need-loop-less Inv-loop μ-loop
 loop-less c = omega arith
@@ -37,7 +37,7 @@ loop-again : tie.Need-loop-again Inv-loop μ-loop
 loop-again c =
     let l = c .before .before .before .before .before .before .loop in
     let word = now (c .before .before .before .before .before .before .before .before .before .args .word) in
-    (omega arith, wrote-more word (l .i) (omega arith) (l .inv .1) (c .before .before .put .ensures))
+    (omega arith, wrote-more word (l .index) (omega arith) (l .inv .1) (c .before .before .put .ensures))
 
 same-length : tie.Need-same-length Inv-loop μ-loop
 same-length c = c .before .loop .inv .1 .kept
@@ -45,7 +45,7 @@ same-length c = c .before .loop .inv .1 .kept
 returns : tie.Need-returns Inv-loop μ-loop
 returns c =
     let l = c .before .loop in
-    wrote-word (now (c .before .before .before .before .args .word)) (l .i) (omega arith) (l .inv .1)
+    wrote-word (now (c .before .before .before .before .args .word)) (l .index) (omega arith) (l .inv .1)
 
 pub put-word-spec : {M : Type 1} → statement M
 put-word-spec =
@@ -56,7 +56,7 @@ put-word-spec =
     loop-holds
     shared-slice-read-put
     put-requires
-    add-i
+    add-index
     loop-less
     loop-again
     same-length

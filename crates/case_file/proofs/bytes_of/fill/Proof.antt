@@ -8,10 +8,10 @@ use Rattle.case_file.proofs.bytes_of.fill.Statement.{statement}
 use Rattle.case_file.proofs.bytes_of.fill.Tie as tie
 
 abbrev Inv-loop : tie.InvT-loop
-Inv-loop out₀ from byte times k₀ out k = (k ≤ times) × (length out ≡ length out₀)
+Inv-loop out₀ from byte times index₀ out index = (index ≤ times) × (length out ≡ length out₀)
 
 abbrev μ-loop : tie.MeasureT-loop
-μ-loop out₀ from byte times k₀ out k = times - k
+μ-loop out₀ from byte times index₀ out index = times - index
 
 loop-holds : tie.Need-loop-holds Inv-loop μ-loop
 loop-holds c = search needs
@@ -22,8 +22,8 @@ add-out c = search needs
 slice-write-out : tie.Need-slice-write-out Inv-loop μ-loop
 slice-write-out c = search needs
 
-add-k : tie.Need-add-k Inv-loop μ-loop
-add-k c = search needs
+add-index : tie.Need-add-index Inv-loop μ-loop
+add-index c = search needs
 
 loop-less : tie.Need-loop-less Inv-loop μ-loop
 loop-less c = search needs
@@ -46,7 +46,7 @@ fill-spec =
     loop-holds
     add-out
     slice-write-out
-    add-k
+    add-index
     loop-less
     loop-again
     same-length

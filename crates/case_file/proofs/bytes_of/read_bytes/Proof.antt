@@ -9,10 +9,10 @@ use Rattle.case_file.proofs.bytes_of.read_bytes.Statement.{statement}
 use Rattle.case_file.proofs.bytes_of.read_bytes.Tie as tie
 
 abbrev Inv-loop : tie.InvT-loop
-Inv-loop text out₀ at₀ n₀ out at n = (n ≤ length out) × (length out ≡ length out₀)
+Inv-loop text out₀ at₀ count₀ out at count = (count ≤ length out) × (length out ≡ length out₀)
 
 abbrev μ-loop : tie.MeasureT-loop
-μ-loop text out₀ at₀ n₀ out at n = length text - at
+μ-loop text out₀ at₀ count₀ out at count = length text - at
 
 loop-holds : tie.Need-loop-holds Inv-loop μ-loop
 loop-holds c = search needs
@@ -38,8 +38,8 @@ returns-2 c = search needs
 fill-requires : tie.Need-fill-requires Inv-loop μ-loop
 fill-requires c κs = search needs
 
-add-n : tie.Need-add-n Inv-loop μ-loop
-add-n c = search needs
+add-count : tie.Need-add-count Inv-loop μ-loop
+add-count c = search needs
 
 loop-less : tie.Need-loop-less Inv-loop μ-loop
 loop-less c = search needs
@@ -67,7 +67,7 @@ read-bytes-spec =
     same-length-2
     returns-2
     fill-requires
-    add-n
+    add-count
     loop-less
     loop-again
     same-length-3

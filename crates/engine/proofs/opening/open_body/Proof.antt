@@ -11,8 +11,8 @@ use Rattle.engine.proofs.opening.open_body.Tie as tie
 admit-opening-requires : tie.Need-admit-opening-requires
 admit-opening-requires c κs = search needs
 
-enum-known-a : tie.Need-enum-known-a
-enum-known-a c = search needs
+enum-known-answer : tie.Need-enum-known-answer
+enum-known-answer c = search needs
 
 refused-requires : tie.Need-refused-requires
 refused-requires c κs = search needs
@@ -30,7 +30,7 @@ returns : tie.Need-returns
 returns c =
     let s₀ = c .before .before .before .before .before .before .before .before in
     body-refused (s₀ .args .body .now) (s₀ .args .history .now) (length (s₀ .args .cells .now)) (c .before .before .before .before .admit-opening .result) (c .before .before .before .before .admit-opening .ensures)
-    (c .refused .result) (c .before .before .a .given .1) (c .refused .ensures)
+    (c .refused .result) (c .before .before .answer .given .1) (c .refused .ensures)
 
 same-length : tie.Need-same-length
 same-length c = search needs
@@ -48,7 +48,7 @@ open-body-spec =
     tie.close
     (tie.spec
     admit-opening-requires
-    enum-known-a
+    enum-known-answer
     refused-requires
     enum-told
     zero-requires

@@ -8,12 +8,12 @@ use Rattle.figures.proofs.answer.limit_delay.Tie as tie
 enum-told : tie.Need-enum-told
 enum-told c = search needs
 
-enum-known-d : tie.Need-enum-known-d
-enum-known-d c = search needs
+enum-known-delay : tie.Need-enum-known-delay
+enum-known-delay c = search needs
 
 returns : tie.Need-returns
 unfolding limit-delay
-returns c = rw (c .before .before .d .given .1, lt-leb (c .before .before .d .given .0 .0) 255 (c .if1 .taken))
+returns c = rw (c .before .before .delay .given .1, lt-leb (c .before .before .delay .given .0 .0) 255 (c .if1 .taken))
 
 cast-limit-history : tie.Need-cast-limit-history
 cast-limit-history c = search needs
@@ -28,14 +28,14 @@ returns-2 c = rw (c .enum-told .given .1)
 returns-3 : tie.Need-returns-3
 unfolding limit-delay
 returns-3 c =
-    rw (c .before .before .before .d .given .1, le-leb (c .before .before .before .d .given .0 .0) 255 (c .before .if1 .left)) (c .limit-history .ensures)
+    rw (c .before .before .before .delay .given .1, le-leb (c .before .before .before .delay .given .0 .0) 255 (c .before .if1 .left)) (c .limit-history .ensures)
 
 pub limit-delay-spec : {M : Type 1} → statement M
 limit-delay-spec =
     tie.close
     (tie.spec
     enum-told
-    enum-known-d
+    enum-known-delay
     returns
     cast-limit-history
     limit-history-requires

@@ -8,12 +8,12 @@ use Rattle.figures.proofs.answer.limit_history.Tie as tie
 enum-told : tie.Need-enum-told
 enum-told c = search needs
 
-enum-known-h : tie.Need-enum-known-h
-enum-known-h c = search needs
+enum-known-history : tie.Need-enum-known-history
+enum-known-history c = search needs
 
 returns : tie.Need-returns
 unfolding limit-history
-returns c = rw (c .before .before .h .given .1, lt-leb (c .before .before .h .given .0 .0) 4096 (c .if1 .taken))
+returns c = rw (c .before .before .history .given .1, lt-leb (c .before .before .history .given .0 .0) 4096 (c .if1 .taken))
 
 rule-cells-requires : tie.Need-rule-cells-requires
 rule-cells-requires c κs = search needs
@@ -28,14 +28,14 @@ returns-2 c = rw (c .enum-told .given .1)
 returns-3 : tie.Need-returns-3
 unfolding limit-history
 returns-3 c =
-    rw (c .before .before .before .before .h .given .1, le-leb (c .before .before .before .before .h .given .0 .0) 4096 (c .before .before .if1 .left), ← c .before .rule-cells .ensures) (c .limit-cells .ensures)
+    rw (c .before .before .before .before .history .given .1, le-leb (c .before .before .before .before .history .given .0 .0) 4096 (c .before .before .if1 .left), ← c .before .rule-cells .ensures) (c .limit-cells .ensures)
 
 pub limit-history-spec : {M : Type 1} → statement M
 limit-history-spec =
     tie.close
     (tie.spec
     enum-told
-    enum-known-h
+    enum-known-history
     returns
     rule-cells-requires
     limit-cells-requires

@@ -10,7 +10,7 @@ cast-result : tie.Need-cast-result
 cast-result c = search needs
 
 returns : tie.Need-returns
-returns c = toZ-pos w64 (c .args .k) (omega (arith, c .pre))
+returns c = toZ-pos w64 (c .args .number) (omega (arith, c .pre))
 
 pub as-signed-spec : {M : Type 1} → statement M
 as-signed-spec = tie.close (tie.spec cast-result returns)

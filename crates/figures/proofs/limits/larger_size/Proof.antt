@@ -9,14 +9,14 @@ use Rattle.figures.proofs.limits.larger_size.Tie as tie
 enum-told : tie.Need-enum-told
 enum-told c = search needs
 
-enum-known-a : tie.Need-enum-known-a
-enum-known-a c = search needs
+enum-known-first : tie.Need-enum-known-first
+enum-known-first c = search needs
 
 enum-told-2 : tie.Need-enum-told-2
 enum-told-2 c = search needs
 
-enum-known-b : tie.Need-enum-known-b
-enum-known-b c = search needs
+enum-known-second : tie.Need-enum-known-second
+enum-known-second c = search needs
 
 later-requires : tie.Need-later-requires
 later-requires c κs = search needs
@@ -27,21 +27,21 @@ returns c = rw (c .enum-told .given .1)
 
 returns-2 : tie.Need-returns-2
 unfolding larger
-returns-2 c = rw (c .before .before .before .a .given .1, c .enum-told2 .given .1)
+returns-2 c = rw (c .before .before .before .first .given .1, c .enum-told2 .given .1)
 
 returns-3 : tie.Need-returns-3
 unfolding larger
 returns-3 c =
-    rw (c .before .before .before .before .before .a .given .1, c .before .before .b .given .1) (ap Finite (c .later .ensures))
+    rw (c .before .before .before .before .before .first .given .1, c .before .before .second .given .1) (ap Finite (c .later .ensures))
 
 pub larger-size-spec : {M : Type 1} → statement M
 larger-size-spec =
     tie.close
     (tie.spec
     enum-told
-    enum-known-a
+    enum-known-first
     enum-told-2
-    enum-known-b
+    enum-known-second
     later-requires
     returns
     returns-2

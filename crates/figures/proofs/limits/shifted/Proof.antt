@@ -14,14 +14,14 @@ use Rattle.figures.proofs.limits.shifted.Tie as tie
 enum-told : tie.Need-enum-told
 enum-told c = search needs
 
-enum-known-l : tie.Need-enum-known-l
-enum-known-l c = search needs
+enum-known-limit : tie.Need-enum-known-limit
+enum-known-limit c = search needs
 
 sum-requires : tie.Need-sum-requires
 sum-requires c κs =
     let s₀ = c .before .before .before in
-    let h : natAbs (c .before .l .given .0 .0) ≤ farthest = subst (Near farthest) (c .before .l .given .1) (s₀ .pre .0) in
-    (bits-abs (c .before .l .given .0 .0) (2 * farthest) (omega arith) (omega arith), bits-abs (s₀ .args .n) (2 * farthest) (omega (arith, s₀ .pre .1)) (omega arith))
+    let h : natAbs (c .before .limit .given .0 .0) ≤ farthest = subst (Near farthest) (c .before .limit .given .1) (s₀ .pre .0) in
+    (bits-abs (c .before .limit .given .0 .0) (2 * farthest) (omega arith) (omega arith), bits-abs (s₀ .args .offset) (2 * farthest) (omega (arith, s₀ .pre .1)) (omega arith))
 
 enum-told-2 : tie.Need-enum-told-2
 enum-told-2 c = search needs
@@ -34,8 +34,8 @@ returns-2 : tie.Need-returns-2
 unfolding shift
 returns-2 c =
     let s₀ = c .before .before .before .before in
-    let h : natAbs (c .before .before .l .given .0 .0) ≤ farthest = subst (Near farthest) (c .before .before .l .given .1) (s₀ .pre .0) in
-    rw (c .before .before .l .given .1) (ap At (sum-read (c .before .before .l .given .0 .0) (s₀ .args .n) (omega arith) (omega (arith, s₀ .pre .1)) (c .sum .ensures)))
+    let h : natAbs (c .before .before .limit .given .0 .0) ≤ farthest = subst (Near farthest) (c .before .before .limit .given .1) (s₀ .pre .0) in
+    rw (c .before .before .limit .given .1) (ap At (sum-read (c .before .before .limit .given .0 .0) (s₀ .args .offset) (omega arith) (omega (arith, s₀ .pre .1)) (c .sum .ensures)))
 
 returns-3 : tie.Need-returns-3
 unfolding shift
@@ -44,4 +44,4 @@ returns-3 c = rw (c .enum-told2 .given .1)
 pub shifted-spec : {M : Type 1} → statement M
 shifted-spec =
     tie.close
-    (tie.spec enum-told enum-known-l sum-requires enum-told-2 returns returns-2 returns-3)
+    (tie.spec enum-told enum-known-limit sum-requires enum-told-2 returns returns-2 returns-3)

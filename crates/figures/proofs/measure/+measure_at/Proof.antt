@@ -48,18 +48,18 @@ abbrev Ranged : ℕ → Type 0
 Ranged t = measure-at-lts.After-range-pair (measure-at-claims t) (measure-at-at t) measure-at.Post
 
 module _ (t : ℕ) (n : Ranged t) where
-  nested : n .before .before .before .before .before .before .before .before .before .before .before .before .before .args .m < 4
+  nested : n .before .before .before .before .before .before .before .before .before .before .before .before .before .args .depth < 4
   nested = omega (arith, n .before .before .if5 .left)
 
   lower-ok : Near farthest (n .range-pair .result .lower)
   lower-ok =
       let s₀ = n .before .before .before .before .before .before .before .before .before .before .before .before .before in
-      near-more (n .range-pair .result .lower) (omega (arith, nested)) (lower-near (s₀ .args .nodes .now) (s₀ .args .m) (n .before .before .before .before .before .before .before .before .before .before .skip-nots .result .i) (inside (s₀ .args .scope) (s₀ .args .m)) nested (s₀ .pre .1 .within) (n .range-pair .result) (n .range-pair .ensures))
+      near-more (n .range-pair .result .lower) (omega (arith, nested)) (lower-near (s₀ .args .nodes .now) (s₀ .args .depth) (n .before .before .before .before .before .before .before .before .before .before .skip-nots .result .node) (inside (s₀ .args .scope) (s₀ .args .depth)) nested (s₀ .pre .1 .within) (n .range-pair .result) (n .range-pair .ensures))
 
   upper-ok : Near farthest (n .range-pair .result .upper)
   upper-ok =
       let s₀ = n .before .before .before .before .before .before .before .before .before .before .before .before .before in
-      near-more (n .range-pair .result .upper) (omega (arith, nested)) (upper-near (s₀ .args .nodes .now) (s₀ .args .m) (n .before .before .before .before .before .before .before .before .before .before .skip-nots .result .i) (inside (s₀ .args .scope) (s₀ .args .m)) nested (s₀ .pre .1 .within) (n .range-pair .result) (n .range-pair .ensures))
+      near-more (n .range-pair .result .upper) (omega (arith, nested)) (upper-near (s₀ .args .nodes .now) (s₀ .args .depth) (n .before .before .before .before .before .before .before .before .before .before .skip-nots .result .node) (inside (s₀ .args .scope) (s₀ .args .depth)) nested (s₀ .pre .1 .within) (n .range-pair .result) (n .range-pair .ensures))
 
 measure-at-skip-nots-requires : (t : ℕ) → measure-at-lts.Need-skip-nots-requires (measure-at-claims t) (measure-at-at t) measure-at.Post
 measure-at-skip-nots-requires t c κs = search needs
@@ -78,15 +78,15 @@ measure-at-returns measure c =
     let at-flag-figure = c .flag-figure in
     let old = s₀ .args .nodes .now in
     let left = s₀ .args .left in
-    let m = s₀ .args .m in
-    let i = s₀ .args .i in
+    let m = s₀ .args .depth in
+    let i = s₀ .args .node in
     let sc = s₀ .args .scope in
-    let ps = inside (s₀ .args .scope) (s₀ .args .m) in
+    let ps = inside (s₀ .args .scope) (s₀ .args .depth) in
     let start = s₀ .args .start in
     let u = at-skip-nots .result in
     let v = flag-safe (at-flag-figure .result) (at-flag-figure .ensures) in
     above-nots old old left m i sc start (at-flag-figure .result) u (at-skip-nots .ensures)
-    (record { small = v .0; modest = v .1; promise = none-left m (u .i) ps start old (at-flag-figure .result) (u .left) (at-if1 .taken) })
+    (record { small = v .0; modest = v .1; promise = none-left m (u .node) ps start old (at-flag-figure .result) (u .left) (at-if1 .taken) })
 
 measure-at-node-word-requires : (t : ℕ) → measure-at-lts.Need-node-word-requires (measure-at-claims t) (measure-at-at t) measure-at.Post
 measure-at-node-word-requires t c κs = tt
@@ -94,8 +94,8 @@ measure-at-node-word-requires t c κs = tt
 measure-at-node-word-requires-2 : (t : ℕ) → measure-at-lts.Need-node-word-requires-2 (measure-at-claims t) (measure-at-at t) measure-at.Post
 measure-at-node-word-requires-2 t c κs = tt
 
-measure-at-cast-j : (t : ℕ) → measure-at-lts.Need-cast-j (measure-at-claims t) (measure-at-at t) measure-at.Post
-measure-at-cast-j t c = search needs
+measure-at-cast-second : (t : ℕ) → measure-at-lts.Need-cast-second (measure-at-claims t) (measure-at-at t) measure-at.Post
+measure-at-cast-second t c = search needs
 
 measure-at-sub-measure-at : (t : ℕ) → measure-at-lts.Need-sub-measure-at (measure-at-claims t) (measure-at-at t) measure-at.Post
 measure-at-sub-measure-at measure c =
@@ -110,7 +110,7 @@ measure-at-add-measure-at measure c =
     let at-if2 = c .before .before .before .before .before .if2 in
     let old = s₀ .args .nodes .now in
     let u = at-skip-nots .result in
-    omega (arith, word-in old (u .i) 2 (sym (at-node-word .ensures) ∙ at-if2 .taken), s₀ .good .0)
+    omega (arith, word-in old (u .node) 2 (sym (at-node-word .ensures) ∙ at-if2 .taken), s₀ .good .0)
 
 measure-at-measure-at-requires : (t : ℕ) → measure-at-lts.Need-measure-at-requires (measure-at-claims t) (measure-at-at t) measure-at.Post
 measure-at-measure-at-requires measure c κs =
@@ -119,7 +119,7 @@ measure-at-measure-at-requires measure c κs =
     let at-if1 = c .before .before .before .before .before .before .before .before .if1 in
     let old = s₀ .args .nodes .now in
     let left = s₀ .args .left in
-    let i = s₀ .args .i in
+    let i = s₀ .args .node in
     let u = at-skip-nots .result in
     let few = nots-left old left i false u (at-skip-nots .ensures) in
     (omega (arith, s₀ .pre .0, at-if1 .left, few), s₀ .pre .1)
@@ -141,7 +141,7 @@ measure-at-measure-at-requires-2 measure c κs =
     let at-larger-size = c .larger-size in
     let old = s₀ .args .nodes .now in
     let left = s₀ .args .left in
-    let i = s₀ .args .i in
+    let i = s₀ .args .node in
     let start = s₀ .args .start in
     let u = at-skip-nots .result in
     let few = nots-left old left i false u (at-skip-nots .ensures) in (
@@ -173,22 +173,22 @@ measure-at-returns-2 measure c =
     let at-then-figure = c .then-figure in
     let old = s₀ .args .nodes .now in
     let left = s₀ .args .left in
-    let m = s₀ .args .m in
-    let i = s₀ .args .i in
+    let m = s₀ .args .depth in
+    let i = s₀ .args .node in
     let sc = s₀ .args .scope in
-    let ps = inside (s₀ .args .scope) (s₀ .args .m) in
+    let ps = inside (s₀ .args .scope) (s₀ .args .depth) in
     let start = s₀ .args .start in
     let u = at-skip-nots .result in
     let w = at-node-word .result in
     let v = then-safe (at-measure-at .result) (at-measure-at2 .result) (at-then-figure .result) (at-then-figure .ensures) (at-measure-at .ensures .modest) (at-measure-at2 .ensures .modest) in
     above-nots old (at-measure-at2 .last .0) left m i sc start (at-then-figure .result) u (at-skip-nots .ensures)
-    (record { small = v .0; modest = v .1; promise = then-arm old (u .left) m (u .i) w ps start (at-node-word .ensures) (at-if1 .left) (at-node-word2 .result) (at-measure-at .last .0) (at-measure-at2 .last .0) (at-measure-at .result) (at-measure-at2 .result) (at-then-figure .result) (at-node-word2 .ensures) (at-measure-at .kept .0) (at-measure-at .ensures .promise) (at-larger-size .result) (at-if2 .taken) (at-larger-size .ensures) (at-measure-at2 .ensures .promise) (at-then-figure .ensures) })
+    (record { small = v .0; modest = v .1; promise = then-arm old (u .left) m (u .node) w ps start (at-node-word .ensures) (at-if1 .left) (at-node-word2 .result) (at-measure-at .last .0) (at-measure-at2 .last .0) (at-measure-at .result) (at-measure-at2 .result) (at-then-figure .result) (at-node-word2 .ensures) (at-measure-at .kept .0) (at-measure-at .ensures .promise) (at-larger-size .result) (at-if2 .taken) (at-larger-size .ensures) (at-measure-at2 .ensures .promise) (at-then-figure .ensures) })
 
 measure-at-node-word-requires-3 : (t : ℕ) → measure-at-lts.Need-node-word-requires-3 (measure-at-claims t) (measure-at-at t) measure-at.Post
 measure-at-node-word-requires-3 t c κs = tt
 
-measure-at-cast-j-2 : (t : ℕ) → measure-at-lts.Need-cast-j-2 (measure-at-claims t) (measure-at-at t) measure-at.Post
-measure-at-cast-j-2 t c = search needs
+measure-at-cast-second-2 : (t : ℕ) → measure-at-lts.Need-cast-second-2 (measure-at-claims t) (measure-at-at t) measure-at.Post
+measure-at-cast-second-2 t c = search needs
 
 measure-at-sub-measure-at-3 : (t : ℕ) → measure-at-lts.Need-sub-measure-at-3 (measure-at-claims t) (measure-at-at t) measure-at.Post
 measure-at-sub-measure-at-3 measure c =
@@ -203,7 +203,7 @@ measure-at-add-measure-at-2 measure c =
     let at-if3 = c .before .before .before .before .before .if3 in
     let old = s₀ .args .nodes .now in
     let u = at-skip-nots .result in
-    omega (arith, word-in old (u .i) 3 (sym (at-node-word .ensures) ∙ at-if3 .taken), s₀ .good .0)
+    omega (arith, word-in old (u .node) 3 (sym (at-node-word .ensures) ∙ at-if3 .taken), s₀ .good .0)
 
 measure-at-measure-at-requires-3 : (t : ℕ) → measure-at-lts.Need-measure-at-requires-3 (measure-at-claims t) (measure-at-at t) measure-at.Post
 measure-at-measure-at-requires-3 measure c κs =
@@ -212,7 +212,7 @@ measure-at-measure-at-requires-3 measure c κs =
     let at-if1 = c .before .before .before .before .before .before .before .before .before .if1 in
     let old = s₀ .args .nodes .now in
     let left = s₀ .args .left in
-    let i = s₀ .args .i in
+    let i = s₀ .args .node in
     let u = at-skip-nots .result in
     let few = nots-left old left i false u (at-skip-nots .ensures) in
     (omega (arith, s₀ .pre .0, at-if1 .left, few), s₀ .pre .1)
@@ -229,7 +229,7 @@ measure-at-measure-at-requires-4 measure c κs =
     let at-if1 = c .before .before .before .before .before .before .before .before .before .before .before .before .before .before .if1 in
     let old = s₀ .args .nodes .now in
     let left = s₀ .args .left in
-    let i = s₀ .args .i in
+    let i = s₀ .args .node in
     let u = at-skip-nots .result in
     let few = nots-left old left i false u (at-skip-nots .ensures) in
     (omega (arith, s₀ .pre .0, at-if1 .left, few), s₀ .pre .1)
@@ -262,16 +262,16 @@ measure-at-returns-3 measure c =
     let at-beside-figure = c .beside-figure in
     let old = s₀ .args .nodes .now in
     let left = s₀ .args .left in
-    let m = s₀ .args .m in
-    let i = s₀ .args .i in
+    let m = s₀ .args .depth in
+    let i = s₀ .args .node in
     let sc = s₀ .args .scope in
-    let ps = inside (s₀ .args .scope) (s₀ .args .m) in
+    let ps = inside (s₀ .args .scope) (s₀ .args .depth) in
     let start = s₀ .args .start in
     let u = at-skip-nots .result in
     let w = at-node-word .result in
     let v = beside-safe (at-measure-at3 .result) (at-measure-at4 .result) (at-beside-figure .result) (at-beside-figure .ensures) (at-measure-at3 .ensures .modest) (at-measure-at4 .ensures .modest) in
     above-nots old (at-store .last .0) left m i sc start (at-beside-figure .result) u (at-skip-nots .ensures)
-    (record { small = v .0; modest = v .1; promise = beside-arm old (u .left) m (u .i) w ps start (at-node-word .ensures) (at-if1 .left) (at-node-word3 .result) (at-measure-at3 .last .0) (at-measure-at4 .last .0) (at-measure-at3 .result) (at-measure-at4 .result) (at-beside-figure .result) (at-node-word3 .ensures) (at-measure-at3 .kept .0) (at-measure-at3 .ensures .promise) (at-store .last .0) (at-if3 .taken) (at-measure-at4 .ensures .promise) (at-measure-at4 .kept .0) (at-store .ensures) (at-beside-figure .ensures) })
+    (record { small = v .0; modest = v .1; promise = beside-arm old (u .left) m (u .node) w ps start (at-node-word .ensures) (at-if1 .left) (at-node-word3 .result) (at-measure-at3 .last .0) (at-measure-at4 .last .0) (at-measure-at3 .result) (at-measure-at4 .result) (at-beside-figure .result) (at-node-word3 .ensures) (at-measure-at3 .kept .0) (at-measure-at3 .ensures .promise) (at-store .last .0) (at-if3 .taken) (at-measure-at4 .ensures .promise) (at-measure-at4 .kept .0) (at-store .ensures) (at-beside-figure .ensures) })
 
 measure-at-flag-figure-requires-2 : (t : ℕ) → measure-at-lts.Need-flag-figure-requires-2 (measure-at-claims t) (measure-at-at t) measure-at.Post
 measure-at-flag-figure-requires-2 t c κs = tt
@@ -289,16 +289,16 @@ measure-at-returns-4 measure c =
     let at-flag-figure2 = c .flag-figure2 in
     let old = s₀ .args .nodes .now in
     let left = s₀ .args .left in
-    let m = s₀ .args .m in
-    let i = s₀ .args .i in
+    let m = s₀ .args .depth in
+    let i = s₀ .args .node in
     let sc = s₀ .args .scope in
-    let ps = inside (s₀ .args .scope) (s₀ .args .m) in
+    let ps = inside (s₀ .args .scope) (s₀ .args .depth) in
     let start = s₀ .args .start in
     let u = at-skip-nots .result in
     let w = at-node-word .result in
     let v = flag-safe (at-flag-figure2 .result) (at-flag-figure2 .ensures) in
     above-nots old old left m i sc start (at-flag-figure2 .result) u (at-skip-nots .ensures)
-    (record { small = v .0; modest = v .1; promise = deep-arm old (u .left) m (u .i) w ps start (at-node-word .ensures) (at-flag-figure2 .result) (at-if4 .taken) (at-if5 .taken) })
+    (record { small = v .0; modest = v .1; promise = deep-arm old (u .left) m (u .node) w ps start (at-node-word .ensures) (at-flag-figure2 .result) (at-if4 .taken) (at-if5 .taken) })
 
 measure-at-range-pair-requires : (t : ℕ) → measure-at-lts.Need-range-pair-requires (measure-at-claims t) (measure-at-at t) measure-at.Post
 measure-at-range-pair-requires measure c κs =
@@ -308,7 +308,7 @@ measure-at-range-pair-requires measure c κs =
     let at-if4 = c .before .before .if4 in
     let old = s₀ .args .nodes .now in
     let u = at-skip-nots .result in
-    (word-in old (u .i) 4 (sym (at-node-word .ensures) ∙ at-if4 .taken), (s₀ .pre .1 .nested, s₀ .pre .1 .within))
+    (word-in old (u .node) 4 (sym (at-node-word .ensures) ∙ at-if4 .taken), (s₀ .pre .1 .nested, s₀ .pre .1 .within))
 
 measure-at-body-start-requires : (t : ℕ) → measure-at-lts.Need-body-start-requires (measure-at-claims t) (measure-at-at t) measure-at.Post
 measure-at-body-start-requires t c κs = tt
@@ -331,7 +331,7 @@ measure-at-add-measure-at-4 measure c =
     let at-if4 = c .before .before .before .before .before .before .before .if4 in
     let old = s₀ .args .nodes .now in
     let u = at-skip-nots .result in
-    omega (arith, word-in old (u .i) 4 (sym (at-node-word .ensures) ∙ at-if4 .taken), s₀ .good .0)
+    omega (arith, word-in old (u .node) 4 (sym (at-node-word .ensures) ∙ at-if4 .taken), s₀ .good .0)
 
 measure-at-with-pair-requires : (t : ℕ) → measure-at-lts.Need-with-pair-requires (measure-at-claims t) (measure-at-at t) measure-at.Post
 measure-at-with-pair-requires measure c κs =
@@ -348,17 +348,17 @@ measure-at-measure-at-requires-5 measure c κs =
     let at-with-pair = c .with-pair in
     let old = s₀ .args .nodes .now in
     let left = s₀ .args .left in
-    let m = s₀ .args .m in
-    let i = s₀ .args .i in
-    let ps = inside (s₀ .args .scope) (s₀ .args .m) in
+    let m = s₀ .args .depth in
+    let i = s₀ .args .node in
+    let ps = inside (s₀ .args .scope) (s₀ .args .depth) in
     let start = s₀ .args .start in
     let u = at-skip-nots .result in
     let few = nots-left old left i false u (at-skip-nots .ensures) in (
       omega (arith, s₀ .pre .0, at-if1 .left, few),
       record {
         nested = omega (arith, nested measure (c .before .before .before .before .before));
-        within = body-within old m (u .i) ps (nested measure (c .before .before .before .before .before)) (s₀ .pre .1 .within) (at-range-pair .result) (at-range-pair .ensures) (inside (at-with-pair .result) (m + 1)) (at-with-pair .ensures);
-        begun = body-begun old m (u .i) ps (nested measure (c .before .before .before .before .before)) (s₀ .pre .1 .within) (at-range-pair .result) (at-range-pair .ensures) start (at-body-start .result) (s₀ .pre .1 .begun) (at-body-start .ensures);
+        within = body-within old m (u .node) ps (nested measure (c .before .before .before .before .before)) (s₀ .pre .1 .within) (at-range-pair .result) (at-range-pair .ensures) (inside (at-with-pair .result) (m + 1)) (at-with-pair .ensures);
+        begun = body-begun old m (u .node) ps (nested measure (c .before .before .before .before .before)) (s₀ .pre .1 .within) (at-range-pair .result) (at-range-pair .ensures) start (at-body-start .result) (s₀ .pre .1 .begun) (at-body-start .ensures);
       },
     )
 
@@ -398,16 +398,16 @@ measure-at-returns-5 measure c =
     let at-range-figure = c .range-figure in
     let old = s₀ .args .nodes .now in
     let left = s₀ .args .left in
-    let m = s₀ .args .m in
-    let i = s₀ .args .i in
+    let m = s₀ .args .depth in
+    let i = s₀ .args .node in
     let sc = s₀ .args .scope in
-    let ps = inside (s₀ .args .scope) (s₀ .args .m) in
+    let ps = inside (s₀ .args .scope) (s₀ .args .depth) in
     let start = s₀ .args .start in
     let u = at-skip-nots .result in
     let w = at-node-word .result in
     let v = range-safe (at-range-pair .result) start (at-measure-at5 .result) (at-range-figure .result) (at-range-figure .ensures) (at-measure-at5 .ensures .modest) (upper-ok measure (c .before .before .before .before .before .before .before .before .before .before .before .before .before .before)) in
     above-nots old (at-store .last .0) left m i sc start (at-range-figure .result) u (at-skip-nots .ensures)
-    (record { small = v .0; modest = v .1; promise = forall-arm old (u .left) m (u .i) w ps start (at-node-word .ensures) (at-if1 .left) (at-range-pair .result) (at-range-pair .ensures) (at-if4 .taken) (at-body-start .result) (at-body-start .ensures) (inside (at-with-pair .result) (m + 1)) (at-with-pair .ensures) (at-measure-at5 .last .0) (at-store .last .0) (at-measure-at5 .result) (at-range-figure .result) (at-measure-at5 .kept .0) (at-store .ensures) (at-range-figure .ensures) (at-measure-at5 .ensures .promise) })
+    (record { small = v .0; modest = v .1; promise = forall-arm old (u .left) m (u .node) w ps start (at-node-word .ensures) (at-if1 .left) (at-range-pair .result) (at-range-pair .ensures) (at-if4 .taken) (at-body-start .result) (at-body-start .ensures) (inside (at-with-pair .result) (m + 1)) (at-with-pair .ensures) (at-measure-at5 .last .0) (at-store .last .0) (at-measure-at5 .result) (at-range-figure .result) (at-measure-at5 .kept .0) (at-store .ensures) (at-range-figure .ensures) (at-measure-at5 .ensures .promise) })
 
 measure-at-flag-figure-requires-3 : (t : ℕ) → measure-at-lts.Need-flag-figure-requires-3 (measure-at-claims t) (measure-at-at t) measure-at.Post
 measure-at-flag-figure-requires-3 t c κs = tt
@@ -427,17 +427,17 @@ measure-at-returns-6 measure c =
     let at-flag-figure3 = c .flag-figure3 in
     let old = s₀ .args .nodes .now in
     let left = s₀ .args .left in
-    let m = s₀ .args .m in
-    let i = s₀ .args .i in
+    let m = s₀ .args .depth in
+    let i = s₀ .args .node in
     let sc = s₀ .args .scope in
-    let ps = inside (s₀ .args .scope) (s₀ .args .m) in
+    let ps = inside (s₀ .args .scope) (s₀ .args .depth) in
     let start = s₀ .args .start in
     let u = at-skip-nots .result in
     let w = at-node-word .result in
     let v = flag-safe (at-flag-figure3 .result) (at-flag-figure3 .ensures) in
     let no-not = nots-end old left i false u (at-skip-nots .ensures) (at-if1 .left) in
     above-nots old old left m i sc start (at-flag-figure3 .result) u (at-skip-nots .ensures)
-    (record { small = v .0; modest = v .1; promise = flag-arm old (u .left) m (u .i) w ps start (at-node-word .ensures) (at-flag-figure3 .result) (λ h. no-not (sym (at-node-word .ensures) ∙ h)) (at-if2 .left) (at-if3 .left) (at-if4 .left) (at-flag-figure3 .ensures) })
+    (record { small = v .0; modest = v .1; promise = flag-arm old (u .left) m (u .node) w ps start (at-node-word .ensures) (at-flag-figure3 .result) (λ h. no-not (sym (at-node-word .ensures) ∙ h)) (at-if2 .left) (at-if3 .left) (at-if4 .left) (at-flag-figure3 .ensures) })
 
 pub +measure-at-spec : {M : Type 1} → statement M
 +measure-at-spec = close μ-measure-at λ t. measure-at-lts.spec (measure-at-claims t)
@@ -449,7 +449,7 @@ pub +measure-at-spec : {M : Type 1} → statement M
     (measure-at-returns t)
     (measure-at-node-word-requires t)
     (measure-at-node-word-requires-2 t)
-    (measure-at-cast-j t)
+    (measure-at-cast-second t)
     (measure-at-sub-measure-at t)
     (measure-at-add-measure-at t)
     (measure-at-measure-at-requires t)
@@ -460,7 +460,7 @@ pub +measure-at-spec : {M : Type 1} → statement M
     (measure-at-same-length-2 t)
     (measure-at-returns-2 t)
     (measure-at-node-word-requires-3 t)
-    (measure-at-cast-j-2 t)
+    (measure-at-cast-second-2 t)
     (measure-at-sub-measure-at-3 t)
     (measure-at-add-measure-at-2 t)
     (measure-at-measure-at-requires-3 t)

@@ -17,7 +17,7 @@ larger-size-requires c κs = search needs
 range-history-requires : tie.Need-range-history-requires
 range-history-requires c κs =
     let s₀ = c .before .before in
-    (s₀ .pre .1 .1, near-more (s₀ .args .r .lower) (omega arith) (s₀ .pre .0))
+    (s₀ .pre .1 .1, near-more (s₀ .args .pair .lower) (omega arith) (s₀ .pre .0))
 
 larger-size-requires-2 : tie.Need-larger-size-requires-2
 larger-size-requires-2 c κs = search needs

@@ -33,7 +33,7 @@ returns : tie.Need-returns
 unfolding bound-pair bound-at bound-of
 returns c =
     let s₀ = c .before .before .before .before .before in
-    rw (← c .before .before .before .node-word .ensures, c .if1 .taken, offset-bits (c .before .offset-of .result) (c .before .before .node-word2 .result) (getD (s₀ .args .nodes .now) (s₀ .args .j + 2) 0) (c .before .before .node-word2 .ensures) (c .before .offset-of .ensures))
+    rw (← c .before .before .before .node-word .ensures, c .if1 .taken, offset-bits (c .before .offset-of .result) (c .before .before .node-word2 .result) (getD (s₀ .args .nodes .now) (s₀ .args .at + 2) 0) (c .before .before .node-word2 .ensures) (c .before .offset-of .ensures))
 
 returns-2 : tie.Need-returns-2
 unfolding bound-pair bound-at bound-of
@@ -42,8 +42,8 @@ returns-2 c = rw (← c .before .before .before .before .node-word .ensures, c .
 node-word-requires-3 : tie.Need-node-word-requires-3
 node-word-requires-3 c κs = search needs
 
-cast-v : tie.Need-cast-v
-cast-v c = search needs
+cast-variable : tie.Need-cast-variable
+cast-variable c = search needs
 
 pair-of-requires : tie.Need-pair-of-requires
 pair-of-requires c κs = search needs
@@ -52,9 +52,9 @@ shifted-pair-requires : tie.Need-shifted-pair-requires
 shifted-pair-requires c κs =
     let s₀ = c .before .before .before .before .before .before .before .before in
     let w = s₀ .pre .1 (c .before .node-word3 .result) in (
-      subst (λ (p : Pair). Near farthest (p .lower)) (sym (c .pair-of .ensures)) (near-more ((getD (inside (s₀ .args .scope) (s₀ .args .m)) (c .before .node-word3 .result) anywhere) .lower) (omega (arith, s₀ .pre .0)) (w .0)),
+      subst (λ (p : Pair). Near farthest (p .lower)) (sym (c .pair-of .ensures)) (near-more ((getD (inside (s₀ .args .scope) (s₀ .args .depth)) (c .before .node-word3 .result) anywhere) .lower) (omega (arith, s₀ .pre .0)) (w .0)),
       (
-        subst (λ (p : Pair). Near farthest (p .upper)) (sym (c .pair-of .ensures)) (near-more ((getD (inside (s₀ .args .scope) (s₀ .args .m)) (c .before .node-word3 .result) anywhere) .upper) (omega (arith, s₀ .pre .0)) (w .1)),
+        subst (λ (p : Pair). Near farthest (p .upper)) (sym (c .pair-of .ensures)) (near-more ((getD (inside (s₀ .args .scope) (s₀ .args .depth)) (c .before .node-word3 .result) anywhere) .upper) (omega (arith, s₀ .pre .0)) (w .1)),
         subst (λ (z : ℤ). natAbs z ≤ farthest) (sym (offset-bits (c .before .before .before .before .offset-of .result) (c .before .before .before .before .before .node-word2 .result) (c .before .before .before .before .before .node-word2 .result) refl (c .before .before .before .before .offset-of .ensures))) (omega (arith, signed-abs (c .before .before .before .before .before .node-word2 .result))),
       ),
     )
@@ -65,8 +65,8 @@ returns-3 c =
     let s₀ = c .before .before .before .before .before .before .before .before .before in
     rw (← c .before .before .before .before .before .before .before .node-word .ensures, ne-eqb (c .before .before .before .before .before .before .before .node-word .result) 0 (c .before .before .before .before .if1 .left), ne-eqb (c .before .before .before .before .before .before .before .node-word .result) 1 (c .before .before .before .if2 .left))
     (c .shifted-pair .ensures
-    ∙ ap (λ (z : ℤ). shift-pair z (c .before .pair-of .result)) (offset-bits (c .before .before .before .before .before .offset-of .result) (c .before .before .before .before .before .before .node-word2 .result) (getD (s₀ .args .nodes .now) (s₀ .args .j + 2) 0) (c .before .before .before .before .before .before .node-word2 .ensures) (c .before .before .before .before .before .offset-of .ensures))
-    ∙ ap (shift-pair (signed (getD (s₀ .args .nodes .now) (s₀ .args .j + 2) 0))) (c .before .pair-of .ensures ∙ ap (λ (v : ℕ). getD (inside (s₀ .args .scope) (s₀ .args .m)) v anywhere) (c .before .before .node-word3 .ensures)))
+    ∙ ap (λ (z : ℤ). shift-pair z (c .before .pair-of .result)) (offset-bits (c .before .before .before .before .before .offset-of .result) (c .before .before .before .before .before .before .node-word2 .result) (getD (s₀ .args .nodes .now) (s₀ .args .at + 2) 0) (c .before .before .before .before .before .before .node-word2 .ensures) (c .before .before .before .before .before .offset-of .ensures))
+    ∙ ap (shift-pair (signed (getD (s₀ .args .nodes .now) (s₀ .args .at + 2) 0))) (c .before .pair-of .ensures ∙ ap (λ (v : ℕ). getD (inside (s₀ .args .scope) (s₀ .args .depth)) v anywhere) (c .before .before .node-word3 .ensures)))
 
 pub pair-at-spec : {M : Type 1} → statement M
 pair-at-spec =
@@ -78,7 +78,7 @@ pair-at-spec =
     returns
     returns-2
     node-word-requires-3
-    cast-v
+    cast-variable
     pair-of-requires
     shifted-pair-requires
     returns-3)

@@ -14,7 +14,7 @@ shifted-requires-2 c κs = search needs
 returns : tie.Need-returns
 returns c =
     let s₀ = c .before .before in
-    let e = bits-are (s₀ .args .n) (omega (arith, s₀ .pre .1 .1)) in
+    let e = bits-are (s₀ .args .offset) (omega (arith, s₀ .pre .1 .1)) in
     rw (c .before .shifted .ensures, c .shifted2 .ensures, e)
 
 pub shifted-pair-spec : {M : Type 1} → statement M

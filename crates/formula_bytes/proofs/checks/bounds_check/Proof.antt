@@ -29,12 +29,12 @@ returns : tie.Need-returns
 returns c =
     let s₀ = c .before .before .before .before .before in
     let e = sym (ap check-number (c .before .first .given .1)) ∙ c .before .before .before .bound-check .ensures in
-    e ∙ sym (contents-first (s₀ .args .s .now) (s₀ .args .at) (s₀ .args .m) (s₀ .pre .0) (λ z. not-zero (c .before .first .given .0 .0) (e ∙ z)))
+    e ∙ sym (contents-first (s₀ .args .body .now) (s₀ .args .at) (s₀ .args .depth) (s₀ .pre .0) (λ z. not-zero (c .before .first .given .0 .0) (e ∙ z)))
 
 returns-2 : tie.Need-returns-2
 returns-2 c =
     let s₀ = c .before .before .before .before .before in
-    c .bound-check2 .ensures ∙ sym (contents-second (s₀ .args .s .now) (s₀ .args .at) (s₀ .args .m) (s₀ .pre .0) (sym (c .before .before .before .bound-check .ensures) ∙ ap check-number (c .before .enum-told .given .1)))
+    c .bound-check2 .ensures ∙ sym (contents-second (s₀ .args .body .now) (s₀ .args .at) (s₀ .args .depth) (s₀ .pre .0) (sym (c .before .before .before .bound-check .ensures) ∙ ap check-number (c .before .enum-told .given .1)))
 
 pub bounds-check-spec : {M : Type 1} → statement M
 bounds-check-spec =

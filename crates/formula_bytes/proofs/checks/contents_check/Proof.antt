@@ -26,7 +26,7 @@ returns-2 c = search needs
 returns-3 : tie.Need-returns-3
 returns-3 c =
     let s₀ = c .before .before .before .before in
-    sym (contents-plain (s₀ .args .s .now) (s₀ .args .at) (s₀ .args .m) (omega (arith, s₀ .pre .2, c .before .if1 .left)) (omega (arith, s₀ .pre .3, c .if2 .left)))
+    sym (contents-plain (s₀ .args .body .now) (s₀ .args .at) (s₀ .args .depth) (omega (arith, s₀ .pre .2, c .before .if1 .left)) (omega (arith, s₀ .pre .3, c .if2 .left)))
 
 pub contents-check-spec : {M : Type 1} → statement M
 contents-check-spec =

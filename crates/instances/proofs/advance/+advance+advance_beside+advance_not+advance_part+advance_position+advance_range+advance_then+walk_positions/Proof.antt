@@ -229,8 +229,8 @@ advance-flag-in-requires measure c κs =
     let nodes = s₀ .args .nodes .now in
     let run = s₀ .args .run .now in
     let left = s₀ .args .left in
-    let i = s₀ .args .i in
-    let env = variables-of (s₀ .args .m) (s₀ .args .pos .now) (s₀ .args .byte .now) in
+    let node = s₀ .args .node in
+    let env = variables-of (s₀ .args .depth) (s₀ .args .pos .now) (s₀ .args .byte .now) in
     let t = s₀ .args .t in
     let at-is-flag = c .before .before .is-flag in
     let at-if1 = c .before .if1 in
@@ -244,9 +244,9 @@ advance-returns measure c =
     let run = s₀ .args .run .now in
     let hist = s₀ .args .history .now in
     let left = s₀ .args .left in
-    let i = s₀ .args .i in
+    let node = s₀ .args .node in
     let b = s₀ .args .flag in
-    let env = variables-of (s₀ .args .m) (s₀ .args .pos .now) (s₀ .args .byte .now) in
+    let env = variables-of (s₀ .args .depth) (s₀ .args .pos .now) (s₀ .args .byte .now) in
     let s = s₀ .args .s in
     let t = s₀ .args .t in
     let at-is-flag = c .before .before .before .is-flag in
@@ -255,7 +255,7 @@ advance-returns measure c =
     let is = at-is-flag .ensures .0 (at-if1 .taken) in
     let fit = subst (λ (G : Tree). Fit G env t (length run)) is (s₀ .pre .1) in
     subst (λ (G : Tree). Advanced G hist b env s t run (at-flag-in .result) run) (sym is)
-    (flag-of (getD nodes (i + 1) 0) (getD nodes (i + 2) 0) (at-flag-in .result) (fit-flag fit) (at-flag-in .ensures))
+    (flag-of (getD nodes (node + 1) 0) (getD nodes (node + 2) 0) (at-flag-in .result) (fit-flag fit) (at-flag-in .ensures))
 
 advance-node-word-requires : (t : ℕ) → advance-lts.Need-node-word-requires (advance-claims t) (advance-at t) advance.Post
 advance-node-word-requires t c κs = search needs
@@ -289,8 +289,8 @@ advance-advance-then-requires measure c κs =
     let nodes = s₀ .args .nodes .now in
     let run = s₀ .args .run .now in
     let left = s₀ .args .left in
-    let i = s₀ .args .i in
-    let env = variables-of (s₀ .args .m) (s₀ .args .pos .now) (s₀ .args .byte .now) in
+    let node = s₀ .args .node in
+    let env = variables-of (s₀ .args .depth) (s₀ .args .pos .now) (s₀ .args .byte .now) in
     let t = s₀ .args .t in
     let at-is-flag = c .before .before .before .before .before .before .is-flag in
     let at-if1 = c .before .before .before .before .before .if1 in
@@ -299,9 +299,9 @@ advance-advance-then-requires measure c κs =
     let at-if2 = c .before .before .if2 in
     let at-if3 = c .before .if3 in
     let parts = at-is-flag .ensures .1 (at-if1 .left) in
-    let is = is-then nodes i left (parts .0) (λ x. at-if2 .left (at-node-word .ensures ∙ x)) (sym (at-node-word .ensures) ∙ at-if3 .taken) in (
+    let is = is-then nodes node left (parts .0) (λ x. at-if2 .left (at-node-word .ensures ∙ x)) (sym (at-node-word .ensures) ∙ at-if3 .taken) in (
       omega (arith, s₀ .pre .0, parts .0),
-      (omega (arith, word-in nodes i 2 (sym (at-node-word .ensures) ∙ at-if3 .taken), at-node-word-arg .given), subst (λ (G : Tree). Fit G env t (length run)) is (s₀ .pre .1)),
+      (omega (arith, word-in nodes node 2 (sym (at-node-word .ensures) ∙ at-if3 .taken), at-node-word-arg .given), subst (λ (G : Tree). Fit G env t (length run)) is (s₀ .pre .1)),
     )
 
 advance-same-length-2 : (t : ℕ) → advance-lts.Need-same-length-2 (advance-claims t) (advance-at t) advance.Post
@@ -314,9 +314,9 @@ advance-returns-3 measure c =
     let run = s₀ .args .run .now in
     let hist = s₀ .args .history .now in
     let left = s₀ .args .left in
-    let i = s₀ .args .i in
+    let node = s₀ .args .node in
     let b = s₀ .args .flag in
-    let env = variables-of (s₀ .args .m) (s₀ .args .pos .now) (s₀ .args .byte .now) in
+    let env = variables-of (s₀ .args .depth) (s₀ .args .pos .now) (s₀ .args .byte .now) in
     let s = s₀ .args .s in
     let t = s₀ .args .t in
     let at-is-flag = c .before .before .before .before .before .before .before .before .before .is-flag in
@@ -326,7 +326,7 @@ advance-returns-3 measure c =
     let at-if3 = c .before .before .before .before .if3 in
     let at-advance-then = c .before .before .advance-then in
     let parts = at-is-flag .ensures .1 (at-if1 .left) in
-    let is = is-then nodes i left (parts .0) (λ x. at-if2 .left (at-node-word .ensures ∙ x)) (sym (at-node-word .ensures) ∙ at-if3 .taken) in
+    let is = is-then nodes node left (parts .0) (λ x. at-if2 .left (at-node-word .ensures ∙ x)) (sym (at-node-word .ensures) ∙ at-if3 .taken) in
     subst (λ (G : Tree). Advanced G hist b env s t run (at-advance-then .result) (at-advance-then .last .1 .1 .1 .0)) (sym is) (at-advance-then .ensures)
 
 advance-sub-advance-beside : (t : ℕ) → advance-lts.Need-sub-advance-beside (advance-claims t) (advance-at t) advance.Post
@@ -341,8 +341,8 @@ advance-advance-beside-requires measure c κs =
     let nodes = s₀ .args .nodes .now in
     let run = s₀ .args .run .now in
     let left = s₀ .args .left in
-    let i = s₀ .args .i in
-    let env = variables-of (s₀ .args .m) (s₀ .args .pos .now) (s₀ .args .byte .now) in
+    let node = s₀ .args .node in
+    let env = variables-of (s₀ .args .depth) (s₀ .args .pos .now) (s₀ .args .byte .now) in
     let t = s₀ .args .t in
     let at-is-flag = c .before .before .before .before .before .before .before .is-flag in
     let at-if1 = c .before .before .before .before .before .before .if1 in
@@ -352,9 +352,9 @@ advance-advance-beside-requires measure c κs =
     let at-if3 = c .before .before .if3 in
     let at-if4 = c .before .if4 in
     let parts = at-is-flag .ensures .1 (at-if1 .left) in
-    let is = is-beside nodes i left (parts .0) (λ x. at-if2 .left (at-node-word .ensures ∙ x)) (λ x. at-if3 .left (at-node-word .ensures ∙ x)) (sym (at-node-word .ensures) ∙ at-if4 .taken) in (
+    let is = is-beside nodes node left (parts .0) (λ x. at-if2 .left (at-node-word .ensures ∙ x)) (λ x. at-if3 .left (at-node-word .ensures ∙ x)) (sym (at-node-word .ensures) ∙ at-if4 .taken) in (
       omega (arith, s₀ .pre .0, parts .0),
-      (omega (arith, word-in nodes i 3 (sym (at-node-word .ensures) ∙ at-if4 .taken), at-node-word-arg .given), subst (λ (G : Tree). Fit G env t (length run)) is (s₀ .pre .1)),
+      (omega (arith, word-in nodes node 3 (sym (at-node-word .ensures) ∙ at-if4 .taken), at-node-word-arg .given), subst (λ (G : Tree). Fit G env t (length run)) is (s₀ .pre .1)),
     )
 
 advance-same-length-3 : (t : ℕ) → advance-lts.Need-same-length-3 (advance-claims t) (advance-at t) advance.Post
@@ -367,9 +367,9 @@ advance-returns-4 measure c =
     let run = s₀ .args .run .now in
     let hist = s₀ .args .history .now in
     let left = s₀ .args .left in
-    let i = s₀ .args .i in
+    let node = s₀ .args .node in
     let b = s₀ .args .flag in
-    let env = variables-of (s₀ .args .m) (s₀ .args .pos .now) (s₀ .args .byte .now) in
+    let env = variables-of (s₀ .args .depth) (s₀ .args .pos .now) (s₀ .args .byte .now) in
     let s = s₀ .args .s in
     let t = s₀ .args .t in
     let at-is-flag = c .before .before .before .before .before .before .before .before .before .before .is-flag in
@@ -380,7 +380,7 @@ advance-returns-4 measure c =
     let at-if4 = c .before .before .before .before .if4 in
     let at-advance-beside = c .before .before .advance-beside in
     let parts = at-is-flag .ensures .1 (at-if1 .left) in
-    let is = is-beside nodes i left (parts .0) (λ x. at-if2 .left (at-node-word .ensures ∙ x)) (λ x. at-if3 .left (at-node-word .ensures ∙ x)) (sym (at-node-word .ensures) ∙ at-if4 .taken) in
+    let is = is-beside nodes node left (parts .0) (λ x. at-if2 .left (at-node-word .ensures ∙ x)) (λ x. at-if3 .left (at-node-word .ensures ∙ x)) (sym (at-node-word .ensures) ∙ at-if4 .taken) in
     subst (λ (G : Tree). Advanced G hist b env s t run (at-advance-beside .result) (at-advance-beside .last .1 .1 .1 .0)) (sym is) (at-advance-beside .ensures)
 
 advance-sub-advance-range : (t : ℕ) → advance-lts.Need-sub-advance-range (advance-claims t) (advance-at t) advance.Post
@@ -395,8 +395,8 @@ advance-advance-range-requires measure c κs =
     let nodes = s₀ .args .nodes .now in
     let run = s₀ .args .run .now in
     let left = s₀ .args .left in
-    let i = s₀ .args .i in
-    let env = variables-of (s₀ .args .m) (s₀ .args .pos .now) (s₀ .args .byte .now) in
+    let node = s₀ .args .node in
+    let env = variables-of (s₀ .args .depth) (s₀ .args .pos .now) (s₀ .args .byte .now) in
     let t = s₀ .args .t in
     let at-is-flag = c .before .before .before .before .before .before .before .is-flag in
     let at-if1 = c .before .before .before .before .before .before .if1 in
@@ -406,10 +406,10 @@ advance-advance-range-requires measure c κs =
     let at-if3 = c .before .before .if3 in
     let at-if4 = c .before .if4 in
     let parts = at-is-flag .ensures .1 (at-if1 .left) in
-    let five : getD nodes (i + 0) 0 ≡ 5 = omega (arith, parts .1 .0, parts .1 .1, at-node-word .ensures, at-if2 .left, at-if3 .left, at-if4 .left) in
-    let is = is-range nodes i left (parts .0) (λ x. at-if2 .left (at-node-word .ensures ∙ x)) (λ x. at-if3 .left (at-node-word .ensures ∙ x)) (λ x. at-if4 .left (at-node-word .ensures ∙ x)) five in (
+    let five : getD nodes (node + 0) 0 ≡ 5 = omega (arith, parts .1 .0, parts .1 .1, at-node-word .ensures, at-if2 .left, at-if3 .left, at-if4 .left) in
+    let is = is-range nodes node left (parts .0) (λ x. at-if2 .left (at-node-word .ensures ∙ x)) (λ x. at-if3 .left (at-node-word .ensures ∙ x)) (λ x. at-if4 .left (at-node-word .ensures ∙ x)) five in (
       omega (arith, s₀ .pre .0, parts .0),
-      (omega (arith, word-in nodes i 4 five, at-node-word-arg .given), subst (λ (G : Tree). Fit G env t (length run)) is (s₀ .pre .1)),
+      (omega (arith, word-in nodes node 4 five, at-node-word-arg .given), subst (λ (G : Tree). Fit G env t (length run)) is (s₀ .pre .1)),
     )
 
 advance-same-length-4 : (t : ℕ) → advance-lts.Need-same-length-4 (advance-claims t) (advance-at t) advance.Post
@@ -422,9 +422,9 @@ advance-returns-5 measure c =
     let run = s₀ .args .run .now in
     let hist = s₀ .args .history .now in
     let left = s₀ .args .left in
-    let i = s₀ .args .i in
+    let node = s₀ .args .node in
     let b = s₀ .args .flag in
-    let env = variables-of (s₀ .args .m) (s₀ .args .pos .now) (s₀ .args .byte .now) in
+    let env = variables-of (s₀ .args .depth) (s₀ .args .pos .now) (s₀ .args .byte .now) in
     let s = s₀ .args .s in
     let t = s₀ .args .t in
     let at-is-flag = c .before .before .before .before .before .before .before .before .before .before .is-flag in
@@ -435,8 +435,8 @@ advance-returns-5 measure c =
     let at-if4 = c .before .before .before .before .if4 in
     let at-advance-range = c .before .before .advance-range in
     let parts = at-is-flag .ensures .1 (at-if1 .left) in
-    let five : getD nodes (i + 0) 0 ≡ 5 = omega (arith, parts .1 .0, parts .1 .1, at-node-word .ensures, at-if2 .left, at-if3 .left, at-if4 .left) in
-    let is = is-range nodes i left (parts .0) (λ x. at-if2 .left (at-node-word .ensures ∙ x)) (λ x. at-if3 .left (at-node-word .ensures ∙ x)) (λ x. at-if4 .left (at-node-word .ensures ∙ x)) five in
+    let five : getD nodes (node + 0) 0 ≡ 5 = omega (arith, parts .1 .0, parts .1 .1, at-node-word .ensures, at-if2 .left, at-if3 .left, at-if4 .left) in
+    let is = is-range nodes node left (parts .0) (λ x. at-if2 .left (at-node-word .ensures ∙ x)) (λ x. at-if3 .left (at-node-word .ensures ∙ x)) (λ x. at-if4 .left (at-node-word .ensures ∙ x)) five in
     subst (λ (G : Tree). Advanced G hist b env s t run (at-advance-range .result) (at-advance-range .last .1 .1 .1 .0)) (sym is) (at-advance-range .ensures)
 
 advance-beside-node-word-requires : (t : ℕ) → advance-beside-lts.Need-node-word-requires (advance-beside-claims t) (advance-beside-at t) advance-beside.Post
@@ -449,7 +449,7 @@ advance-beside-add-mid : (t : ℕ) → advance-beside-lts.Need-add-mid (advance-
 advance-beside-add-mid measure c =
     let s₀ = c .before .before .before .before in
     let at-node-word = c .node-word in
-    omega (arith, fit-left (s₀ .pre .1 .1) .end, at-node-word .ensures, s₀ .good .1 .1 .1 .0)
+    omega (arith, fit-left (s₀ .pre .1 .1) .inside, at-node-word .ensures, s₀ .good .1 .1 .1 .0)
 
 advance-beside-add-advance-part : (t : ℕ) → advance-beside-lts.Need-add-advance-part (advance-beside-claims t) (advance-beside-at t) advance-beside.Post
 advance-beside-add-advance-part measure c =
@@ -462,11 +462,11 @@ advance-beside-advance-part-requires measure c κs =
     let nodes = s₀ .args .nodes .now in
     let run = s₀ .args .run .now in
     let left = s₀ .args .left in
-    let i = s₀ .args .i in
-    let env = variables-of (s₀ .args .m) (s₀ .args .pos .now) (s₀ .args .byte .now) in
+    let node = s₀ .args .node in
+    let env = variables-of (s₀ .args .depth) (s₀ .args .pos .now) (s₀ .args .byte .now) in
     let t = s₀ .args .t in
     let at-node-word = c .before .node-word in
-    let fit = fit-beside env t (length run) (tree-at left nodes (i + 12)) (tree-at left nodes) (at-node-word .ensures) refl (s₀ .pre .1 .1) in
+    let fit = fit-beside env t (length run) (tree-at left nodes (node + 12)) (tree-at left nodes) (at-node-word .ensures) refl (s₀ .pre .1 .1) in
     (omega (arith, s₀ .pre .0), fit-left fit)
 
 advance-beside-is-false-requires : (t : ℕ) → advance-beside-lts.Need-is-false-requires (advance-beside-claims t) (advance-beside-at t) advance-beside.Post
@@ -482,9 +482,9 @@ advance-beside-returns measure c =
     let run = s₀ .args .run .now in
     let hist = s₀ .args .history .now in
     let left = s₀ .args .left in
-    let i = s₀ .args .i in
+    let node = s₀ .args .node in
     let b = s₀ .args .flag in
-    let env = variables-of (s₀ .args .m) (s₀ .args .pos .now) (s₀ .args .byte .now) in
+    let env = variables-of (s₀ .args .depth) (s₀ .args .pos .now) (s₀ .args .byte .now) in
     let s = s₀ .args .s in
     let t = s₀ .args .t in
     let at-node-word = c .before .before .before .before .before .before .node-word in
@@ -492,14 +492,14 @@ advance-beside-returns measure c =
     let at-is-false = c .before .is-false in
     let at-if1 = c .if1 in
     let x-false = at-is-false .ensures (at-if1 .taken) in
-    subst (λ (n : ℕ). Advanced (beside-node n (tree-at left nodes (i + 12)) (tree-at left nodes (getD nodes (i + 7) 0))) hist b env s t run (at-advance-part .result) (at-advance-part .last .1 .1 .1 .0)) (at-node-word .ensures)
+    subst (λ (n : ℕ). Advanced (beside-node n (tree-at left nodes (node + 12)) (tree-at left nodes (getD nodes (node + 7) 0))) hist b env s t run (at-advance-part .result) (at-advance-part .last .1 .1 .1 .0)) (at-node-word .ensures)
     (beside-stopped (at-advance-part .last .1 .1 .1 .0) (at-advance-part .result) (x-false .0) (at-advance-part .ensures) (x-false .1))
 
 advance-beside-node-word-requires-2 : (t : ℕ) → advance-beside-lts.Need-node-word-requires-2 (advance-beside-claims t) (advance-beside-at t) advance-beside.Post
 advance-beside-node-word-requires-2 t c κs = search needs
 
-advance-beside-cast-g : (t : ℕ) → advance-beside-lts.Need-cast-g (advance-beside-claims t) (advance-beside-at t) advance-beside.Post
-advance-beside-cast-g t c = search needs
+advance-beside-cast-second-node : (t : ℕ) → advance-beside-lts.Need-cast-second-node (advance-beside-claims t) (advance-beside-at t) advance-beside.Post
+advance-beside-cast-second-node t c = search needs
 
 advance-beside-advance-part-requires-2 : (t : ℕ) → advance-beside-lts.Need-advance-part-requires-2 (advance-beside-claims t) (advance-beside-at t) advance-beside.Post
 advance-beside-advance-part-requires-2 measure c κs =
@@ -507,13 +507,13 @@ advance-beside-advance-part-requires-2 measure c κs =
     let nodes = s₀ .args .nodes .now in
     let run = s₀ .args .run .now in
     let left = s₀ .args .left in
-    let i = s₀ .args .i in
-    let env = variables-of (s₀ .args .m) (s₀ .args .pos .now) (s₀ .args .byte .now) in
+    let node = s₀ .args .node in
+    let env = variables-of (s₀ .args .depth) (s₀ .args .pos .now) (s₀ .args .byte .now) in
     let t = s₀ .args .t in
     let at-advance-part = c .before .before .before .before .before .before .before .advance-part in
     let at-node-word = c .before .before .before .before .before .before .before .before .before .node-word in
     let at-node-word2 = c .before .node-word2 in
-    let fit = fit-beside env t (length run) (tree-at left nodes (i + 12)) (tree-at left nodes) (at-node-word .ensures) (at-node-word2 .ensures) (s₀ .pre .1 .1) in
+    let fit = fit-beside env t (length run) (tree-at left nodes (node + 12)) (tree-at left nodes) (at-node-word .ensures) (at-node-word2 .ensures) (s₀ .pre .1 .1) in
     (omega (arith, s₀ .pre .0), fit-right (length (at-advance-part .last .1 .1 .1 .0)) (at-advance-part .kept .1 .1 .1 .0) fit)
 
 advance-beside-both-requires : (t : ℕ) → advance-beside-lts.Need-both-requires (advance-beside-claims t) (advance-beside-at t) advance-beside.Post
@@ -529,9 +529,9 @@ advance-beside-returns-2 measure c =
     let run = s₀ .args .run .now in
     let hist = s₀ .args .history .now in
     let left = s₀ .args .left in
-    let i = s₀ .args .i in
+    let node = s₀ .args .node in
     let b = s₀ .args .flag in
-    let env = variables-of (s₀ .args .m) (s₀ .args .pos .now) (s₀ .args .byte .now) in
+    let env = variables-of (s₀ .args .depth) (s₀ .args .pos .now) (s₀ .args .byte .now) in
     let s = s₀ .args .s in
     let t = s₀ .args .t in
     let at-advance-part = c .before .before .before .before .before .before .before .before .before .before .before .advance-part in
@@ -539,10 +539,10 @@ advance-beside-returns-2 measure c =
     let at-both = c .both in
     let at-node-word = c .before .before .before .before .before .before .before .before .before .before .before .before .before .node-word in
     let at-node-word2 = c .before .before .before .before .before .node-word2 in
-    let fit = fit-beside env t (length run) (tree-at left nodes (i + 12)) (tree-at left nodes) (at-node-word .ensures) (at-node-word2 .ensures) (s₀ .pre .1 .1) in
-    subst (λ (m : ℕ). Advanced (beside-node (getD nodes (i + 9) 0) (tree-at left nodes (i + 12)) (tree-at left nodes m)) hist b env s t run (at-both .result) (at-advance-part2 .last .1 .1 .1 .0)) (at-node-word2 .ensures)
-    (subst (λ (n : ℕ). Advanced (beside-node n (tree-at left nodes (i + 12)) (tree-at left nodes (at-node-word2 .result))) hist b env s t run (at-both .result) (at-advance-part2 .last .1 .1 .1 .0)) (at-node-word .ensures)
-    (beside-of (at-advance-part .last .1 .1 .1 .0) (at-advance-part2 .last .1 .1 .1 .0) (at-advance-part .result) (at-advance-part2 .result) (at-both .result) (fit-left fit .end) (at-advance-part .ensures) (at-advance-part2 .ensures) (at-both .ensures)))
+    let fit = fit-beside env t (length run) (tree-at left nodes (node + 12)) (tree-at left nodes) (at-node-word .ensures) (at-node-word2 .ensures) (s₀ .pre .1 .1) in
+    subst (λ (m : ℕ). Advanced (beside-node (getD nodes (node + 9) 0) (tree-at left nodes (node + 12)) (tree-at left nodes m)) hist b env s t run (at-both .result) (at-advance-part2 .last .1 .1 .1 .0)) (at-node-word2 .ensures)
+    (subst (λ (n : ℕ). Advanced (beside-node n (tree-at left nodes (node + 12)) (tree-at left nodes (at-node-word2 .result))) hist b env s t run (at-both .result) (at-advance-part2 .last .1 .1 .1 .0)) (at-node-word .ensures)
+    (beside-of (at-advance-part .last .1 .1 .1 .0) (at-advance-part2 .last .1 .1 .1 .0) (at-advance-part .result) (at-advance-part2 .result) (at-both .result) (fit-left fit .inside) (at-advance-part .ensures) (at-advance-part2 .ensures) (at-both .ensures)))
 
 advance-not-skip-nots-requires : (t : ℕ) → advance-not-lts.Need-skip-nots-requires (advance-not-claims t) (advance-not-at t) advance-not.Post
 advance-not-skip-nots-requires t c κs = search needs
@@ -552,10 +552,10 @@ advance-not-advance-requires measure c κs =
     let s₀ = c .before .before .before .before .before in
     let nodes = s₀ .args .nodes .now in
     let left = s₀ .args .left in
-    let i = s₀ .args .i in
+    let node = s₀ .args .node in
     let at-skip-nots = c .before .skip-nots in
-    let u = at-skip-nots .result in
-    (omega (arith, s₀ .pre .0, nots-less nodes left i false u (at-skip-nots .ensures) (s₀ .pre .1 .0) (s₀ .pre .1 .1 .0)), fit-nots nodes left i u (at-skip-nots .ensures) (s₀ .pre .1 .1 .1))
+    let under = at-skip-nots .result in
+    (omega (arith, s₀ .pre .0, nots-less nodes left node false under (at-skip-nots .ensures) (s₀ .pre .1 .0) (s₀ .pre .1 .1 .0)), fit-nots nodes left node under (at-skip-nots .ensures) (s₀ .pre .1 .1 .1))
 
 advance-not-opposite-if-requires : (t : ℕ) → advance-not-lts.Need-opposite-if-requires (advance-not-claims t) (advance-not-at t) advance-not.Post
 advance-not-opposite-if-requires t c κs = search needs
@@ -569,7 +569,7 @@ advance-not-returns measure c =
     let at-skip-nots = c .before .before .before .before .before .skip-nots in
     let at-advance = c .before .before .before .advance in
     let at-opposite-if = c .opposite-if in
-    nots-of (s₀ .args .nodes .now) (s₀ .args .left) (s₀ .args .i) (at-skip-nots .result) (at-skip-nots .ensures) (at-advance .result) (at-opposite-if .result) (at-advance .last .1 .1 .1 .0) (at-advance .ensures) (at-opposite-if .ensures)
+    nots-of (s₀ .args .nodes .now) (s₀ .args .left) (s₀ .args .node) (at-skip-nots .result) (at-skip-nots .ensures) (at-advance .result) (at-opposite-if .result) (at-advance .last .1 .1 .1 .0) (at-advance .ensures) (at-opposite-if .ensures)
 
 advance-part-own-tick-requires : (t : ℕ) → advance-part-lts.Need-own-tick-requires (advance-part-claims t) (advance-part-at t) advance-part.Post
 advance-part-own-tick-requires measure c κs = let s₀ = c .before .before in omega (arith, s₀ .pre .1 .fit .past 0, s₀ .pre .1 .fit .low)
@@ -577,7 +577,7 @@ advance-part-own-tick-requires measure c κs = let s₀ = c .before .before in o
 advance-part-load-outcome-requires : (t : ℕ) → advance-part-lts.Need-load-outcome-requires (advance-part-claims t) (advance-part-at t) advance-part.Post
 advance-part-load-outcome-requires measure c κs =
     let s₀ = c .before .before .before .before .before in
-    (omega (arith, s₀ .pre .1 .after-cell, s₀ .pre .1 .start, s₀ .pre .1 .end), s₀ .pre .1 .cell)
+    (omega (arith, s₀ .pre .1 .after-cell, s₀ .pre .1 .ordered, s₀ .pre .1 .inside), s₀ .pre .1 .cell)
 
 advance-part-enum-told : (t : ℕ) → advance-part-lts.Need-enum-told (advance-part-claims t) (advance-part-at t) advance-part.Post
 advance-part-enum-told t c = search needs
@@ -592,19 +592,19 @@ advance-part-returns measure c =
     let run = s₀ .args .run .now in
     let hist = s₀ .args .history .now in
     let left = s₀ .args .left in
-    let i = s₀ .args .i in
+    let node = s₀ .args .node in
     let b = s₀ .args .flag in
-    let env = variables-of (s₀ .args .m) (s₀ .args .pos .now) (s₀ .args .byte .now) in
+    let env = variables-of (s₀ .args .depth) (s₀ .args .pos .now) (s₀ .args .byte .now) in
     let s = s₀ .args .s in
     let t = s₀ .args .t in
-    let k = s₀ .args .k in
-    let a = s₀ .args .a in
-    let z = s₀ .args .z in
+    let word = s₀ .args .word in
+    let start = s₀ .args .start in
+    let end = s₀ .args .end in
     let at-own-tick = c .before .before .before .before .before .own-tick in
     let at-if1 = c .before .before .before .before .if1 in
     let at-load-outcome = c .before .before .load-outcome in
     let at-enum-told = c .enum-told in
-    part-stays (tree-at left nodes i) hist b env s t k a z run (at-own-tick .result) (at-load-outcome .result) _ _ (at-own-tick .ensures ∙ tick-is env (s₀ .pre .1 .fit .some)) (at-if1 .taken) (at-load-outcome .ensures) (at-enum-told .given .1)
+    part-stays (tree-at left nodes node) hist b env s t word start end run (at-own-tick .result) (at-load-outcome .result) _ _ (at-own-tick .ensures ∙ tick-is env (s₀ .pre .1 .fit .some)) (at-if1 .taken) (at-load-outcome .ensures) (at-enum-told .given .1)
 
 advance-part-enum-told-2 : (t : ℕ) → advance-part-lts.Need-enum-told-2 (advance-part-claims t) (advance-part-at t) advance-part.Post
 advance-part-enum-told-2 t c = search needs
@@ -627,12 +627,12 @@ advance-part-advance-requires measure c κs =
     let nodes = s₀ .args .nodes .now in
     let run = s₀ .args .run .now in
     let left = s₀ .args .left in
-    let i = s₀ .args .i in
-    let env = variables-of (s₀ .args .m) (s₀ .args .pos .now) (s₀ .args .byte .now) in
+    let node = s₀ .args .node in
+    let env = variables-of (s₀ .args .depth) (s₀ .args .pos .now) (s₀ .args .byte .now) in
     let t = s₀ .args .t in
-    let a = s₀ .args .a in
-    let z = s₀ .args .z in
-    (omega (arith, s₀ .pre .0), subst (Fit (tree-at left nodes i) env t) (sym (window-length a z run (s₀ .pre .1 .end))) (s₀ .pre .1 .fit))
+    let start = s₀ .args .start in
+    let end = s₀ .args .end in
+    (omega (arith, s₀ .pre .0), subst (Fit (tree-at left nodes node) env t) (sym (window-length start end run (s₀ .pre .1 .inside))) (s₀ .pre .1 .fit))
 
 advance-part-store-outcome-requires : (t : ℕ) → advance-part-lts.Need-store-outcome-requires (advance-part-claims t) (advance-part-at t) advance-part.Post
 advance-part-store-outcome-requires t c κs = search needs
@@ -647,19 +647,19 @@ advance-part-returns-2 measure c =
     let run = s₀ .args .run .now in
     let hist = s₀ .args .history .now in
     let left = s₀ .args .left in
-    let i = s₀ .args .i in
+    let node = s₀ .args .node in
     let b = s₀ .args .flag in
-    let env = variables-of (s₀ .args .m) (s₀ .args .pos .now) (s₀ .args .byte .now) in
+    let env = variables-of (s₀ .args .depth) (s₀ .args .pos .now) (s₀ .args .byte .now) in
     let s = s₀ .args .s in
     let t = s₀ .args .t in
-    let k = s₀ .args .k in
-    let a = s₀ .args .a in
-    let z = s₀ .args .z in
+    let word = s₀ .args .word in
+    let start = s₀ .args .start in
+    let end = s₀ .args .end in
     let at-own-tick = c .before .before .before .before .before .before .before .before .before .own-tick in
     let at-if1 = c .before .before .before .before .before .before .before .before .if1 in
     let at-advance = c .before .before .before .before .before .before .advance in
     let at-store-outcome = c .before .before .store-outcome in
-    part-moved (tree-at left nodes i) hist b env s t k a z run (at-own-tick .result) (at-own-tick .ensures ∙ tick-is env (s₀ .pre .1 .fit .some)) (s₀ .pre .1) (fit-come (s₀ .pre .1 .fit))
+    part-moved (tree-at left nodes node) hist b env s t word start end run (at-own-tick .result) (at-own-tick .ensures ∙ tick-is env (s₀ .pre .1 .fit .some)) (s₀ .pre .1) (fit-come (s₀ .pre .1 .fit))
     (⊎-elim (λ x. inr (sym (x .4 .given .1) ∙ x .2 .ensures)) (λ x. inl (x .left)) (at-if1 .came))
     (at-advance .result) (at-advance .last .1 .1 .1 .0) (at-store-outcome .last .0) (at-advance .ensures) (at-advance .kept .1 .1 .1 .0) (at-store-outcome .ensures)
 
@@ -675,15 +675,15 @@ advance-position-wide-requires t c κs = search needs
 advance-position-slice-write-slot : (t : ℕ) → advance-position-lts.Need-slice-write-slot (advance-position-claims t) (advance-position-at t) advance-position.Post
 advance-position-slice-write-slot t c = search needs
 
-advance-position-slice-read-c : (t : ℕ) → advance-position-lts.Need-slice-read-c (advance-position-claims t) (advance-position-at t) advance-position.Post
-advance-position-slice-read-c measure c =
+advance-position-slice-read-saved : (t : ℕ) → advance-position-lts.Need-slice-read-saved (advance-position-claims t) (advance-position-at t) advance-position.Post
+advance-position-slice-read-saved measure c =
     let s₀ = c .before .before .before .before .before in
     let slot = s₀ .args .slot .now in
     let at-if1 = c .before .if1 in
     let l : length (at-if1 .slot) ≡ length slot = ⊎-elim (λ x. ap length (x .3) ∙ length-set slot 1 (x .2 .result)) (λ x. ap length (x .1)) (at-if1 .came) in omega (arith, s₀ .pre .1 .room)
 
-advance-position-cast-c : (t : ℕ) → advance-position-lts.Need-cast-c (advance-position-claims t) (advance-position-at t) advance-position.Post
-advance-position-cast-c t c = search needs
+advance-position-cast-saved : (t : ℕ) → advance-position-lts.Need-cast-saved (advance-position-claims t) (advance-position-at t) advance-position.Post
+advance-position-cast-saved t c = search needs
 
 advance-position-mul-places : (t : ℕ) → advance-position-lts.Need-mul-places (advance-position-claims t) (advance-position-at t) advance-position.Post
 advance-position-mul-places t c = search needs
@@ -703,13 +703,13 @@ advance-position-advance-part-requires measure c κs =
     let nodes = s₀ .args .nodes .now in
     let slot = s₀ .args .slot .now in
     let left = s₀ .args .left in
-    let i = s₀ .args .i in
-    let env = variables-of (s₀ .args .m) (s₀ .args .pos .now) (s₀ .args .byte .now) in
+    let node = s₀ .args .node in
+    let env = variables-of (s₀ .args .depth) (s₀ .args .pos .now) (s₀ .args .byte .now) in
     let t = s₀ .args .t in
     let q = s₀ .args .q in
     let at-if1 = c .before .before .before .before .before .before .if1 in (
       omega (arith, s₀ .pre .0),
-      fit-entered (tree-at left nodes i) env t q (getD (at-if1 .slot) 1 0 % 256) (length slot) (length (at-if1 .slot)) (s₀ .pre .1)
+      fit-entered (tree-at left nodes node) env t q (getD (at-if1 .slot) 1 0 % 256) (length slot) (length (at-if1 .slot)) (s₀ .pre .1)
           (⊎-elim (λ x. ap length (x .3) ∙ length-set slot 1 (x .2 .result)) (λ x. ap length (x .1)) (at-if1 .came)),
     )
 
@@ -728,9 +728,9 @@ advance-position-returns measure c =
     let slot = s₀ .args .slot .now in
     let hist = s₀ .args .history .now in
     let left = s₀ .args .left in
-    let i = s₀ .args .i in
+    let node = s₀ .args .node in
     let b = s₀ .args .flag in
-    let env = variables-of (s₀ .args .m) (s₀ .args .pos .now) (s₀ .args .byte .now) in
+    let env = variables-of (s₀ .args .depth) (s₀ .args .pos .now) (s₀ .args .byte .now) in
     let s = s₀ .args .s in
     let t = s₀ .args .t in
     let q = s₀ .args .q in
@@ -738,15 +738,15 @@ advance-position-returns measure c =
     let at-if1 = c .before .before .before .before .before .before .before .before .before .if1 in
     let at-advance-part = c .before .before .advance-part in
     let l : length (at-if1 .slot) ≡ length slot = ⊎-elim (λ x. ap length (x .3) ∙ length-set slot 1 (x .2 .result)) (λ x. ap length (x .1)) (at-if1 .came) in
-    position-of (tree-at left nodes i) hist b env s t q (s₀ .pre .1 .depth) (s₀ .pre .1 .five-places) (s₀ .pre .1 .five-bytes) (s₀ .pre .1 .come) (at-later .result) (at-advance-part .result) slot (at-if1 .slot) (at-advance-part .last .1 .1 .1 .0) (at-later .ensures)
+    position-of (tree-at left nodes node) hist b env s t q (s₀ .pre .1 .depth) (s₀ .pre .1 .five-places) (s₀ .pre .1 .five-bytes) (s₀ .pre .1 .come) (at-later .result) (at-advance-part .result) slot (at-if1 .slot) (at-advance-part .last .1 .1 .1 .0) (at-later .ensures)
     (omega (arith, s₀ .pre .1 .room)) (omega (arith, s₀ .pre .1 .room))
     (⊎-elim (λ x. inl (x .2 .result, x .0 .taken, x .3, x .2 .ensures .0 ∙ x .1 .ensures, x .2 .ensures .1)) (λ x. inr (x .0 .left, x .1)) (at-if1 .came)) (at-advance-part .ensures)
 
 advance-range-node-word-requires : (t : ℕ) → advance-range-lts.Need-node-word-requires (advance-range-claims t) (advance-range-at t) advance-range.Post
 advance-range-node-word-requires t c κs = search needs
 
-advance-range-cast-z : (t : ℕ) → advance-range-lts.Need-cast-z (advance-range-claims t) (advance-range-at t) advance-range.Post
-advance-range-cast-z t c = search needs
+advance-range-cast-size : (t : ℕ) → advance-range-lts.Need-cast-size (advance-range-claims t) (advance-range-at t) advance-range.Post
+advance-range-cast-size t c = search needs
 
 advance-range-range-at-requires : (t : ℕ) → advance-range-lts.Need-range-at-requires (advance-range-claims t) (advance-range-at t) advance-range.Post
 advance-range-range-at-requires t c κs = search needs
@@ -786,8 +786,8 @@ advance-range-walk-positions-requires measure c κs =
     let s₀ = c .before .before .before .before .before .before .before .before .before .before .before in
     let nodes = s₀ .args .nodes .now in
     let run = s₀ .args .run .now in
-    let i = s₀ .args .i in
-    let env = variables-of (s₀ .args .m) (s₀ .args .pos .now) (s₀ .args .byte .now) in
+    let node = s₀ .args .node in
+    let env = variables-of (s₀ .args .depth) (s₀ .args .pos .now) (s₀ .args .byte .now) in
     let s = s₀ .args .s in
     let t = s₀ .args .t in
     let at-node-word = c .before .before .before .before .before .before .before .node-word in
@@ -795,10 +795,10 @@ advance-range-walk-positions-requires measure c κs =
     let at-plan-up-to = c .before .before .before .before .plan-up-to in
     let at-own-tick = c .before .before .before .own-tick in
     let at-load-head = c .before .load-head in
-    let plan = plan-here (bound-at nodes (i + 1)) (bound-at nodes (i + 4)) env t s (at-plan-up-to .result .first) (at-plan-up-to .result .n) (at-plan-up-to .result .end) (at-range-at .result) (s₀ .pre .1 .1 .low) (s₀ .pre .1 .1 .past) (s₀ .pre .1 .1 .unbound) (at-range-at .ensures) (at-plan-up-to .ensures) in (
+    let plan = plan-here (bound-at nodes (node + 1)) (bound-at nodes (node + 4)) env t s (at-plan-up-to .result .first) (at-plan-up-to .result .count) (at-plan-up-to .result .end) (at-range-at .result) (s₀ .pre .1 .1 .low) (s₀ .pre .1 .1 .past) (s₀ .pre .1 .1 .unbound) (at-range-at .ensures) (at-plan-up-to .ensures) in (
       omega (arith, s₀ .pre .0),
-      fit-walk (s₀ .pre .1 .1) s (at-plan-up-to .result .first) (at-load-head .result .leading) (at-plan-up-to .result .n) (at-node-word .result) (length (take (length run - 4) (drop 4 run))) (at-plan-up-to .result .end)
-          (subst (λ (x : ℕ). x ≤ at-plan-up-to .result .n) (sym (at-load-head .ensures .0)) (leading-least s t (at-plan-up-to .result .n) (getD run 0 0))) (at-node-word .ensures) (window-length 4 (length run) run (omega arith)) plan,
+      fit-walk (s₀ .pre .1 .1) s (at-plan-up-to .result .first) (at-load-head .result .leading) (at-plan-up-to .result .count) (at-node-word .result) (length (take (length run - 4) (drop 4 run))) (at-plan-up-to .result .end)
+          (subst (λ (x : ℕ). x ≤ at-plan-up-to .result .count) (sym (at-load-head .ensures .0)) (leading-least s t (at-plan-up-to .result .count) (getD run 0 0))) (at-node-word .ensures) (window-length 4 (length run) run (omega arith)) plan,
     )
 
 advance-range-move-head-requires : (t : ℕ) → advance-range-lts.Need-move-head-requires (advance-range-claims t) (advance-range-at t) advance-range.Post
@@ -806,8 +806,8 @@ advance-range-move-head-requires measure c κs =
     let s₀ = c .before .before .before .before .before .before .before .before .before .before .before .before .before .before .before in
     let nodes = s₀ .args .nodes .now in
     let run = s₀ .args .run .now in
-    let i = s₀ .args .i in
-    let env = variables-of (s₀ .args .m) (s₀ .args .pos .now) (s₀ .args .byte .now) in
+    let node = s₀ .args .node in
+    let env = variables-of (s₀ .args .depth) (s₀ .args .pos .now) (s₀ .args .byte .now) in
     let s = s₀ .args .s in
     let t = s₀ .args .t in
     let at-node-word = c .before .before .before .before .before .before .before .before .before .before .before .node-word in
@@ -816,9 +816,9 @@ advance-range-move-head-requires measure c κs =
     let at-own-tick = c .before .before .before .before .before .before .before .own-tick in
     let at-load-head = c .before .before .before .before .before .load-head in
     let at-walk-positions = c .before .before .before .walk-positions in
-    let plan = plan-here (bound-at nodes (i + 1)) (bound-at nodes (i + 4)) env t s (at-plan-up-to .result .first) (at-plan-up-to .result .n) (at-plan-up-to .result .end) (at-range-at .result) (s₀ .pre .1 .1 .low) (s₀ .pre .1 .1 .past) (s₀ .pre .1 .1 .unbound) (at-range-at .ensures) (at-plan-up-to .ensures) in
-    fit-store (s₀ .pre .1 .1) s (at-plan-up-to .result .first) (at-load-head .result .leading) (at-plan-up-to .result .n) (at-node-word .result) (length (putMid 4 (length run - 4) run (at-walk-positions .last .1 .1 .1 .0))) (at-plan-up-to .result .end)
-    (subst (λ (x : ℕ). x ≤ at-plan-up-to .result .n) (sym (at-load-head .ensures .0)) (leading-least s t (at-plan-up-to .result .n) (getD run 0 0))) (at-node-word .ensures) (same-len-mid 4 (length run - 4) run (at-walk-positions .last .1 .1 .1 .0) (at-walk-positions .kept .1 .1 .1 .0)) plan
+    let plan = plan-here (bound-at nodes (node + 1)) (bound-at nodes (node + 4)) env t s (at-plan-up-to .result .first) (at-plan-up-to .result .count) (at-plan-up-to .result .end) (at-range-at .result) (s₀ .pre .1 .1 .low) (s₀ .pre .1 .1 .past) (s₀ .pre .1 .1 .unbound) (at-range-at .ensures) (at-plan-up-to .ensures) in
+    fit-store (s₀ .pre .1 .1) s (at-plan-up-to .result .first) (at-load-head .result .leading) (at-plan-up-to .result .count) (at-node-word .result) (length (putMid 4 (length run - 4) run (at-walk-positions .last .1 .1 .1 .0))) (at-plan-up-to .result .end)
+    (subst (λ (x : ℕ). x ≤ at-plan-up-to .result .count) (sym (at-load-head .ensures .0)) (leading-least s t (at-plan-up-to .result .count) (getD run 0 0))) (at-node-word .ensures) (same-len-mid 4 (length run - 4) run (at-walk-positions .last .1 .1 .1 .0) (at-walk-positions .kept .1 .1 .1 .0)) plan
 
 advance-range-both-requires : (t : ℕ) → advance-range-lts.Need-both-requires (advance-range-claims t) (advance-range-at t) advance-range.Post
 advance-range-both-requires t c κs = search needs
@@ -836,8 +836,8 @@ advance-range-returns measure c =
     let s₀ = c .before .before .before .before .before .before .before .before .before .before .before .before .before .before .before .before .before .before .before in
     let nodes = s₀ .args .nodes .now in
     let run = s₀ .args .run .now in
-    let i = s₀ .args .i in
-    let env = variables-of (s₀ .args .m) (s₀ .args .pos .now) (s₀ .args .byte .now) in
+    let node = s₀ .args .node in
+    let env = variables-of (s₀ .args .depth) (s₀ .args .pos .now) (s₀ .args .byte .now) in
     let s = s₀ .args .s in
     let t = s₀ .args .t in
     let at-node-word = c .before .before .before .before .before .before .before .before .before .before .before .before .before .before .before .node-word in
@@ -848,10 +848,10 @@ advance-range-returns measure c =
     let at-walk-positions = c .before .before .before .before .before .before .before .walk-positions in
     let at-move-head = c .before .before .before .move-head in
     let at-both = c .both in
-    let plan = plan-here (bound-at nodes (i + 1)) (bound-at nodes (i + 4)) env t s (at-plan-up-to .result .first) (at-plan-up-to .result .n) (at-plan-up-to .result .end) (at-range-at .result) (s₀ .pre .1 .1 .low) (s₀ .pre .1 .1 .past) (s₀ .pre .1 .1 .unbound) (at-range-at .ensures) (at-plan-up-to .ensures) in
-    range-of (at-plan-up-to .result .first) (at-plan-up-to .result .n) (at-load-head .result .leading) (at-load-head .result .latest) (at-own-tick .result) (at-node-word .result) (at-plan-up-to .result .end) (at-walk-positions .result) (at-both .result) (at-walk-positions .last .1 .1 .1 .0) (putMid 4 (length run - 4) run (at-walk-positions .last .1 .1 .1 .0)) (at-move-head .last .0)
+    let plan = plan-here (bound-at nodes (node + 1)) (bound-at nodes (node + 4)) env t s (at-plan-up-to .result .first) (at-plan-up-to .result .count) (at-plan-up-to .result .end) (at-range-at .result) (s₀ .pre .1 .1 .low) (s₀ .pre .1 .1 .past) (s₀ .pre .1 .1 .unbound) (at-range-at .ensures) (at-plan-up-to .ensures) in
+    range-of (at-plan-up-to .result .first) (at-plan-up-to .result .count) (at-load-head .result .leading) (at-load-head .result .latest) (at-own-tick .result) (at-node-word .result) (at-plan-up-to .result .end) (at-walk-positions .result) (at-both .result) (at-walk-positions .last .1 .1 .1 .0) (putMid 4 (length run - 4) run (at-walk-positions .last .1 .1 .1 .0)) (at-move-head .last .0)
     (at-node-word .ensures) (fit-head (s₀ .pre .1 .1)) plan (at-own-tick .ensures ∙ tick-is env (s₀ .pre .1 .1 .some)) (omega (arith, fit-long (s₀ .pre .1 .1), s₀ .pre .1 .1 .some)) (omega (arith, s₀ .pre .1 .1 .low))
-    (fit-short (s₀ .pre .1 .1) s (at-plan-up-to .result .first) (at-plan-up-to .result .n) (at-plan-up-to .result .end) plan)
+    (fit-short (s₀ .pre .1 .1) s (at-plan-up-to .result .first) (at-plan-up-to .result .count) (at-plan-up-to .result .end) plan)
     (at-load-head .ensures .0) (at-load-head .ensures .1) (at-walk-positions .ensures) refl (at-move-head .ensures) (at-both .ensures)
 
 advance-then-add-advance-part : (t : ℕ) → advance-then-lts.Need-add-advance-part (advance-then-claims t) (advance-then-at t) advance-then.Post
@@ -867,8 +867,8 @@ advance-then-advance-part-requires measure c κs =
 advance-then-enum-told : (t : ℕ) → advance-then-lts.Need-enum-told (advance-then-claims t) (advance-then-at t) advance-then.Post
 advance-then-enum-told t c = search needs
 
-advance-then-enum-known-o : (t : ℕ) → advance-then-lts.Need-enum-known-o (advance-then-claims t) (advance-then-at t) advance-then.Post
-advance-then-enum-known-o t c = search needs
+advance-then-enum-known-outcome : (t : ℕ) → advance-then-lts.Need-enum-known-outcome (advance-then-claims t) (advance-then-at t) advance-then.Post
+advance-then-enum-known-outcome t c = search needs
 
 advance-then-enum-told-2 : (t : ℕ) → advance-then-lts.Need-enum-told-2 (advance-then-claims t) (advance-then-at t) advance-then.Post
 advance-then-enum-told-2 t c = search needs
@@ -879,20 +879,20 @@ advance-then-enum-told-3 t c = search needs
 advance-then-node-word-requires : (t : ℕ) → advance-then-lts.Need-node-word-requires (advance-then-claims t) (advance-then-at t) advance-then.Post
 advance-then-node-word-requires t c κs = search needs
 
-advance-then-cast-g : (t : ℕ) → advance-then-lts.Need-cast-g (advance-then-claims t) (advance-then-at t) advance-then.Post
-advance-then-cast-g t c = search needs
+advance-then-cast-second : (t : ℕ) → advance-then-lts.Need-cast-second (advance-then-claims t) (advance-then-at t) advance-then.Post
+advance-then-cast-second t c = search needs
 
 advance-then-sub-advance : (t : ℕ) → advance-then-lts.Need-sub-advance (advance-then-claims t) (advance-then-at t) advance-then.Post
 advance-then-sub-advance measure c =
     let s₀ = c .before .before .before .before .before .before .before .before .before .before .before .before .before in
     let at-advance-part = c .before .before .before .before .before .before .before .before .before .advance-part in
-    omega (arith, fit-first (s₀ .pre .1 .1) .start, at-advance-part .kept .1 .1 .1 .0)
+    omega (arith, fit-first (s₀ .pre .1 .1) .ordered, at-advance-part .kept .1 .1 .1 .0)
 
 advance-then-part-advance-start : (t : ℕ) → advance-then-lts.Need-part-advance-start (advance-then-claims t) (advance-then-at t) advance-then.Post
 advance-then-part-advance-start measure c =
     let s₀ = c .before .before .before .before .before .before .before .before .before .before .before .before .before in
     let at-advance-part = c .before .before .before .before .before .before .before .before .before .advance-part in
-    omega (arith, fit-first (s₀ .pre .1 .1) .start, at-advance-part .kept .1 .1 .1 .0)
+    omega (arith, fit-first (s₀ .pre .1 .1) .ordered, at-advance-part .kept .1 .1 .1 .0)
 
 advance-then-part-advance-end : (t : ℕ) → advance-then-lts.Need-part-advance-end (advance-then-claims t) (advance-then-at t) advance-then.Post
 advance-then-part-advance-end t c = search needs
@@ -902,7 +902,7 @@ advance-then-advance-requires measure c κs =
     let s₀ = c .before .before .before .before .before .before .before .before .before .before .before .before .before .before in
     let nodes = s₀ .args .nodes .now in
     let left = s₀ .args .left in
-    let env = variables-of (s₀ .args .m) (s₀ .args .pos .now) (s₀ .args .byte .now) in
+    let env = variables-of (s₀ .args .depth) (s₀ .args .pos .now) (s₀ .args .byte .now) in
     let t = s₀ .args .t in
     let at-advance-part = c .before .before .before .before .before .before .before .before .before .before .advance-part in
     let at-node-word = c .before .node-word in
@@ -910,7 +910,7 @@ advance-then-advance-requires measure c κs =
     let long = window-length 4 (length mid) mid (omega arith) ∙ ap (λ (n : ℕ). n - 4) (at-advance-part .kept .1 .1 .1 .0) in (
       omega (arith, s₀ .pre .0),
       subst (λ (n : ℕ). Fit (tree-at left nodes n) env t (length (take (length mid - 4) (drop 4 mid)))) (sym (at-node-word .ensures))
-          (subst (Fit (tree-at left nodes (getD nodes (s₀ .args .i + 7) 0)) env t) (sym long) (fit-second (s₀ .pre .1 .1))),
+          (subst (Fit (tree-at left nodes (getD nodes (s₀ .args .node + 7) 0)) env t) (sym long) (fit-second (s₀ .pre .1 .1))),
     )
 
 advance-then-same-length : (t : ℕ) → advance-then-lts.Need-same-length (advance-then-claims t) (advance-then-at t) advance-then.Post
@@ -924,13 +924,13 @@ advance-then-returns measure c =
     let hist = s₀ .args .history .now in
     let left = s₀ .args .left in
     let b = s₀ .args .flag in
-    let env = variables-of (s₀ .args .m) (s₀ .args .pos .now) (s₀ .args .byte .now) in
+    let env = variables-of (s₀ .args .depth) (s₀ .args .pos .now) (s₀ .args .byte .now) in
     let s = s₀ .args .s in
     let t = s₀ .args .t in
-    let i = s₀ .args .i in
+    let node = s₀ .args .node in
     let at-advance-part = c .before .before .before .before .advance-part in
     let at-enum-told = c .enum-told in
-    then-open (tree-at left nodes (i + 12)) (tree-at left nodes (getD nodes (i + 7) 0)) hist b env s t run (at-advance-part .last .1 .1 .1 .0) (at-advance-part .result) (at-advance-part .ensures) (at-enum-told .given .1)
+    then-open (tree-at left nodes (node + 12)) (tree-at left nodes (getD nodes (node + 7) 0)) hist b env s t run (at-advance-part .last .1 .1 .1 .0) (at-advance-part .result) (at-advance-part .ensures) (at-enum-told .given .1)
 
 advance-then-same-length-2 : (t : ℕ) → advance-then-lts.Need-same-length-2 (advance-then-claims t) (advance-then-at t) advance-then.Post
 advance-then-same-length-2 t c = search needs
@@ -943,14 +943,14 @@ advance-then-returns-2 measure c =
     let hist = s₀ .args .history .now in
     let left = s₀ .args .left in
     let b = s₀ .args .flag in
-    let env = variables-of (s₀ .args .m) (s₀ .args .pos .now) (s₀ .args .byte .now) in
+    let env = variables-of (s₀ .args .depth) (s₀ .args .pos .now) (s₀ .args .byte .now) in
     let s = s₀ .args .s in
     let t = s₀ .args .t in
-    let i = s₀ .args .i in
+    let node = s₀ .args .node in
     let at-advance-part = c .before .before .before .before .before .before .before .advance-part in
-    let at-o = c .before .before .before .o in
+    let at-outcome = c .before .before .before .outcome in
     let at-enum-told2 = c .enum-told2 in
-    then-false (tree-at left nodes (i + 12)) (tree-at left nodes (getD nodes (i + 7) 0)) hist b env s t run (at-advance-part .last .1 .1 .1 .0) (at-advance-part .result) _ _ (at-advance-part .ensures) (at-o .given .1) (at-enum-told2 .given .1)
+    then-false (tree-at left nodes (node + 12)) (tree-at left nodes (getD nodes (node + 7) 0)) hist b env s t run (at-advance-part .last .1 .1 .1 .0) (at-advance-part .result) _ _ (at-advance-part .ensures) (at-outcome .given .1) (at-enum-told2 .given .1)
 
 advance-then-same-length-3 : (t : ℕ) → advance-then-lts.Need-same-length-3 (advance-then-claims t) (advance-then-at t) advance-then.Post
 advance-then-same-length-3 t c = search needs
@@ -962,101 +962,101 @@ advance-then-returns-3 measure c =
     let run = s₀ .args .run .now in
     let hist = s₀ .args .history .now in
     let left = s₀ .args .left in
-    let i = s₀ .args .i in
+    let node = s₀ .args .node in
     let b = s₀ .args .flag in
-    let env = variables-of (s₀ .args .m) (s₀ .args .pos .now) (s₀ .args .byte .now) in
+    let env = variables-of (s₀ .args .depth) (s₀ .args .pos .now) (s₀ .args .byte .now) in
     let s = s₀ .args .s in
     let t = s₀ .args .t in
     let at-advance-part = c .before .before .before .before .before .before .before .before .before .before .before .before .before .advance-part in
-    let at-o = c .before .before .before .before .before .before .before .before .before .o in
+    let at-outcome = c .before .before .before .before .before .before .before .before .before .outcome in
     let at-enum-told3 = c .before .before .before .before .before .before .enum-told3 in
     let at-node-word = c .before .before .before .before .node-word in
     let at-advance = c .before .before .advance in
     let mid = at-advance-part .last .1 .1 .1 .0 in
     let end = at-advance .last .1 .1 .1 .0 in
-    subst (λ (n : ℕ). Advanced (then-node (tree-at left nodes (i + 12)) (tree-at left nodes n)) hist b env s t run (at-advance .result) (putMid 4 (length mid - 4) mid end)) (at-node-word .ensures)
-    (then-true (tree-at left nodes (i + 12)) (tree-at left nodes (at-node-word .result)) hist b env s t run mid (at-advance-part .result) (at-advance .result) _ _ end (take (length mid - 4) (drop 4 mid)) (putMid 4 (length mid - 4) mid end) (at-advance-part .ensures) (at-o .given .1) (at-enum-told3 .given .1)
-    (omega (arith, fit-first (s₀ .pre .1 .1) .start, at-advance-part .kept .1 .1 .1 .0)) (tail-take mid) (at-advance .ensures) refl)
+    subst (λ (n : ℕ). Advanced (then-node (tree-at left nodes (node + 12)) (tree-at left nodes n)) hist b env s t run (at-advance .result) (putMid 4 (length mid - 4) mid end)) (at-node-word .ensures)
+    (then-true (tree-at left nodes (node + 12)) (tree-at left nodes (at-node-word .result)) hist b env s t run mid (at-advance-part .result) (at-advance .result) _ _ end (take (length mid - 4) (drop 4 mid)) (putMid 4 (length mid - 4) mid end) (at-advance-part .ensures) (at-outcome .given .1) (at-enum-told3 .given .1)
+    (omega (arith, fit-first (s₀ .pre .1 .1) .ordered, at-advance-part .kept .1 .1 .1 .0)) (tail-take mid) (at-advance .ensures) refl)
 
 abbrev walk-positions-Inv-loop : walk-positions-lts.InvT-loop
-walk-positions-Inv-loop nodes left i run₀ hist b m pos byte s t first leading n z acc₀ j₀ run acc j =
-    (j ≤ n) × ((leading ≤ j) × ((length run ≡ length run₀) × WalkedTo (tree-at left nodes i) hist b (variables-of m pos byte) s t first leading n acc₀ z run₀ j acc run))
+walk-positions-Inv-loop nodes left node run₀ hist b depth pos byte s t first leading positions size acc₀ count₀ run acc count =
+    (count ≤ positions) × ((leading ≤ count) × ((length run ≡ length run₀) × WalkedTo (tree-at left nodes node) hist b (variables-of depth pos byte) s t first leading positions acc₀ size run₀ count acc run))
 
 abbrev walk-positions-μ-loop : walk-positions-lts.MeasureT-loop
-walk-positions-μ-loop nodes left i run₀ hist b m pos byte s t first leading n z acc₀ j₀ run acc j = j
+walk-positions-μ-loop nodes left node run₀ hist b depth pos byte s t first leading positions size acc₀ count₀ run acc count = count
 
 walk-positions-loop-holds : (t : ℕ) → walk-positions-lts.Need-loop-holds (walk-positions-claims t) (walk-positions-at t) walk-positions.Post walk-positions-Inv-loop walk-positions-μ-loop
 walk-positions-loop-holds measure c =
     let s₀ = c .before .before in
     (omega arith, (s₀ .pre .1 .within, (refl, walk-begun)))
 
-walk-positions-sub-j : (t : ℕ) → walk-positions-lts.Need-sub-j (walk-positions-claims t) (walk-positions-at t) walk-positions.Post walk-positions-Inv-loop walk-positions-μ-loop
-walk-positions-sub-j measure c =
+walk-positions-sub-count : (t : ℕ) → walk-positions-lts.Need-sub-count (walk-positions-claims t) (walk-positions-at t) walk-positions.Post walk-positions-Inv-loop walk-positions-μ-loop
+walk-positions-sub-count measure c =
     let at-loop-test = c .loop-test in
     omega (arith, at-loop-test .taken)
 
 walk-positions-mul-at : (t : ℕ) → walk-positions-lts.Need-mul-at (walk-positions-claims t) (walk-positions-at t) walk-positions.Post walk-positions-Inv-loop walk-positions-μ-loop
 walk-positions-mul-at measure c =
     let s₀ = c .before .before .before .before in
-    let z = s₀ .args .z in
-    let n = s₀ .args .n in
+    let size = s₀ .args .size in
+    let positions = s₀ .args .positions in
     let at-loop = c .before .loop in
     let at-loop-test = c .loop-test in
-    omega (arith, slot-before z (at-loop .j - 1) n (omega (arith, at-loop-test .taken, at-loop .inv .0)), at-loop .inv .1 .1 .0, s₀ .pre .1 .room, s₀ .good .1 .1 .1 .0)
+    omega (arith, slot-before size (at-loop .count - 1) positions (omega (arith, at-loop-test .taken, at-loop .inv .0)), at-loop .inv .1 .1 .0, s₀ .pre .1 .room, s₀ .good .1 .1 .1 .0)
 
 walk-positions-add-top : (t : ℕ) → walk-positions-lts.Need-add-top (walk-positions-claims t) (walk-positions-at t) walk-positions.Post walk-positions-Inv-loop walk-positions-μ-loop
 walk-positions-add-top measure c =
     let s₀ = c .before .before .before .before in
-    let z = s₀ .args .z in
-    let n = s₀ .args .n in
+    let size = s₀ .args .size in
+    let positions = s₀ .args .positions in
     let at-loop = c .before .loop in
     let at-loop-test = c .loop-test in
-    omega (arith, slot-before z (at-loop .j - 1) n (omega (arith, at-loop-test .taken, at-loop .inv .0)), at-loop .inv .1 .1 .0, s₀ .pre .1 .room, s₀ .good .1 .1 .1 .0)
+    omega (arith, slot-before size (at-loop .count - 1) positions (omega (arith, at-loop-test .taken, at-loop .inv .0)), at-loop .inv .1 .1 .0, s₀ .pre .1 .room, s₀ .good .1 .1 .1 .0)
 
 walk-positions-mul-advance-position : (t : ℕ) → walk-positions-lts.Need-mul-advance-position (walk-positions-claims t) (walk-positions-at t) walk-positions.Post walk-positions-Inv-loop walk-positions-μ-loop
 walk-positions-mul-advance-position measure c =
     let s₀ = c .before .before .before .before in
-    let z = s₀ .args .z in
-    let n = s₀ .args .n in
+    let size = s₀ .args .size in
+    let positions = s₀ .args .positions in
     let at-loop = c .before .loop in
     let at-loop-test = c .loop-test in
-    omega (arith, slot-before z (at-loop .j - 1) n (omega (arith, at-loop-test .taken, at-loop .inv .0)), at-loop .inv .1 .1 .0, s₀ .pre .1 .room, s₀ .good .1 .1 .1 .0)
+    omega (arith, slot-before size (at-loop .count - 1) positions (omega (arith, at-loop-test .taken, at-loop .inv .0)), at-loop .inv .1 .1 .0, s₀ .pre .1 .room, s₀ .good .1 .1 .1 .0)
 
 walk-positions-sub-advance-position : (t : ℕ) → walk-positions-lts.Need-sub-advance-position (walk-positions-claims t) (walk-positions-at t) walk-positions.Post walk-positions-Inv-loop walk-positions-μ-loop
 walk-positions-sub-advance-position measure c =
     let s₀ = c .before .before .before .before in
-    let z = s₀ .args .z in
-    let n = s₀ .args .n in
+    let size = s₀ .args .size in
+    let positions = s₀ .args .positions in
     let at-loop = c .before .loop in
     let at-loop-test = c .loop-test in
-    omega (arith, slot-before z (at-loop .j - 1) n (omega (arith, at-loop-test .taken, at-loop .inv .0)), at-loop .inv .1 .1 .0, s₀ .pre .1 .room, s₀ .good .1 .1 .1 .0)
+    omega (arith, slot-before size (at-loop .count - 1) positions (omega (arith, at-loop-test .taken, at-loop .inv .0)), at-loop .inv .1 .1 .0, s₀ .pre .1 .room, s₀ .good .1 .1 .1 .0)
 
 walk-positions-part-advance-position-start :
     (t : ℕ) → walk-positions-lts.Need-part-advance-position-start (walk-positions-claims t) (walk-positions-at t) walk-positions.Post walk-positions-Inv-loop walk-positions-μ-loop
 walk-positions-part-advance-position-start measure c =
     let s₀ = c .before .before .before .before in
-    let z = s₀ .args .z in
-    let n = s₀ .args .n in
+    let size = s₀ .args .size in
+    let positions = s₀ .args .positions in
     let at-loop = c .before .loop in
     let at-loop-test = c .loop-test in
-    omega (arith, slot-before z (at-loop .j - 1) n (omega (arith, at-loop-test .taken, at-loop .inv .0)), at-loop .inv .1 .1 .0, s₀ .pre .1 .room, s₀ .good .1 .1 .1 .0)
+    omega (arith, slot-before size (at-loop .count - 1) positions (omega (arith, at-loop-test .taken, at-loop .inv .0)), at-loop .inv .1 .1 .0, s₀ .pre .1 .room, s₀ .good .1 .1 .1 .0)
 
 walk-positions-part-advance-position-end :
     (t : ℕ) → walk-positions-lts.Need-part-advance-position-end (walk-positions-claims t) (walk-positions-at t) walk-positions.Post walk-positions-Inv-loop walk-positions-μ-loop
 walk-positions-part-advance-position-end measure c =
     let s₀ = c .before .before .before .before in
-    let z = s₀ .args .z in
-    let n = s₀ .args .n in
+    let size = s₀ .args .size in
+    let positions = s₀ .args .positions in
     let at-loop = c .before .loop in
     let at-loop-test = c .loop-test in
-    omega (arith, slot-before z (at-loop .j - 1) n (omega (arith, at-loop-test .taken, at-loop .inv .0)), at-loop .inv .1 .1 .0, s₀ .pre .1 .room, s₀ .good .1 .1 .1 .0)
+    omega (arith, slot-before size (at-loop .count - 1) positions (omega (arith, at-loop-test .taken, at-loop .inv .0)), at-loop .inv .1 .1 .0, s₀ .pre .1 .room, s₀ .good .1 .1 .1 .0)
 
 walk-positions-add-advance-position : (t : ℕ) → walk-positions-lts.Need-add-advance-position (walk-positions-claims t) (walk-positions-at t) walk-positions.Post walk-positions-Inv-loop walk-positions-μ-loop
 walk-positions-add-advance-position measure c =
     let s₀ = c .before .before .before .before .before in
     let at-loop = c .before .before .loop in
     let at-loop-test = c .before .loop-test in
-    let fit = s₀ .pre .1 .slots (at-loop .j - 1) (omega (arith, at-loop-test .taken, at-loop .inv .0)) in omega (arith, fit .come, fit .low)
+    let fit = s₀ .pre .1 .slots (at-loop .count - 1) (omega (arith, at-loop-test .taken, at-loop .inv .0)) in omega (arith, fit .come, fit .low)
 
 walk-positions-advance-position-requires :
     (t : ℕ) → walk-positions-lts.Need-advance-position-requires (walk-positions-claims t) (walk-positions-at t) walk-positions.Post walk-positions-Inv-loop walk-positions-μ-loop
@@ -1064,15 +1064,15 @@ walk-positions-advance-position-requires measure c κs =
     let s₀ = c .before .before .before .before .before in
     let nodes = s₀ .args .nodes .now in
     let left = s₀ .args .left in
-    let i = s₀ .args .i in
-    let env = variables-of (s₀ .args .m) (s₀ .args .pos .now) (s₀ .args .byte .now) in
+    let node = s₀ .args .node in
+    let env = variables-of (s₀ .args .depth) (s₀ .args .pos .now) (s₀ .args .byte .now) in
     let t = s₀ .args .t in
-    let z = s₀ .args .z in
+    let size = s₀ .args .size in
     let first = s₀ .args .first in
-    let n = s₀ .args .n in
+    let positions = s₀ .args .positions in
     let at-loop = c .before .before .loop in
     let at-loop-test = c .before .loop-test in
-    (omega (arith, s₀ .pre .0), subst (SlotFit (tree-at left nodes i) env t (first + (at-loop .j - 1))) (sym (slot-length z n (at-loop .j - 1) (at-loop .run) (omega (arith, at-loop-test .taken, at-loop .inv .0)) (omega (arith, at-loop .inv .1 .1 .0, s₀ .pre .1 .room)))) (s₀ .pre .1 .slots (at-loop .j - 1) (omega (arith, at-loop-test .taken, at-loop .inv .0))))
+    (omega (arith, s₀ .pre .0), subst (SlotFit (tree-at left nodes node) env t (first + (at-loop .count - 1))) (sym (slot-length size positions (at-loop .count - 1) (at-loop .run) (omega (arith, at-loop-test .taken, at-loop .inv .0)) (omega (arith, at-loop .inv .1 .1 .0, s₀ .pre .1 .room)))) (s₀ .pre .1 .slots (at-loop .count - 1) (omega (arith, at-loop-test .taken, at-loop .inv .0))))
 
 walk-positions-both-requires : (t : ℕ) → walk-positions-lts.Need-both-requires (walk-positions-claims t) (walk-positions-at t) walk-positions.Post walk-positions-Inv-loop walk-positions-μ-loop
 walk-positions-both-requires t c κs = search needs
@@ -1083,10 +1083,10 @@ walk-positions-is-false-requires t c κs = search needs
 walk-positions-same-length : (t : ℕ) → walk-positions-lts.Need-same-length (walk-positions-claims t) (walk-positions-at t) walk-positions.Post walk-positions-Inv-loop walk-positions-μ-loop
 walk-positions-same-length measure c =
     let s₀ = c .before .before .before .before .before .before .before .before .before .before .before in
-    let z = s₀ .args .z in
+    let size = s₀ .args .size in
     let at-loop = c .before .before .before .before .before .before .before .before .loop in
     let at-advance-position = c .before .before .before .before .before .advance-position in
-    same-len-mid ((at-loop .j - 1) * z) ((at-loop .j - 1) * z + z - (at-loop .j - 1) * z) (at-loop .run) (at-advance-position .last .1 .1 .1 .0) (at-advance-position .kept .1 .1 .1 .0) ∙ at-loop .inv .1 .1 .0
+    same-len-mid ((at-loop .count - 1) * size) ((at-loop .count - 1) * size + size - (at-loop .count - 1) * size) (at-loop .run) (at-advance-position .last .1 .1 .1 .0) (at-advance-position .kept .1 .1 .1 .0) ∙ at-loop .inv .1 .1 .0
 
 walk-positions-returns : (t : ℕ) → walk-positions-lts.Need-returns (walk-positions-claims t) (walk-positions-at t) walk-positions.Post walk-positions-Inv-loop walk-positions-μ-loop
 walk-positions-returns measure c =
@@ -1098,8 +1098,8 @@ walk-positions-returns measure c =
     let at-is-false = c .before .is-false in
     let at-if1 = c .if1 in
     let o-false = at-is-false .ensures (at-if1 .taken) in
-    walk-stopped (at-loop .acc) (at-both .result) (at-loop .run) (at-advance-position .last .1 .1 .1 .0) (at-advance-position .result) (at-loop .j) (at-loop-test .taken) (at-loop .inv .0) (omega (arith, at-loop .inv .1 .1 .0, s₀ .pre .1 .room))
-    (s₀ .pre .1 .slots (at-loop .j - 1) (omega (arith, at-loop-test .taken, at-loop .inv .0)) .come) (at-advance-position .kept .1 .1 .1 .0) (at-advance-position .ensures) (o-false .0) (o-false .1) (at-both .ensures) (at-loop .inv .1 .1 .1)
+    walk-stopped (at-loop .acc) (at-both .result) (at-loop .run) (at-advance-position .last .1 .1 .1 .0) (at-advance-position .result) (at-loop .count) (at-loop-test .taken) (at-loop .inv .0) (omega (arith, at-loop .inv .1 .1 .0, s₀ .pre .1 .room))
+    (s₀ .pre .1 .slots (at-loop .count - 1) (omega (arith, at-loop-test .taken, at-loop .inv .0)) .come) (at-advance-position .kept .1 .1 .1 .0) (at-advance-position .ensures) (o-false .0) (o-false .1) (at-both .ensures) (at-loop .inv .1 .1 .1)
 
 walk-positions-loop-less : (t : ℕ) → walk-positions-lts.Need-loop-less (walk-positions-claims t) (walk-positions-at t) walk-positions.Post walk-positions-Inv-loop walk-positions-μ-loop
 walk-positions-loop-less measure c =
@@ -1109,7 +1109,7 @@ walk-positions-loop-less measure c =
 walk-positions-loop-again : (t : ℕ) → walk-positions-lts.Need-loop-again (walk-positions-claims t) (walk-positions-at t) walk-positions.Post walk-positions-Inv-loop walk-positions-μ-loop
 walk-positions-loop-again measure c =
     let s₀ = c .before .before .before .before .before .before .before .before .before .before .before in
-    let z = s₀ .args .z in
+    let size = s₀ .args .size in
     let at-loop = c .before .before .before .before .before .before .before .before .loop in
     let at-loop-test = c .before .before .before .before .before .before .before .loop-test in
     let at-advance-position = c .before .before .before .before .before .advance-position in
@@ -1118,8 +1118,8 @@ walk-positions-loop-again measure c =
       (
         omega (arith, at-loop-test .taken),
         (
-          same-len-mid ((at-loop .j - 1) * z) ((at-loop .j - 1) * z + z - (at-loop .j - 1) * z) (at-loop .run) (at-advance-position .last .1 .1 .1 .0) (at-advance-position .kept .1 .1 .1 .0) ∙ at-loop .inv .1 .1 .0,
-          walk-more (at-loop .acc) (at-both .result) (at-loop .run) (at-advance-position .last .1 .1 .1 .0) (at-advance-position .result) (at-loop .j) (at-loop-test .taken) (at-loop .inv .0) (omega (arith, at-loop .inv .1 .1 .0, s₀ .pre .1 .room)) (at-advance-position .kept .1 .1 .1 .0) (at-advance-position .ensures) (at-both .ensures) (at-loop .inv .1 .1 .1),
+          same-len-mid ((at-loop .count - 1) * size) ((at-loop .count - 1) * size + size - (at-loop .count - 1) * size) (at-loop .run) (at-advance-position .last .1 .1 .1 .0) (at-advance-position .kept .1 .1 .1 .0) ∙ at-loop .inv .1 .1 .0,
+          walk-more (at-loop .acc) (at-both .result) (at-loop .run) (at-advance-position .last .1 .1 .1 .0) (at-advance-position .result) (at-loop .count) (at-loop-test .taken) (at-loop .inv .0) (omega (arith, at-loop .inv .1 .1 .0, s₀ .pre .1 .room)) (at-advance-position .kept .1 .1 .1 .0) (at-advance-position .ensures) (at-both .ensures) (at-loop .inv .1 .1 .1),
         ),
       ),
     )
@@ -1133,7 +1133,7 @@ walk-positions-returns-2 : (t : ℕ) → walk-positions-lts.Need-returns-2 (walk
 walk-positions-returns-2 measure c =
     let at-loop = c .before .loop in
     let at-loop-test = c .loop-test in
-    walk-done (at-loop .j) (at-loop .acc) (at-loop .run) (at-loop .inv .1 .0) (λ x. omega (arith, x, at-loop-test .left)) (at-loop .inv .1 .1 .1)
+    walk-done (at-loop .count) (at-loop .acc) (at-loop .run) (at-loop .inv .1 .0) (λ x. omega (arith, x, at-loop-test .left)) (at-loop .inv .1 .1 .1)
 
 pub +advance+advance-beside+advance-not+advance-part+advance-position+advance-range+advance-then+walk-positions-spec :
     {M : Type 1} → statement M
@@ -1181,7 +1181,7 @@ pub +advance+advance-beside+advance-not+advance-part+advance-position+advance-ra
     (advance-beside-same-length t)
     (advance-beside-returns t)
     (advance-beside-node-word-requires-2 t)
-    (advance-beside-cast-g t)
+    (advance-beside-cast-second-node t)
     (advance-beside-advance-part-requires-2 t)
     (advance-beside-both-requires t)
     (advance-beside-same-length-2 t)
@@ -1218,8 +1218,8 @@ pub +advance+advance-beside+advance-not+advance-part+advance-position+advance-ra
     (advance-position-byte-of-requires t)
     (advance-position-wide-requires t)
     (advance-position-slice-write-slot t)
-    (advance-position-slice-read-c t)
-    (advance-position-cast-c t)
+    (advance-position-slice-read-saved t)
+    (advance-position-cast-saved t)
     (advance-position-mul-places t)
     (advance-position-array-write-places t)
     (advance-position-array-write-bytes t)
@@ -1231,7 +1231,7 @@ pub +advance+advance-beside+advance-not+advance-part+advance-position+advance-ra
     (advance-range-at t)
     advance-range.Post
     (advance-range-node-word-requires t)
-    (advance-range-cast-z t)
+    (advance-range-cast-size t)
     (advance-range-range-at-requires t)
     (advance-range-plan-up-to-requires t)
     (advance-range-own-tick-requires t)
@@ -1251,11 +1251,11 @@ pub +advance+advance-beside+advance-not+advance-part+advance-position+advance-ra
     (advance-then-add-advance-part t)
     (advance-then-advance-part-requires t)
     (advance-then-enum-told t)
-    (advance-then-enum-known-o t)
+    (advance-then-enum-known-outcome t)
     (advance-then-enum-told-2 t)
     (advance-then-enum-told-3 t)
     (advance-then-node-word-requires t)
-    (advance-then-cast-g t)
+    (advance-then-cast-second t)
     (advance-then-sub-advance t)
     (advance-then-part-advance-start t)
     (advance-then-part-advance-end t)
@@ -1272,7 +1272,7 @@ pub +advance+advance-beside+advance-not+advance-part+advance-position+advance-ra
     walk-positions-Inv-loop
     walk-positions-μ-loop
     (walk-positions-loop-holds t)
-    (walk-positions-sub-j t)
+    (walk-positions-sub-count t)
     (walk-positions-mul-at t)
     (walk-positions-add-top t)
     (walk-positions-mul-advance-position t)

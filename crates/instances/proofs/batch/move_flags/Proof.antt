@@ -11,11 +11,11 @@ use Rattle.instances.proofs.batch.move_flags.Statement.{statement}
 use Rattle.instances.proofs.batch.move_flags.Tie as tie
 
 abbrev Inv-loop : tie.InvT-loop
-Inv-loop nodes figures tick live flags history₀ cells₀ report₀ half n i₀ pairs₀ still-open₀ history cells report i pairs still-open =
-    Under nodes figures tick live flags history₀ cells₀ report₀ history cells report i pairs still-open
+Inv-loop nodes figures tick live flags history₀ cells₀ report₀ half count taken₀ pairs₀ still-open₀ history cells report taken pairs still-open =
+    Under nodes figures tick live flags history₀ cells₀ report₀ history cells report taken pairs still-open
 
 abbrev μ-loop : tie.MeasureT-loop
-μ-loop nodes figures tick live flags history₀ cells₀ report₀ half n i₀ pairs₀ still-open₀ history cells report i pairs still-open = n - i
+μ-loop nodes figures tick live flags history₀ cells₀ report₀ half count taken₀ pairs₀ still-open₀ history cells report taken pairs still-open = count - taken
 
 add-half : tie.Need-add-half Inv-loop μ-loop
 add-half c =
@@ -67,7 +67,7 @@ returns c =
     let s₀ = c .before .before .before .before .before .before .before .before in
     let l = c .before .before .loop in
     let count = c .before .before .before .flags-left .ensures in
-    under-ends (s₀ .args .nodes .now) (s₀ .args .figures) (s₀ .args .tick) (s₀ .args .live) (s₀ .args .flags .now) (s₀ .args .history .now) (s₀ .args .cells .now) (s₀ .args .report .now) (l .history) (l .cells) (l .report) (l .i) (l .pairs) (l .still-open) (l .inv) (inr (inl (omega (arith, c .if1 .taken, l .inv .report-length, l .inv .inside))))
+    under-ends (s₀ .args .nodes .now) (s₀ .args .figures) (s₀ .args .tick) (s₀ .args .live) (s₀ .args .flags .now) (s₀ .args .history .now) (s₀ .args .cells .now) (s₀ .args .report .now) (l .history) (l .cells) (l .report) (l .taken) (l .pairs) (l .still-open) (l .inv) (inr (inl (omega (arith, c .if1 .taken, l .inv .report-length, l .inv .inside))))
 
 add-t : tie.Need-add-t Inv-loop μ-loop
 add-t c =
@@ -116,7 +116,7 @@ move-pairs-requires c κs =
     let s₀ = c .before .before .before .before .before .before .before .before .before .before .before .before in
     let l = c .before .before .before .before .before .before .loop in
     let count = c .before .before .before .before .before .before .before .flags-left .ensures in
-    next-fits (s₀ .args .nodes .now) (s₀ .args .figures) (s₀ .args .tick) (s₀ .args .live) (s₀ .args .flags .now) (s₀ .args .history .now) (s₀ .args .cells .now) (s₀ .args .report .now) (l .history) (l .cells) (l .report) (l .i) (l .pairs) (l .still-open) (l .inv)
+    next-fits (s₀ .args .nodes .now) (s₀ .args .figures) (s₀ .args .tick) (s₀ .args .live) (s₀ .args .flags .now) (s₀ .args .history .now) (s₀ .args .cells .now) (s₀ .args .report .now) (l .history) (l .cells) (l .report) (l .taken) (l .pairs) (l .still-open) (l .inv)
     (omega (arith, c .before .before .before .before .if1 .left, l .inv .report-length, l .inv .inside)) (omega (arith, count, c .before .before .before .before .before .loop-test .taken)) (omega (arith, count, c .before .before .before .before .before .loop-test .taken))
     (take (length (l .report) - 2 * l .pairs) (drop (2 * l .pairs) (l .report))) refl (s₀ .pre)
 
@@ -127,13 +127,13 @@ add-pairs c =
     let count = c .before .before .before .before .before .before .before .before .before .before .before .before .before .before .before .flags-left .ensures in
     let m = c .before .before .before .before .before .before .before .move-pairs in
     let short = table-short (s₀ .args .nodes .now) (s₀ .args .figures) (length (s₀ .args .history .now)) (s₀ .args .tick) (s₀ .pre .state) (s₀ .pre .table-of) .0 in
-    let few = taken-words (s₀ .args .nodes .now) (s₀ .args .figures) (s₀ .args .tick) (s₀ .args .live) (s₀ .args .flags .now) (s₀ .args .history .now) (s₀ .args .cells .now) (s₀ .args .report .now) (l .history) (l .cells) (l .report) (l .i) (l .pairs) (l .still-open) (l .inv)
+    let few = taken-words (s₀ .args .nodes .now) (s₀ .args .figures) (s₀ .args .tick) (s₀ .args .live) (s₀ .args .flags .now) (s₀ .args .history .now) (s₀ .args .cells .now) (s₀ .args .report .now) (l .history) (l .cells) (l .report) (l .taken) (l .pairs) (l .still-open) (l .inv)
     (omega (arith, c .before .before .before .before .before .before .before .before .before .before .before .before .if1 .left, l .inv .report-length, l .inv .inside)) (omega (arith, count, c .before .before .before .before .before .before .before .before .before .before .before .before .before .loop-test .taken)) (omega (arith, count, c .before .before .before .before .before .before .before .before .before .before .before .before .before .loop-test .taken))
     (take (length (l .report) - 2 * l .pairs) (drop (2 * l .pairs) (l .report))) refl (s₀ .pre) (m .result .reported) (m .result .live) (m .last .1 .1 .1 .0) (m .last .1 .1 .1 .1 .1 .0) (m .last .1 .1 .1 .1 .1 .1 .0) (m .ensures) in
     omega (arith, l .inv .inside, l .inv .report-length)
 
-add-i : tie.Need-add-i Inv-loop μ-loop
-add-i c =
+add-taken : tie.Need-add-taken Inv-loop μ-loop
+add-taken c =
     let s₀ = c .before .before .before .before .before .before .before .before .before .before .before .before .before .before .before .before .before .before .before .before in
     let l = c .before .before .before .before .before .before .before .before .before .before .before .before .before .before .loop in
     let count = c .before .before .before .before .before .before .before .before .before .before .before .before .before .before .before .flags-left .ensures in
@@ -152,7 +152,7 @@ loop-again c =
     let l = c .before .before .before .before .before .before .before .before .before .before .before .before .before .before .loop in
     let count = c .before .before .before .before .before .before .before .before .before .before .before .before .before .before .before .flags-left .ensures in
     let m = c .before .before .before .before .before .before .before .move-pairs in
-    under-more (s₀ .args .nodes .now) (s₀ .args .figures) (s₀ .args .tick) (s₀ .args .live) (s₀ .args .flags .now) (s₀ .args .history .now) (s₀ .args .cells .now) (s₀ .args .report .now) (l .history) (l .cells) (l .report) (l .i) (l .pairs) (l .still-open) (l .inv)
+    under-more (s₀ .args .nodes .now) (s₀ .args .figures) (s₀ .args .tick) (s₀ .args .live) (s₀ .args .flags .now) (s₀ .args .history .now) (s₀ .args .cells .now) (s₀ .args .report .now) (l .history) (l .cells) (l .report) (l .taken) (l .pairs) (l .still-open) (l .inv)
     (omega (arith, c .before .before .before .before .before .before .before .before .before .before .before .before .if1 .left, l .inv .report-length, l .inv .inside)) (omega (arith, count, c .before .before .before .before .before .before .before .before .before .before .before .before .before .loop-test .taken)) (omega (arith, count, c .before .before .before .before .before .before .before .before .before .before .before .before .before .loop-test .taken))
     (take (length (l .report) - 2 * l .pairs) (drop (2 * l .pairs) (l .report))) refl (s₀ .pre) (m .result .reported) (m .result .live) (m .last .1 .1 .1 .0) (m .last .1 .1 .1 .1 .1 .0) (m .last .1 .1 .1 .1 .1 .1 .0) (m .ensures) (m .kept .1 .1 .1 .0) (m .kept .1 .1 .1 .1 .1 .0)
 
@@ -170,7 +170,7 @@ returns-2 c =
     let s₀ = c .before .before .before .before .before .before .before in
     let l = c .before .loop in
     let count = c .before .before .flags-left .ensures in
-    under-all (s₀ .args .nodes .now) (s₀ .args .figures) (s₀ .args .tick) (s₀ .args .live) (s₀ .args .flags .now) (s₀ .args .history .now) (s₀ .args .cells .now) (s₀ .args .report .now) (l .history) (l .cells) (l .report) (l .i) (l .pairs) (l .still-open) (l .inv) (c .before .before .flags-left .result) count (omega (arith, c .loop-test .left))
+    under-all (s₀ .args .nodes .now) (s₀ .args .figures) (s₀ .args .tick) (s₀ .args .live) (s₀ .args .flags .now) (s₀ .args .history .now) (s₀ .args .cells .now) (s₀ .args .report .now) (l .history) (l .cells) (l .report) (l .taken) (l .pairs) (l .still-open) (l .inv) (c .before .before .flags-left .result) count (omega (arith, c .loop-test .left))
 
 pub move-flags-spec : {M : Type 1} → statement M
 move-flags-spec =
@@ -196,7 +196,7 @@ move-flags-spec =
     part-move-pairs-end
     move-pairs-requires
     add-pairs
-    add-i
+    add-taken
     loop-less
     loop-again
     same-length-4

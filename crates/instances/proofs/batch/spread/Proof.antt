@@ -1,4 +1,4 @@
--- `instances::batch::spread` meets its contract: the ticks from i on are pairs, those before are as they were.
+-- `instances::batch::spread` meets its contract: the ticks from `at` on are pairs, those before are as they were.
 -- Assumes nothing.
 use Prim.Native.Nat.{ℕ, suc, _*_, _-_, _≤_}
 use mathlib.Core.Path.{_≡_, refl}
@@ -11,17 +11,17 @@ use Rattle.instances.proofs.batch.spread.Statement.{statement}
 use Rattle.instances.proofs.batch.spread.Tie as tie
 
 abbrev Inv-loop : tie.InvT-loop
-Inv-loop report₀ n step i₀ report i =
-    (i ≤ n) × ((length report ≡ length report₀) × ((take (2 * i) report ≡ take (2 * i) report₀) × (drop (2 * i) report ≡ paired step (drop i (take n report₀)) ++ drop (2 * n) report₀)))
+Inv-loop report₀ count step at₀ report at =
+    (at ≤ count) × ((length report ≡ length report₀) × ((take (2 * at) report ≡ take (2 * at) report₀) × (drop (2 * at) report ≡ paired step (drop at (take count report₀)) ++ drop (2 * count) report₀)))
 
 abbrev μ-loop : tie.MeasureT-loop
-μ-loop report₀ n step i₀ report i = i
+μ-loop report₀ count step at₀ report at = at
 
 loop-holds : tie.Need-loop-holds Inv-loop μ-loop
-loop-holds c = (omega arith, (refl, (refl, spread-none (c .args .report .now) (c .args .n) (c .args .step))))
+loop-holds c = (omega arith, (refl, (refl, spread-none (c .args .report .now) (c .args .count) (c .args .step))))
 
-sub-i : tie.Need-sub-i Inv-loop μ-loop
-sub-i c = omega arith
+sub-at : tie.Need-sub-at Inv-loop μ-loop
+sub-at c = omega arith
 
 mul-tick : tie.Need-mul-tick Inv-loop μ-loop
 mul-tick c = omega arith
@@ -58,16 +58,16 @@ loop-again c =
     let l = c .before .before .loop in
     let a = c .before .before .before .args in
     let r₀ : List ℕ = a .report .now in
-    let j : ℕ = l .i - 1 in
-    let e : l .i ≡ suc j = omega arith in
+    let j : ℕ = l .at - 1 in
+    let e : l .at ≡ suc j = omega arith in
     let front : take (2 * suc j) (l .report) ≡ take (2 * suc j) r₀ = rw e at (l .inv .1 .1 .0) in
-    let rest : drop (2 * suc j) (l .report) ≡ paired (a .step) (drop (suc j) (take (a .n) r₀)) ++ drop (2 * a .n) r₀ = rw e at (l .inv .1 .1 .1) in (
+    let rest : drop (2 * suc j) (l .report) ≡ paired (a .step) (drop (suc j) (take (a .count) r₀)) ++ drop (2 * a .count) r₀ = rw e at (l .inv .1 .1 .1) in (
       omega arith,
       (
         simp length-set (l .inv .1 .0),
         (
-          spread-front r₀ (l .report) (a .n) (a .step) j (omega arith) (omega arith) (l .inv .1 .0) front rest,
-          spread-rest r₀ (l .report) (a .n) (a .step) j (omega arith) (omega arith) (l .inv .1 .0) front rest,
+          spread-front r₀ (l .report) (a .count) (a .step) j (omega arith) (omega arith) (l .inv .1 .0) front rest,
+          spread-rest r₀ (l .report) (a .count) (a .step) j (omega arith) (omega arith) (l .inv .1 .0) front rest,
         ),
       ),
     )
@@ -78,7 +78,7 @@ same-length c = c .before .loop .inv .1 .0
 returns : tie.Need-returns Inv-loop μ-loop
 returns c =
     let l = c .before .loop in
-    let e : l .i ≡ 0 = omega arith in
+    let e : l .at ≡ 0 = omega arith in
     rw e at (l .inv .1 .1 .1)
 
 pub spread-spec : {M : Type 1} → statement M
@@ -88,7 +88,7 @@ spread-spec =
     Inv-loop
     μ-loop
     loop-holds
-    sub-i
+    sub-at
     mul-tick
     slice-read-tick
     mul-report

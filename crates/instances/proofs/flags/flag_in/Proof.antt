@@ -10,8 +10,8 @@ use Rattle.instances.proofs.flags.flag_in.Tie as tie
 node-word-requires : tie.Need-node-word-requires
 node-word-requires c κs = search needs
 
-cast-v : tie.Need-cast-v
-cast-v c = search needs
+cast-variable : tie.Need-cast-variable
+cast-variable c = search needs
 
 node-word-requires-2 : tie.Need-node-word-requires-2
 node-word-requires-2 c κs = search needs
@@ -26,16 +26,16 @@ returns : tie.Need-returns
 returns c =
     let s₀ = c .before .before .before .before .before in
     let bytes = s₀ .args .byte .now in
-    let v = c .before .before .before .node-word in
+    let variable = c .before .before .before .node-word in
     let k = c .before .before .node-word2 in
-    c .flag-outcome .ensures ∙ ap (λ (n : ℕ). flagged bytes n (k .result) (s₀ .args .s)) (v .ensures) ∙ ap (λ (n : ℕ). flagged bytes (getD (s₀ .args .nodes .now) (s₀ .args .i + 1) 0) n (s₀ .args .s)) (k .ensures)
+    c .flag-outcome .ensures ∙ ap (λ (n : ℕ). flagged bytes n (k .result) (s₀ .args .s)) (variable .ensures) ∙ ap (λ (n : ℕ). flagged bytes (getD (s₀ .args .nodes .now) (s₀ .args .node + 1) 0) n (s₀ .args .s)) (k .ensures)
 
 pub flag-in-spec : {M : Type 1} → statement M
 flag-in-spec =
     tie.close
     (tie.spec
     node-word-requires
-    cast-v
+    cast-variable
     node-word-requires-2
     element-copy-out-flag-outcome
     flag-outcome-requires

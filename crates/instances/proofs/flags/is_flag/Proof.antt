@@ -10,7 +10,7 @@ use Rattle.instances.proofs.flags.is_flag.Tie as tie
 returns : tie.Need-returns
 returns c =
     let s₀ = c .before .before in
-    (λ _. is-none (s₀ .args .nodes .now) (s₀ .args .i) (s₀ .args .left) (c .if1 .taken), λ e. absurd (true≢false e))
+    (λ _. is-none (s₀ .args .nodes .now) (s₀ .args .node) (s₀ .args .left) (c .if1 .taken), λ e. absurd (true≢false e))
 
 node-word-requires : tie.Need-node-word-requires
 node-word-requires c κs = search needs
@@ -19,7 +19,7 @@ returns-2 : tie.Need-returns-2
 returns-2 c =
     let s₀ = c .before .before .before .before in
     let code = c .before .node-word in (
-      λ _. is-flag (s₀ .args .nodes .now) (s₀ .args .i) (s₀ .args .left) (c .before .before .if1 .left)
+      λ _. is-flag (s₀ .args .nodes .now) (s₀ .args .node) (s₀ .args .left) (c .before .before .if1 .left)
           (λ x. omega (arith, x, code .ensures, c .if2 .taken)) (λ x. omega (arith, x, code .ensures, c .if2 .taken)) (λ x. omega (arith, x, code .ensures, c .if2 .taken)) (λ x. omega (arith, x, code .ensures, c .if2 .taken)),
       λ e. absurd (true≢false e),
     )
@@ -28,7 +28,7 @@ returns-3 : tie.Need-returns-3
 returns-3 c =
     let s₀ = c .before .before .before .before .before in
     let code = c .before .before .node-word in (
-      λ _. is-flag (s₀ .args .nodes .now) (s₀ .args .i) (s₀ .args .left) (c .before .before .before .if1 .left)
+      λ _. is-flag (s₀ .args .nodes .now) (s₀ .args .node) (s₀ .args .left) (c .before .before .before .if1 .left)
           (λ x. omega (arith, x, code .ensures, c .if3 .taken)) (λ x. omega (arith, x, code .ensures, c .if3 .taken)) (λ x. omega (arith, x, code .ensures, c .if3 .taken)) (λ x. omega (arith, x, code .ensures, c .if3 .taken)),
       λ e. absurd (true≢false e),
     )

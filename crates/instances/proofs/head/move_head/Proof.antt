@@ -21,7 +21,7 @@ part-leading-true-end c = search needs
 leading-true-requires : tie.Need-leading-true-requires
 leading-true-requires c κs =
     let s₀ = c .before .before .before in
-    head-rest (s₀ .args .z) (s₀ .args .n) (s₀ .args .leading) (s₀ .args .run .now) (s₀ .pre)
+    head-rest (s₀ .args .size) (s₀ .args .positions) (s₀ .args .leading) (s₀ .args .run .now) (s₀ .pre)
 
 elapsed-requires : tie.Need-elapsed-requires
 elapsed-requires c κs = search needs
@@ -46,7 +46,7 @@ returns c =
     let s₀ = c .before .before .before .before .before .before in
     let run = s₀ .args .run .now in
     let head = c .before .before .leading-true in
-    head-moved (s₀ .args .p) (s₀ .args .z) (s₀ .args .n) run (take (length run - 4) (drop 4 run)) (s₀ .args .leading) (s₀ .args .latest) (head .result .leading) (head .result .latest) (c .before .elapsed .result)
+    head-moved (s₀ .args .p) (s₀ .args .size) (s₀ .args .positions) run (take (length run - 4) (drop 4 run)) (s₀ .args .leading) (s₀ .args .latest) (head .result .leading) (head .result .latest) (c .before .elapsed .result)
     (omega (arith, s₀ .pre .room)) (tail-take run) (c .before .elapsed .ensures) (head .ensures)
 
 pub move-head-spec : {M : Type 1} → statement M

@@ -9,14 +9,14 @@ use borrow.Author.Needs.{needs}
 use Rattle.instances.proofs.instances.move_tick.Statement.{statement}
 use Rattle.instances.proofs.instances.move_tick.Tie as tie
 
-add-n : tie.Need-add-n
-add-n c = search needs
+add-count : tie.Need-add-count
+add-count c = search needs
 
-div-c : tie.Need-div-c
-div-c c = search needs
+div-size : tie.Need-div-size
+div-size c = search needs
 
-mul-c : tie.Need-mul-c
-mul-c c =
+mul-size : tie.Need-mul-size
+mul-size c =
     let s₀ = c .before .before .before .before .before in
     let f = s₀ .args .figures in
     omega (arith, div-le-self (f .cells) (f .delay + 1), table-short (s₀ .args .nodes .now) f (length (s₀ .args .history .now)) (s₀ .args .t) (s₀ .pre .state) (s₀ .pre .table-of) .1)
@@ -55,9 +55,9 @@ pub move-tick-spec : {M : Type 1} → statement M
 move-tick-spec =
     tie.close
     (tie.spec
-    add-n
-    div-c
-    mul-c
+    add-count
+    div-size
+    mul-size
     oldest-tick-requires
     move-ticks-requires
     remember-requires

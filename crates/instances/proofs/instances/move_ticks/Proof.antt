@@ -18,37 +18,37 @@ use Rattle.instances.proofs.instances.move_ticks.Statement.{statement}
 use Rattle.instances.proofs.instances.move_ticks.Tie as tie
 
 abbrev Inv-loop : tie.InvT-loop
-Inv-loop nodes left table₀ hist b report₀ t low n c p₀ reported₀ live₀ j₀ table report p reported live j =
-    MovedUntil (tree-at left nodes 0) n c hist b t low table₀ report₀ p reported live table report × (j ≡ p % n)
+Inv-loop nodes left table₀ hist b report₀ t low count size p₀ reported₀ live₀ slot₀ table report p reported live slot =
+    MovedUntil (tree-at left nodes 0) count size hist b t low table₀ report₀ p reported live table report × (slot ≡ p % count)
 
 abbrev μ-loop : tie.MeasureT-loop
-μ-loop nodes left table₀ hist b report₀ t low n c p₀ reported₀ live₀ j₀ table report p reported live j = t + 1 - p
+μ-loop nodes left table₀ hist b report₀ t low count size p₀ reported₀ live₀ slot₀ table report p reported live slot = t + 1 - p
 
-rem-j : tie.Need-rem-j Inv-loop μ-loop
-rem-j c = search needs
+rem-slot : tie.Need-rem-slot Inv-loop μ-loop
+rem-slot c = search needs
 
 loop-holds : tie.Need-loop-holds Inv-loop μ-loop
 loop-holds c =
     let s₀ = c .before .before .before in
-    (until-none (tree-at (s₀ .args .left) (s₀ .args .nodes .now) 0) (s₀ .args .n) (s₀ .args .c) (s₀ .args .history .now) (s₀ .args .flag) (s₀ .args .t) (s₀ .args .low) (s₀ .args .table .now) (s₀ .args .report .now) (s₀ .pre .1), refl)
+    (until-none (tree-at (s₀ .args .left) (s₀ .args .nodes .now) 0) (s₀ .args .count) (s₀ .args .size) (s₀ .args .history .now) (s₀ .args .flag) (s₀ .args .t) (s₀ .args .low) (s₀ .args .table .now) (s₀ .args .report .now) (s₀ .pre .1), refl)
 
 mul-at : tie.Need-mul-at Inv-loop μ-loop
 mul-at c =
     let s₀ = c .before .before .before .before .before in
-    let inside = slot-inside (s₀ .args .n) (s₀ .args .c) (c .before .loop .p) (length (s₀ .args .table .now)) (s₀ .pre .0 .some) (s₀ .pre .0 .table) in
-    omega (arith, inside .1, ap (λ (x : ℕ). x * s₀ .args .c) (c .before .loop .inv .1), s₀ .good .1 .1 .0)
+    let inside = slot-inside (s₀ .args .count) (s₀ .args .size) (c .before .loop .p) (length (s₀ .args .table .now)) (s₀ .pre .0 .some) (s₀ .pre .0 .table) in
+    omega (arith, inside .1, ap (λ (x : ℕ). x * s₀ .args .size) (c .before .loop .inv .1), s₀ .good .1 .1 .0)
 
 add-end : tie.Need-add-end Inv-loop μ-loop
 add-end c =
     let s₀ = c .before .before .before .before .before in
-    let inside = slot-inside (s₀ .args .n) (s₀ .args .c) (c .before .loop .p) (length (s₀ .args .table .now)) (s₀ .pre .0 .some) (s₀ .pre .0 .table) in
-    omega (arith, inside .1, ap (λ (x : ℕ). x * s₀ .args .c) (c .before .loop .inv .1), s₀ .good .1 .1 .0)
+    let inside = slot-inside (s₀ .args .count) (s₀ .args .size) (c .before .loop .p) (length (s₀ .args .table .now)) (s₀ .pre .0 .some) (s₀ .pre .0 .table) in
+    omega (arith, inside .1, ap (λ (x : ℕ). x * s₀ .args .size) (c .before .loop .inv .1), s₀ .good .1 .1 .0)
 
 mul-move-instance : tie.Need-mul-move-instance Inv-loop μ-loop
 mul-move-instance c =
     let s₀ = c .before .before .before .before .before in
-    let inside = slot-inside (s₀ .args .n) (s₀ .args .c) (c .before .loop .p) (length (s₀ .args .table .now)) (s₀ .pre .0 .some) (s₀ .pre .0 .table) in
-    omega (arith, inside .1, ap (λ (x : ℕ). x * s₀ .args .c) (c .before .loop .inv .1), s₀ .good .1 .1 .0)
+    let inside = slot-inside (s₀ .args .count) (s₀ .args .size) (c .before .loop .p) (length (s₀ .args .table .now)) (s₀ .pre .0 .some) (s₀ .pre .0 .table) in
+    omega (arith, inside .1, ap (λ (x : ℕ). x * s₀ .args .size) (c .before .loop .inv .1), s₀ .good .1 .1 .0)
 
 sub-move-instance : tie.Need-sub-move-instance Inv-loop μ-loop
 sub-move-instance c = search needs
@@ -59,16 +59,16 @@ part-move-instance-start c = search needs
 part-move-instance-end : tie.Need-part-move-instance-end Inv-loop μ-loop
 part-move-instance-end c =
     let s₀ = c .before .before .before .before .before in
-    let inside = slot-inside (s₀ .args .n) (s₀ .args .c) (c .before .loop .p) (length (s₀ .args .table .now)) (s₀ .pre .0 .some) (s₀ .pre .0 .table) in
-    omega (arith, inside .1, ap (λ (x : ℕ). x * s₀ .args .c) (c .before .loop .inv .1), c .before .loop .inv .0 .table-length)
+    let inside = slot-inside (s₀ .args .count) (s₀ .args .size) (c .before .loop .p) (length (s₀ .args .table .now)) (s₀ .pre .0 .some) (s₀ .pre .0 .table) in
+    omega (arith, inside .1, ap (λ (x : ℕ). x * s₀ .args .size) (c .before .loop .inv .1), c .before .loop .inv .0 .table-length)
 
 move-instance-requires : tie.Need-move-instance-requires Inv-loop μ-loop
 move-instance-requires c κs =
     let s₀ = c .before .before .before .before .before .before in
     let now = c .before .before .loop in
     let fits = s₀ .pre .0 in
-    let z = s₀ .args .c in
-    let long = subst (λ (x : ℕ). length (take (x * z + z - x * z) (drop (x * z) (now .table))) ≡ z) (sym (now .inv .1)) (slot-length z (s₀ .args .n) (now .p % s₀ .args .n) (now .table) (mod-lt (now .p) (fits .some)) (omega (arith, now .inv .0 .table-length, fits .table))) in
+    let size = s₀ .args .size in
+    let long = subst (λ (x : ℕ). length (take (x * size + size - x * size) (drop (x * size) (now .table))) ≡ size) (sym (now .inv .1)) (slot-length size (s₀ .args .count) (now .p % s₀ .args .count) (now .table) (mod-lt (now .p) (fits .some)) (omega (arith, now .inv .0 .table-length, fits .table))) in
     record {
       formed = fits .formed;
       room = subst (λ (k : ℕ). 4 + words (at-tick ∷ []) (tree-at (s₀ .args .left) (s₀ .args .nodes .now) 0) ≤ k) (sym long) (fits .room);
@@ -105,7 +105,7 @@ next-slot-requires : tie.Need-next-slot-requires Inv-loop μ-loop
 next-slot-requires c κs =
     let s₀ = c .before .before .before .before .before .before .before .before .before .before .before .before .before .before in
     let now = c .before .before .before .before .before .before .before .before .before .before .loop in
-    omega (arith, now .inv .1, slot-inside (s₀ .args .n) (s₀ .args .c) (now .p) (length (s₀ .args .table .now)) (s₀ .pre .0 .some) (s₀ .pre .0 .table) .0)
+    omega (arith, now .inv .1, slot-inside (s₀ .args .count) (s₀ .args .size) (now .p) (length (s₀ .args .table .now)) (s₀ .pre .0 .some) (s₀ .pre .0 .table) .0)
 
 loop-less : tie.Need-loop-less Inv-loop μ-loop
 loop-less c = omega (arith, c .before .before .before .before .before .before .before .before .before .before .loop-test .taken)
@@ -114,8 +114,8 @@ loop-again : tie.Need-loop-again Inv-loop μ-loop
 loop-again c =
     let s₀ = c .before .before .before .before .before .before .before .before .before .before .before .before .before .before .before in
     let F = tree-at (s₀ .args .left) (s₀ .args .nodes .now) 0 in
-    let n = s₀ .args .n in
-    let z = s₀ .args .c in
+    let count = s₀ .args .count in
+    let size = s₀ .args .size in
     let hist = s₀ .args .history .now in
     let b = s₀ .args .flag in
     let t = s₀ .args .t in
@@ -128,12 +128,12 @@ loop-again c =
     let wrote = c .before .before .before .before .report-if-false in
     let one = c .before .one-if-open in
     let here = now .inv .1 in (
-      subst (λ (x : ℕ). MovedUntil F n z hist b t low table₀ report₀ (now .p + 1) (wrote .result) (now .live + one .result) (putMid (x * z) (x * z + z - x * z) (now .table) ys) (wrote .last .0)) (sym here)
-          (until-more F n z hist b t low table₀ report₀ (s₀ .pre .1) (s₀ .pre .0 .some) (s₀ .pre .0 .table) (s₀ .pre .0 .report)
+      subst (λ (x : ℕ). MovedUntil F count size hist b t low table₀ report₀ (now .p + 1) (wrote .result) (now .live + one .result) (putMid (x * size) (x * size + size - x * size) (now .table) ys) (wrote .last .0)) (sym here)
+          (until-more F count size hist b t low table₀ report₀ (s₀ .pre .1) (s₀ .pre .0 .some) (s₀ .pre .0 .table) (s₀ .pre .0 .report)
           (now .p) (now .reported) (now .live) (now .table) (now .report) (moved .result) ys (wrote .result) (one .result) (wrote .last .0) (c .before .before .before .before .before .before .before .before .before .before .loop-test .taken)
-          (subst (λ (x : ℕ). length ys ≡ length (take (x * z + z - x * z) (drop (x * z) (now .table)))) here (moved .kept .1 .1 .0)) (wrote .kept .0)
-          (subst (λ (x : ℕ). InstanceMoved F hist b t (now .p) (take (x * z + z - x * z) (drop (x * z) (now .table))) (moved .result) ys) here (moved .ensures)) (wrote .ensures .0) (wrote .ensures .1) (one .ensures) (now .inv .0)),
-      c .next-slot .ensures ∙ ap (λ (x : ℕ). cond (eqb (x + 1) n) 0 (x + 1)) here ∙ sym (slot-next n (now .p) (s₀ .pre .0 .some)),
+          (subst (λ (x : ℕ). length ys ≡ length (take (x * size + size - x * size) (drop (x * size) (now .table)))) here (moved .kept .1 .1 .0)) (wrote .kept .0)
+          (subst (λ (x : ℕ). InstanceMoved F hist b t (now .p) (take (x * size + size - x * size) (drop (x * size) (now .table))) (moved .result) ys) here (moved .ensures)) (wrote .ensures .0) (wrote .ensures .1) (one .ensures) (now .inv .0)),
+      c .next-slot .ensures ∙ ap (λ (x : ℕ). cond (eqb (x + 1) count) 0 (x + 1)) here ∙ sym (slot-next count (now .p) (s₀ .pre .0 .some)),
     )
 
 same-length : tie.Need-same-length Inv-loop μ-loop
@@ -146,7 +146,7 @@ returns : tie.Need-returns Inv-loop μ-loop
 returns c =
     let s₀ = c .before .before .before .before .before in
     let now = c .before .loop in
-    until-all (tree-at (s₀ .args .left) (s₀ .args .nodes .now) 0) (s₀ .args .n) (s₀ .args .c) (s₀ .args .history .now) (s₀ .args .flag) (s₀ .args .t) (s₀ .args .low) (s₀ .args .table .now) (s₀ .args .report .now)
+    until-all (tree-at (s₀ .args .left) (s₀ .args .nodes .now) 0) (s₀ .args .count) (s₀ .args .size) (s₀ .args .history .now) (s₀ .args .flag) (s₀ .args .t) (s₀ .args .low) (s₀ .args .table .now) (s₀ .args .report .now)
     (s₀ .pre .1) (s₀ .pre .0 .some) (s₀ .pre .0 .table) (s₀ .pre .0 .report)
     (now .p) (now .reported) (now .live) (now .table) (now .report) (omega (arith, c .loop-test .left)) (now .inv .0)
 
@@ -156,7 +156,7 @@ move-ticks-spec =
     (tie.spec
     Inv-loop
     μ-loop
-    rem-j
+    rem-slot
     loop-holds
     mul-at
     add-end

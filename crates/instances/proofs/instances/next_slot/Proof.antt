@@ -12,10 +12,10 @@ add-result : tie.Need-add-result
 add-result c = search needs
 
 returns : tie.Need-returns
-returns c = simp (eq-eqb (c .before .args .j + 1) (c .before .args .n) (c .if1 .taken))
+returns c = simp (eq-eqb (c .before .args .slot + 1) (c .before .args .count) (c .if1 .taken))
 
 returns-2 : tie.Need-returns-2
-returns-2 c = simp (ne-eqb (c .before .args .j + 1) (c .before .args .n) (c .if1 .left))
+returns-2 c = simp (ne-eqb (c .before .args .slot + 1) (c .before .args .count) (c .if1 .left))
 
 pub next-slot-spec : {M : Type 1} → statement M
 next-slot-spec = tie.close (tie.spec add-if1 add-result returns returns-2)

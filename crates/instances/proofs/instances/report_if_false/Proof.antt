@@ -7,8 +7,8 @@ use Rattle.instances.proofs.instances.report_if_false.Tie as tie
 enum-told : tie.Need-enum-told
 enum-told c = search needs
 
-enum-known-o : tie.Need-enum-known-o
-enum-known-o c = search needs
+enum-known-outcome : tie.Need-enum-known-outcome
+enum-known-outcome c = search needs
 
 enum-told-2 : tie.Need-enum-told-2
 enum-told-2 c = search needs
@@ -28,12 +28,12 @@ add-result c = search needs
 returns : tie.Need-returns
 returns c =
     let s₀ = c .before .before in
-    report-none (s₀ .args .report .now) (s₀ .args .at) _ (tick-open (s₀ .args .o) (s₀ .args .t) (s₀ .args .p) (c .enum-told .given .1))
+    report-none (s₀ .args .report .now) (s₀ .args .at) _ (tick-open (s₀ .args .outcome) (s₀ .args .t) (s₀ .args .p) (c .enum-told .given .1))
 
 returns-2 : tie.Need-returns-2
 returns-2 c =
     let s₀ = c .before .before .before .before .before in
-    report-none (s₀ .args .report .now) (s₀ .args .at) _ (tick-true (s₀ .args .o) _ _ (s₀ .args .t) (s₀ .args .p) (c .before .before .before .o .given .1) (c .enum-told2 .given .1))
+    report-none (s₀ .args .report .now) (s₀ .args .at) _ (tick-true (s₀ .args .outcome) _ _ (s₀ .args .t) (s₀ .args .p) (c .before .before .before .outcome .given .1) (c .enum-told2 .given .1))
 
 same-length : tie.Need-same-length
 same-length c = search needs
@@ -42,20 +42,20 @@ returns-3 : tie.Need-returns-3
 returns-3 c =
     let s₀ = c .before .before .before .before .before .before in
     report-one (s₀ .args .report .now) (s₀ .args .at) (s₀ .args .p) _
-    (tick-now (s₀ .args .o) _ _ (s₀ .args .t) (s₀ .args .p) (c .before .before .before .before .o .given .1) (c .before .enum-told3 .given .1) (c .if1 .taken)) (s₀ .pre)
+    (tick-now (s₀ .args .outcome) _ _ (s₀ .args .t) (s₀ .args .p) (c .before .before .before .before .outcome .given .1) (c .before .enum-told3 .given .1) (c .if1 .taken)) (s₀ .pre)
 
 returns-4 : tie.Need-returns-4
 returns-4 c =
     let s₀ = c .before .before .before .before .before .before in
     report-none (s₀ .args .report .now) (s₀ .args .at) _
-    (tick-past (s₀ .args .o) _ _ (s₀ .args .t) (s₀ .args .p) (c .before .before .before .before .o .given .1) (c .before .enum-told3 .given .1) (c .if1 .left))
+    (tick-past (s₀ .args .outcome) _ _ (s₀ .args .t) (s₀ .args .p) (c .before .before .before .before .outcome .given .1) (c .before .enum-told3 .given .1) (c .if1 .left))
 
 pub report-if-false-spec : {M : Type 1} → statement M
 report-if-false-spec =
     tie.close
     (tie.spec
     enum-told
-    enum-known-o
+    enum-known-outcome
     enum-told-2
     enum-told-3
     mul-report

@@ -15,8 +15,8 @@ mul-cell c = search needs
 slice-write-cell : tie.Need-slice-write-cell
 slice-write-cell c = search needs
 
-enum-known-o : tie.Need-enum-known-o
-enum-known-o c = search needs
+enum-known-outcome : tie.Need-enum-known-outcome
+enum-known-outcome c = search needs
 
 elapsed-requires : tie.Need-elapsed-requires
 elapsed-requires c κs = search needs
@@ -60,14 +60,14 @@ same-length-2 c = search needs
 
 returns-2 : tie.Need-returns-2
 unfolding mark
-returns-2 c = simp (c .before .before .before .before .o .given .1, c .enum-told2 .given .1, c .before .before .elapsed .ensures)
+returns-2 c = simp (c .before .before .before .before .outcome .given .1, c .enum-told2 .given .1, c .before .before .elapsed .ensures)
 
 same-length-3 : tie.Need-same-length-3
 same-length-3 c = search needs
 
 returns-3 : tie.Need-returns-3
 unfolding mark
-returns-3 c = simp (c .before .before .before .before .o .given .1, c .enum-told3 .given .1, c .before .before .elapsed .ensures)
+returns-3 c = simp (c .before .before .before .before .outcome .given .1, c .enum-told3 .given .1, c .before .before .elapsed .ensures)
 
 pub store-outcome-spec : {M : Type 1} → statement M
 store-outcome-spec =
@@ -76,7 +76,7 @@ store-outcome-spec =
     enum-told
     mul-cell
     slice-write-cell
-    enum-known-o
+    enum-known-outcome
     elapsed-requires
     add-cell
     mul-cell-2

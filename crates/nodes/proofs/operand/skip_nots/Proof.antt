@@ -14,10 +14,10 @@ use Rattle.nodes.proofs.operand.skip_nots.Lts as lts
 use Rattle.nodes.proofs.node_word.Reads as node-word-reads
 
 abbrev Inv-loop : tie.InvT-loop
-Inv-loop nodes left i n₀ at₀ odd₀ n at odd = past-nots left nodes i false ≡ past-nots n nodes at odd
+Inv-loop nodes left i remaining₀ at₀ odd₀ remaining at odd = past-nots left nodes i false ≡ past-nots remaining nodes at odd
 
 abbrev μ-loop : tie.MeasureT-loop
-μ-loop nodes left i n₀ at₀ odd₀ n at odd = n
+μ-loop nodes left i remaining₀ at₀ odd₀ remaining at odd = remaining
 
 loop-holds : tie.Need-loop-holds Inv-loop μ-loop
 loop-holds c = refl
@@ -29,11 +29,11 @@ returns : tie.Need-returns Inv-loop μ-loop
 returns c =
     let nodes = c .before .before .before .before .before .args .nodes .now in
     let at-loop = c .before .before .before .loop in
-    let more : at-loop .rest ≡ suc (at-loop .rest - 1) = omega (arith, c .before .before .loop-test .taken) in
-    sym (at-loop .inv ∙ rw more (at-other nodes (at-loop .rest - 1) (at-loop .at) (at-loop .odd) (λ h. c .if1 .taken (c .before .node-word .ensures ∙ h))))
+    let more : at-loop .remaining ≡ suc (at-loop .remaining - 1) = omega (arith, c .before .before .loop-test .taken) in
+    sym (at-loop .inv ∙ rw more (at-other nodes (at-loop .remaining - 1) (at-loop .at) (at-loop .odd) (λ h. c .if1 .taken (c .before .node-word .ensures ∙ h))))
 
-sub-rest : tie.Need-sub-rest Inv-loop μ-loop
-sub-rest c = search needs
+sub-remaining : tie.Need-sub-remaining Inv-loop μ-loop
+sub-remaining c = search needs
 
 add-at : tie.Need-add-at Inv-loop μ-loop
 add-at c =
@@ -48,17 +48,17 @@ loop-again : tie.Need-loop-again Inv-loop μ-loop
 loop-again c =
     let nodes = c .before .before .before .before .before .args .nodes .now in
     let at-loop = c .before .before .before .loop in
-    let more : at-loop .rest ≡ suc (at-loop .rest - 1) = omega (arith, c .before .before .loop-test .taken) in
+    let more : at-loop .remaining ≡ suc (at-loop .remaining - 1) = omega (arith, c .before .before .loop-test .taken) in
     at-loop .inv ∙ ap (λ (n : ℕ). past-nots n nodes (at-loop .at) (at-loop .odd)) more
-    ∙ at-not nodes (at-loop .rest - 1) (at-loop .at) (at-loop .odd) (sym (c .before .node-word .ensures) ∙ c .if1 .left)
+    ∙ at-not nodes (at-loop .remaining - 1) (at-loop .at) (at-loop .odd) (sym (c .before .node-word .ensures) ∙ c .if1 .left)
 
 returns-2 : tie.Need-returns-2 Inv-loop μ-loop
 returns-2 c =
     let at-loop = c .before .loop in
-    let none : at-loop .rest ≡ 0 = omega (arith, c .loop-test .left) in
+    let none : at-loop .remaining ≡ 0 = omega (arith, c .loop-test .left) in
     sym (at-loop .inv ∙ rw none (at-end (c .before .before .before .args .nodes .now) (at-loop .at) (at-loop .odd)))
 
 pub skip-nots-spec : {M : Type 1} → statement M
 skip-nots-spec =
     tie.close
-    (tie.spec Inv-loop μ-loop loop-holds node-word-requires returns sub-rest add-at loop-less loop-again returns-2)
+    (tie.spec Inv-loop μ-loop loop-holds node-word-requires returns sub-remaining add-at loop-less loop-again returns-2)

@@ -15,7 +15,7 @@ returns : tie.Need-returns
 unfolding head-word
 returns c =
     let s₀ = c .before .before .before in
-    simp (lt-ltb (s₀ .args .k) 3 (c .before .if1 .taken)) (c .byte-after .ensures .0)
+    simp (lt-ltb (s₀ .args .index) 3 (c .before .if1 .taken)) (c .byte-after .ensures .0)
 
 add-word-at : tie.Need-add-word-at
 add-word-at c = search needs
@@ -56,7 +56,7 @@ returns-4 : tie.Need-returns-4
 unfolding head-word
 returns-4 c =
     let s₀ = c .before .before .before .before .before in
-    simp (le-ltb (s₀ .args .k) 3 (c .before .before .before .if1 .left), ne-eqb (s₀ .args .k) 3 (c .before .before .if2 .left), ne-eqb (s₀ .args .k) 6 (c .before .if3 .left)) (c .byte-after2 .ensures .0)
+    simp (le-ltb (s₀ .args .index) 3 (c .before .before .before .if1 .left), ne-eqb (s₀ .args .index) 3 (c .before .before .if2 .left), ne-eqb (s₀ .args .index) 6 (c .before .if3 .left)) (c .byte-after2 .ensures .0)
 
 pub head-word-spec : {M : Type 1} → statement M
 head-word-spec =

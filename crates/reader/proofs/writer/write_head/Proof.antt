@@ -15,7 +15,7 @@ abbrev μ-loop : tie.MeasureT-loop
 μ-loop s at nodes₀ i k₀ nodes k = 7 - k
 
 loop-holds : tie.Need-loop-holds Inv-loop μ-loop
-loop-holds c = (omega arith, (refl, none-written (c .before .before .args .s .now) (c .before .before .args .at) (c .before .before .args .i) (c .before .before .args .nodes .now)))
+loop-holds c = (omega arith, (refl, none-written (c .before .before .args .body .now) (c .before .before .args .at) (c .before .before .args .node) (c .before .before .args .nodes .now)))
 
 head-word-requires : tie.Need-head-word-requires Inv-loop μ-loop
 head-word-requires c κs = search needs
@@ -29,8 +29,8 @@ mul-nodes c = search needs
 slice-write-nodes : tie.Need-slice-write-nodes Inv-loop μ-loop
 slice-write-nodes c = search needs
 
-add-k : tie.Need-add-k Inv-loop μ-loop
-add-k c = search needs
+add-index : tie.Need-add-index Inv-loop μ-loop
+add-index c = search needs
 
 loop-less : tie.Need-loop-less Inv-loop μ-loop
 loop-less c = search needs
@@ -39,7 +39,7 @@ loop-again : tie.Need-loop-again Inv-loop μ-loop
 loop-again c =
     let s₀ = c .before .before .before .before .before in
     let l = c .before .before .loop in
-    (omega arith, (length-set (l .nodes) (s₀ .args .i + l .k) (c .head-word .result) ∙ l .inv .1 .0, one-more (s₀ .args .s .now) (s₀ .args .at) (s₀ .args .i) (s₀ .args .nodes .now) (l .nodes) (l .k) (c .head-word .result) (omega arith) (c .head-word .ensures) (l .inv .1 .1)))
+    (omega arith, (length-set (l .nodes) (s₀ .args .node + l .index) (c .head-word .result) ∙ l .inv .1 .0, one-more (s₀ .args .body .now) (s₀ .args .at) (s₀ .args .node) (s₀ .args .nodes .now) (l .nodes) (l .index) (c .head-word .result) (omega arith) (c .head-word .ensures) (l .inv .1 .1)))
 
 same-length : tie.Need-same-length Inv-loop μ-loop
 same-length c = search needs
@@ -58,7 +58,7 @@ write-head-spec =
     add-nodes
     mul-nodes
     slice-write-nodes
-    add-k
+    add-index
     loop-less
     loop-again
     same-length

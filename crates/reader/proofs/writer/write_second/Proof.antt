@@ -27,7 +27,7 @@ same-length c = search needs
 returns : tie.Need-returns
 returns c =
     let a = c .before .before .args in
-    ap (λ (v : ℕ). set (a .nodes .now) (a .i + 7) v) (c .node-place .ensures)
+    ap (λ (v : ℕ). set (a .nodes .now) (a .node + 7) v) (c .node-place .ensures)
 
 pub write-second-spec : {M : Type 1} → statement M
 write-second-spec =

@@ -7,10 +7,10 @@ use Rattle.recording.proofs.alike.alike.Statement.{statement}
 use Rattle.recording.proofs.alike.alike.Tie as tie
 
 returns : tie.Need-returns
-returns c = simp (le-ltb 1 (c .before .before .args .n) (c .if1 .taken))
+returns c = simp (le-ltb 1 (c .before .before .args .positions) (c .if1 .taken))
 
-add-v : tie.Need-add-v
-add-v c = search needs
+add-variable : tie.Need-add-variable
+add-variable c = search needs
 
 add-names : tie.Need-add-names
 add-names c = search needs
@@ -22,7 +22,7 @@ names-requires : tie.Need-names-requires
 names-requires c κs = search needs
 
 returns-2 : tie.Need-returns-2
-returns-2 c = simp (lt-ltb 1 (c .before .before .before .args .n) (c .before .if1 .left)) (ap not (c .names .ensures))
+returns-2 c = simp (lt-ltb 1 (c .before .before .before .args .positions) (c .before .if1 .left)) (ap not (c .names .ensures))
 
 pub alike-spec : {M : Type 1} → statement M
-alike-spec = tie.close (tie.spec returns add-v add-names cast-names names-requires returns-2)
+alike-spec = tie.close (tie.spec returns add-variable add-names cast-names names-requires returns-2)

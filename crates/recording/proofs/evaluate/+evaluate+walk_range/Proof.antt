@@ -86,16 +86,16 @@ module _ (t : ℕ) (n : Coded t) where
   some : start .args .left ≡ 0 → ⊥
   some = n .before .if1 .left
 
-  code : (k : ℕ) → n .node-word .result ≡ k → getD ns (start .args .i + 0) 0 ≡ k
+  code : (k : ℕ) → n .node-word .result ≡ k → getD ns (start .args .node + 0) 0 ≡ k
   code k e = sym (n .node-word .ensures) ∙ e
 
-  no-code : (k : ℕ) → (n .node-word .result ≡ k → ⊥) → getD ns (start .args .i + 0) 0 ≡ k → ⊥
+  no-code : (k : ℕ) → (n .node-word .result ≡ k → ⊥) → getD ns (start .args .node + 0) 0 ≡ k → ⊥
   no-code k h e = h (n .node-word .ensures ∙ e)
 
   falls-by : 2 * (start .args .left - 1) + 1 < t
   falls-by = omega (arith, some, start .pre .0)
 
-  first-ready : (2 * (start .args .left - 1) < t) × Evaluable (start .args .left - 1) (start .args .i + 12) (start .args .t) (start .args .env)
+  first-ready : (2 * (start .args .left - 1) < t) × Evaluable (start .args .left - 1) (start .args .node + 12) (start .args .t) (start .args .env)
   first-ready = (omega (arith, falls-by), ready-part (start .pre .1) some (omega (arith, some, start .pre .1 .near)))
 
   second-ready : (j : ℕ) → j < 4294967296 → (2 * (start .args .left - 1) < t) × Evaluable (start .args .left - 1) j (start .args .t) (start .args .env)
@@ -107,7 +107,7 @@ evaluate-flag-at-requires t c κs = search needs
 evaluate-returns : (t : ℕ) → evaluate-lts.Need-returns (evaluate-claims t) (evaluate-at t) evaluate.Post
 evaluate-returns t c =
     let s = c .before .before .before .before in
-    by-flag (s .args .recording .now) (s .args .t) (bound-positions (s .args .env)) (s .args .s) (none-in (s .args .left) (s .args .nodes .now) (s .args .env .nested) (s .args .i) (c .before .if1 .taken)) (place-at (s .pre .1) 0) (c .flag-at .ensures)
+    by-flag (s .args .recording .now) (s .args .t) (bound-positions (s .args .env)) (s .args .s) (none-in (s .args .left) (s .args .nodes .now) (s .args .env .nested) (s .args .node) (c .before .if1 .taken)) (place-at (s .pre .1) 0) (c .flag-at .ensures)
 
 evaluate-node-word-requires : (t : ℕ) → evaluate-lts.Need-node-word-requires (evaluate-claims t) (evaluate-at t) evaluate.Post
 evaluate-node-word-requires t c κs = search needs
@@ -120,7 +120,7 @@ evaluate-evaluate-requires t c κs =
     let n = c .before .before in
     let s = start t n in
     let u = c .skip-nots .result in
-    (omega (arith, s .pre .0, nots-less (ns t n) (s .args .left) (s .args .i) false u (c .skip-nots .ensures) (some t n) (code t n 2 (c .before .if2 .taken))), ready-nots (ns t n) (s .args .left) (s .args .i) u (c .skip-nots .ensures) (s .pre .1))
+    (omega (arith, s .pre .0, nots-less (ns t n) (s .args .left) (s .args .node) false u (c .skip-nots .ensures) (some t n) (code t n 2 (c .before .if2 .taken))), ready-nots (ns t n) (s .args .left) (s .args .node) u (c .skip-nots .ensures) (s .pre .1))
 
 evaluate-opposite-if-requires : (t : ℕ) → evaluate-lts.Need-opposite-if-requires (evaluate-claims t) (evaluate-at t) evaluate.Post
 evaluate-opposite-if-requires t c κs = search needs
@@ -129,7 +129,7 @@ evaluate-returns-2 : (t : ℕ) → evaluate-lts.Need-returns-2 (evaluate-claims 
 evaluate-returns-2 t c =
     let s = c .before .before .before .before .before .before .before .before in
     let u = c .before .before .skip-nots in
-    by-nots (s .args .nodes .now) (s .args .left) (s .args .i) (u .result) (u .ensures) (s .args .env .nested) (recorded (s .args .recording .now)) (s .args .t) (bound-positions (s .args .env)) (s .args .s) (c .before .evaluate .result) (c .opposite-if .result) (c .before .evaluate .ensures) (c .opposite-if .ensures)
+    by-nots (s .args .nodes .now) (s .args .left) (s .args .node) (u .result) (u .ensures) (s .args .env .nested) (recorded (s .args .recording .now)) (s .args .t) (bound-positions (s .args .env)) (s .args .s) (c .before .evaluate .result) (c .opposite-if .result) (c .before .evaluate .ensures) (c .opposite-if .ensures)
 
 evaluate-sub-evaluate : (t : ℕ) → evaluate-lts.Need-sub-evaluate (evaluate-claims t) (evaluate-at t) evaluate.Post
 evaluate-sub-evaluate t c = omega (arith, some t (c .before .before))
@@ -170,21 +170,21 @@ evaluate-returns-3 : (t : ℕ) → evaluate-lts.Need-returns-3 (evaluate-claims 
 evaluate-returns-3 t c =
     let n = c .before .before .before .before .before .before .before .before .before .before in
     let s = c .before .before .before .before .before .before .before .before .before .before .before .before .before .before in
-    then-true (s .args .recording .now) (s .args .t) (bound-positions (s .args .env)) (s .args .s) (then-in (s .args .left) (s .args .nodes .now) (s .args .env .nested) (s .args .i) (some t n) (code t n 3 (c .before .before .before .before .before .before .before .before .if3 .taken)) (c .before .before .before .before .before .before .node-word2 .ensures))
+    then-true (s .args .recording .now) (s .args .t) (bound-positions (s .args .env)) (s .args .s) (then-in (s .args .left) (s .args .nodes .now) (s .args .env .nested) (s .args .node) (some t n) (code t n 3 (c .before .before .before .before .before .before .before .before .if3 .taken)) (c .before .before .before .before .before .before .node-word2 .ensures))
     (c .before .before .before .before .before .before .before .evaluate2 .ensures) (c .before .before .before .before .first .given .1) (c .before .enum-told .given .1) (c .evaluate3 .ensures)
 
 evaluate-returns-4 : (t : ℕ) → evaluate-lts.Need-returns-4 (evaluate-claims t) (evaluate-at t) evaluate.Post
 evaluate-returns-4 t c =
     let n = c .before .before .before .before .before .before .before .before .before in
     let s = c .before .before .before .before .before .before .before .before .before .before .before .before .before in
-    then-false (s .args .recording .now) (s .args .t) (bound-positions (s .args .env)) (s .args .s) (then-in (s .args .left) (s .args .nodes .now) (s .args .env .nested) (s .args .i) (some t n) (code t n 3 (c .before .before .before .before .before .before .before .if3 .taken)) (c .before .before .before .before .before .node-word2 .ensures))
+    then-false (s .args .recording .now) (s .args .t) (bound-positions (s .args .env)) (s .args .s) (then-in (s .args .left) (s .args .nodes .now) (s .args .env .nested) (s .args .node) (some t n) (code t n 3 (c .before .before .before .before .before .before .before .if3 .taken)) (c .before .before .before .before .before .node-word2 .ensures))
     (c .before .before .before .before .before .before .evaluate2 .ensures) (c .before .before .before .first .given .1) (c .enum-told2 .given .1)
 
 evaluate-returns-5 : (t : ℕ) → evaluate-lts.Need-returns-5 (evaluate-claims t) (evaluate-at t) evaluate.Post
 evaluate-returns-5 t c =
     let n = c .before .before .before .before .before .before in
     let s = c .before .before .before .before .before .before .before .before .before .before in
-    then-open (s .args .recording .now) (s .args .t) (bound-positions (s .args .env)) (s .args .s) (then-in (s .args .left) (s .args .nodes .now) (s .args .env .nested) (s .args .i) (some t n) (code t n 3 (c .before .before .before .before .if3 .taken)) (c .before .before .node-word2 .ensures))
+    then-open (s .args .recording .now) (s .args .t) (bound-positions (s .args .env)) (s .args .s) (then-in (s .args .left) (s .args .nodes .now) (s .args .env .nested) (s .args .node) (some t n) (code t n 3 (c .before .before .before .before .if3 .taken)) (c .before .before .node-word2 .ensures))
     (c .before .before .before .evaluate2 .ensures) (c .enum-told3 .given .1)
 
 evaluate-sub-evaluate-3 : (t : ℕ) → evaluate-lts.Need-sub-evaluate-3 (evaluate-claims t) (evaluate-at t) evaluate.Post
@@ -203,7 +203,7 @@ evaluate-returns-6 : (t : ℕ) → evaluate-lts.Need-returns-6 (evaluate-claims 
 evaluate-returns-6 t c =
     let n = c .before .before .before .before .before .before in
     let s = c .before .before .before .before .before .before .before .before .before .before in
-    beside-settled (s .args .recording .now) (s .args .t) (bound-positions (s .args .env)) (s .args .s) (beside-in (s .args .left) (s .args .nodes .now) (s .args .env .nested) (s .args .i) (some t n) (code t n 4 (c .before .before .before .if4 .taken)) refl)
+    beside-settled (s .args .recording .now) (s .args .t) (bound-positions (s .args .env)) (s .args .s) (beside-in (s .args .left) (s .args .nodes .now) (s .args .env .nested) (s .args .node) (some t n) (code t n 4 (c .before .before .before .if4 .taken)) refl)
     (c .before .before .evaluate4 .ensures) (c .before .settled .ensures) (c .if5 .taken)
 
 evaluate-node-word-requires-3 : (t : ℕ) → evaluate-lts.Need-node-word-requires-3 (evaluate-claims t) (evaluate-at t) evaluate.Post
@@ -227,7 +227,7 @@ evaluate-returns-7 : (t : ℕ) → evaluate-lts.Need-returns-7 (evaluate-claims 
 evaluate-returns-7 t c =
     let n = c .before .before .before .before .before .before .before .before .before in
     let s = c .before .before .before .before .before .before .before .before .before .before .before .before .before in
-    by-beside (s .args .recording .now) (s .args .t) (bound-positions (s .args .env)) (s .args .s) (beside-in (s .args .left) (s .args .nodes .now) (s .args .env .nested) (s .args .i) (some t n) (code t n 4 (c .before .before .before .before .before .before .if4 .taken)) (c .before .before .node-word3 .ensures))
+    by-beside (s .args .recording .now) (s .args .t) (bound-positions (s .args .env)) (s .args .s) (beside-in (s .args .left) (s .args .nodes .now) (s .args .env .nested) (s .args .node) (some t n) (code t n 4 (c .before .before .before .before .before .before .if4 .taken)) (c .before .before .node-word3 .ensures))
     (c .before .before .before .before .before .evaluate4 .ensures) (c .before .evaluate5 .ensures) (c .both .ensures)
 
 evaluate-sub-walk-range : (t : ℕ) → evaluate-lts.Need-sub-walk-range (evaluate-claims t) (evaluate-at t) evaluate.Post
@@ -240,7 +240,7 @@ evaluate-returns-8 : (t : ℕ) → evaluate-lts.Need-returns-8 (evaluate-claims 
 evaluate-returns-8 t c =
     let n = c .before .before .before .before .before in
     let s = c .before .before .before .before .before .before .before .before .before in
-    by-same (s .args .recording .now) (s .args .t) (bound-positions (s .args .env)) (s .args .s) (range-in (s .args .left) (s .args .nodes .now) (s .args .env .nested) (s .args .i) (some t n) (code t n 5 (c .before .if6 .taken))) (c .walk-range .ensures)
+    by-same (s .args .recording .now) (s .args .t) (bound-positions (s .args .env)) (s .args .s) (range-in (s .args .left) (s .args .nodes .now) (s .args .env .nested) (s .args .node) (some t n) (code t n 5 (c .before .if6 .taken))) (c .walk-range .ensures)
 
 evaluate-node-word-requires-4 : (t : ℕ) → evaluate-lts.Need-node-word-requires-4 (evaluate-claims t) (evaluate-at t) evaluate.Post
 evaluate-node-word-requires-4 t c κs = search needs
@@ -256,7 +256,7 @@ evaluate-returns-9 t c =
     let n = c .before .before .before .before .before .before .before in
     let s = c .before .before .before .before .before .before .before .before .before .before .before in
     by-flag (s .args .recording .now) (s .args .t) (bound-positions (s .args .env)) (s .args .s)
-    (flag-in (s .args .left) (s .args .nodes .now) (s .args .env .nested) (s .args .i) (some t n) (no-code t n 2 (c .before .before .before .before .before .before .if2 .left)) (no-code t n 3 (c .before .before .before .before .before .if3 .left)) (no-code t n 4 (c .before .before .before .before .if4 .left)) (no-code t n 5 (c .before .before .before .if6 .left)) (c .before .before .node-word4 .ensures) (c .before .node-word5 .ensures))
+    (flag-in (s .args .left) (s .args .nodes .now) (s .args .env .nested) (s .args .node) (some t n) (no-code t n 2 (c .before .before .before .before .before .before .if2 .left)) (no-code t n 3 (c .before .before .before .before .before .if3 .left)) (no-code t n 4 (c .before .before .before .before .if4 .left)) (no-code t n 5 (c .before .before .before .if6 .left)) (c .before .before .node-word4 .ensures) (c .before .node-word5 .ensures))
     (place-at (s .pre .1) (c .before .before .node-word4 .result)) (c .flag-at2 .ensures)
 
 abbrev walk-range-Inv-loop : walk-range-lts.InvT-loop
@@ -273,7 +273,7 @@ walk-range-flag-at-requires t c κs = search needs
 walk-range-returns : (t : ℕ) → walk-range-lts.Need-returns (walk-range-claims t) (walk-range-at t) walk-range.Post walk-range-Inv-loop walk-range-μ-loop
 walk-range-returns t c =
     let s = c .before .before .before .before .before in
-    by-flag (s .args .recording .now) (s .args .t) (bound-positions (s .args .env)) (s .args .s) (no-forall (s .args .left) (s .args .nodes .now) (s .args .i) (s .args .recording .now) (s .args .t) (s .args .env) (s .args .s) (c .before .if1 .taken)) (place-at (s .pre .1) 0) (c .flag-at .ensures)
+    by-flag (s .args .recording .now) (s .args .t) (bound-positions (s .args .env)) (s .args .s) (no-forall (s .args .left) (s .args .nodes .now) (s .args .node) (s .args .recording .now) (s .args .t) (s .args .env) (s .args .s) (c .before .if1 .taken)) (place-at (s .pre .1) 0) (c .flag-at .ensures)
 
 walk-range-range-at-requires : (t : ℕ) → walk-range-lts.Need-range-at-requires (walk-range-claims t) (walk-range-at t) walk-range.Post walk-range-Inv-loop walk-range-μ-loop
 walk-range-range-at-requires t c κs = search needs
@@ -289,8 +289,8 @@ walk-range-alike-requires t c κs =
 walk-range-loop-holds : (t : ℕ) → walk-range-lts.Need-loop-holds (walk-range-claims t) (walk-range-at t) walk-range.Post walk-range-Inv-loop walk-range-μ-loop
 walk-range-loop-holds t c =
     let s = c .before .before .before .before .before .before .before .before .before in
-    let p = plan-here (s .args .left) (s .args .nodes .now) (s .args .i) (s .args .recording .now) (s .args .t) (s .args .env) (s .args .s) (s .pre .1) (c .before .before .range-at .ensures) (c .before .plan-up-to .ensures) in
-    (p .few, by-forall (s .args .left) (s .args .nodes .now) (s .args .i) (s .args .recording .now) (s .args .t) (s .args .env) (s .args .s) (omega (arith, c .before .before .before .before .before .if1 .left)) p)
+    let p = plan-here (s .args .left) (s .args .nodes .now) (s .args .node) (s .args .recording .now) (s .args .t) (s .args .env) (s .args .s) (s .pre .1) (c .before .before .range-at .ensures) (c .before .plan-up-to .ensures) in
+    (p .few, by-forall (s .args .left) (s .args .nodes .now) (s .args .node) (s .args .recording .now) (s .args .t) (s .args .env) (s .args .s) (omega (arith, c .before .before .before .before .before .if1 .left)) p)
 
 -- ---- a turn of the walk
 
@@ -303,7 +303,7 @@ module _ (t : ℕ) (l : Turn t) where
 
   -- the outcome of the body at each position
   abbrev bodies : ℕ → Outcome
-  bodies = body-at (formula-in (begun .args .left) (begun .args .nodes .now) (begun .args .env .nested + 1) (begun .args .i + 12)) (begun .args .recording .now) (begun .args .t) (bound-positions (begun .args .env)) (begun .args .s)
+  bodies = body-at (formula-in (begun .args .left) (begun .args .nodes .now) (begun .args .env .nested + 1) (begun .args .node + 12)) (begun .args .recording .now) (begun .args .t) (bound-positions (begun .args .env)) (begun .args .s)
 
   shallow : begun .args .env .nested < 4
   shallow = omega (arith, l .before .before .before .before .before .before .before .if1 .left)
@@ -322,7 +322,7 @@ module _ (t : ℕ) (h : Evaluated t) where
   here : h .evaluate .result ≡ bodies t turn (turn .before .loop .q)
   here =
       let s = begun t turn in
-      body-here (s .args .left) (s .args .nodes .now) (s .args .i) (s .args .recording .now) (s .args .t) (s .args .env) (s .args .s) (turn .before .loop .q) (s .pre .1 .five) (shallow t turn) (not-above t turn) (h .before .enter .ensures) (h .before .before .before .before .later .ensures) (h .evaluate .ensures)
+      body-here (s .args .left) (s .args .nodes .now) (s .args .node) (s .args .recording .now) (s .args .t) (s .args .env) (s .args .s) (turn .before .loop .q) (s .pre .1 .five) (shallow t turn) (not-above t turn) (h .before .enter .ensures) (h .before .before .before .before .later .ensures) (h .evaluate .ensures)
 
 walk-range-later-requires : (t : ℕ) → walk-range-lts.Need-later-requires (walk-range-claims t) (walk-range-at t) walk-range.Post walk-range-Inv-loop walk-range-μ-loop
 walk-range-later-requires t c κs = search needs
@@ -334,7 +334,7 @@ walk-range-returns-2 : (t : ℕ) → walk-range-lts.Need-returns-2 (walk-range-c
 walk-range-returns-2 t c =
     let l = c .before .before .before .before .loop in
     let s = c .before .before .before .before .before .before .before .before .before .before .before .before .before .before in
-    sym (l .inv .1 ∙ body-settled (formula-in (s .args .left) (s .args .nodes .now) (s .args .env .nested + 1) (s .args .i + 12)) (s .args .recording .now) (s .args .t) (bound-positions (s .args .env)) (s .args .s) (l .n) (l .q) (l .acc) (c .before .before .later .ensures) (c .before .settled .ensures) (c .if2 .taken))
+    sym (l .inv .1 ∙ body-settled (formula-in (s .args .left) (s .args .nodes .now) (s .args .env .nested + 1) (s .args .node + 12)) (s .args .recording .now) (s .args .t) (bound-positions (s .args .env)) (s .args .s) (l .count) (l .q) (l .acc) (c .before .before .later .ensures) (c .before .settled .ensures) (c .if2 .taken))
 
 walk-range-add-evaluate : (t : ℕ) → walk-range-lts.Need-add-evaluate (walk-range-claims t) (walk-range-at t) walk-range.Post walk-range-Inv-loop walk-range-μ-loop
 walk-range-add-evaluate t c = omega (arith, c .before .before .before .before .before .before .before .before .before .before .before .before .before .before .pre .1 .near)
@@ -371,7 +371,7 @@ walk-range-returns-3 t c =
     let l = turn t h in
     let s = begun t l in
     sym (l .before .loop .inv .1
-    ∙ body-alike (s .args .left) (s .args .nodes .now) (s .args .i) (s .args .recording .now) (s .args .t) (s .args .env) (s .args .s) (l .before .loop .n) (l .before .loop .q) (c .before .before .before .before .before .before .before .before .before .before .before .before .plan-up-to .result .n) (l .before .loop .acc) (s .pre .1 .five) (shallow t l) (l .loop-test .taken) (l .before .loop .inv .0)
+    ∙ body-alike (s .args .left) (s .args .nodes .now) (s .args .node) (s .args .recording .now) (s .args .t) (s .args .env) (s .args .s) (l .before .loop .count) (l .before .loop .q) (c .before .before .before .before .before .before .before .before .before .before .before .before .plan-up-to .result .count) (l .before .loop .acc) (s .pre .1 .five) (shallow t l) (l .loop-test .taken) (l .before .loop .inv .0)
     (c .before .before .before .before .before .before .before .before .before .before .before .alike .ensures) (c .before .before .if3 .taken) (here t h) (c .before .before .before .both .ensures) (c .before .raise .ensures) (c .both2 .ensures))
 
 walk-range-add-q : (t : ℕ) → walk-range-lts.Need-add-q (walk-range-claims t) (walk-range-at t) walk-range.Post walk-range-Inv-loop walk-range-μ-loop
@@ -379,8 +379,8 @@ walk-range-add-q t c =
     let l = c .before .before .before .before .before .before .before in
     omega (arith, not-above t l, begun t l .pre .1 .early)
 
-walk-range-sub-n : (t : ℕ) → walk-range-lts.Need-sub-n (walk-range-claims t) (walk-range-at t) walk-range.Post walk-range-Inv-loop walk-range-μ-loop
-walk-range-sub-n t c = search needs
+walk-range-sub-count : (t : ℕ) → walk-range-lts.Need-sub-count (walk-range-claims t) (walk-range-at t) walk-range.Post walk-range-Inv-loop walk-range-μ-loop
+walk-range-sub-count t c = search needs
 
 walk-range-loop-less : (t : ℕ) → walk-range-lts.Need-loop-less (walk-range-claims t) (walk-range-at t) walk-range.Post walk-range-Inv-loop walk-range-μ-loop
 walk-range-loop-less t c = omega (arith, c .before .before .before .before .before .before .before .loop-test .taken)
@@ -389,13 +389,13 @@ walk-range-loop-again : (t : ℕ) → walk-range-lts.Need-loop-again (walk-range
 walk-range-loop-again t c =
     let h = c .before .before in
     let l = turn t h in
-    (omega (arith, l .before .loop .inv .0, l .loop-test .taken), l .before .loop .inv .1 ∙ walk-step (bodies t l) (l .before .loop .n) (l .before .loop .q) (l .before .loop .acc) (l .loop-test .taken) (here t h) (c .before .both .ensures))
+    (omega (arith, l .before .loop .inv .0, l .loop-test .taken), l .before .loop .inv .1 ∙ walk-step (bodies t l) (l .before .loop .count) (l .before .loop .q) (l .before .loop .acc) (l .loop-test .taken) (here t h) (c .before .both .ensures))
 
 walk-range-returns-4 : (t : ℕ) → walk-range-lts.Need-returns-4 (walk-range-claims t) (walk-range-at t) walk-range.Post walk-range-Inv-loop walk-range-μ-loop
 walk-range-returns-4 t c =
     let l = c .before .loop in
     let s = c .before .before .before .before .before .before .before .before .before .before .before in
-    sym (l .inv .1 ∙ walk-none (body-at (formula-in (s .args .left) (s .args .nodes .now) (s .args .env .nested + 1) (s .args .i + 12)) (s .args .recording .now) (s .args .t) (bound-positions (s .args .env)) (s .args .s)) (l .n) (l .q) (l .acc) (omega (arith, c .loop-test .left)))
+    sym (l .inv .1 ∙ walk-none (body-at (formula-in (s .args .left) (s .args .nodes .now) (s .args .env .nested + 1) (s .args .node + 12)) (s .args .recording .now) (s .args .t) (bound-positions (s .args .env)) (s .args .s)) (l .count) (l .q) (l .acc) (omega (arith, c .loop-test .left)))
 
 pub +evaluate+walk-range-spec : {M : Type 1} → statement M
 +evaluate+walk-range-spec = close μ-evaluate μ-walk-range (λ t. evaluate-lts.spec (evaluate-claims t)
@@ -464,7 +464,7 @@ pub +evaluate+walk-range-spec : {M : Type 1} → statement M
     (walk-range-both-requires-2 t)
     (walk-range-returns-3 t)
     (walk-range-add-q t)
-    (walk-range-sub-n t)
+    (walk-range-sub-count t)
     (walk-range-loop-less t)
     (walk-range-loop-again t)
     (walk-range-returns-4 t)

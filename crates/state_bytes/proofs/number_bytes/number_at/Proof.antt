@@ -74,7 +74,7 @@ add-result c = search needs
 
 returns : tie.Need-returns
 returns c =
-    let b = number-bytes (c .before .before .before .before .before .before .before .before .before .args .s .now) (c .before .before .before .before .before .before .before .before .before .args .at) in
+    let b = number-bytes (c .before .before .before .before .before .before .before .before .before .args .bytes .now) (c .before .before .before .before .before .before .before .before .before .args .at) in
     omega arith
 
 pub number-at-spec : {M : Type 1} → statement M

@@ -31,8 +31,8 @@ add-out c = omega arith
 slice-write-out : tie.Need-slice-write-out Inv-loop μ-loop
 slice-write-out c = omega arith
 
-add-i : tie.Need-add-i Inv-loop μ-loop
-add-i c = omega arith
+add-index : tie.Need-add-index Inv-loop μ-loop
+add-index c = omega arith
 
 loop-less : tie.Need-loop-less Inv-loop μ-loop
 loop-less c = omega arith
@@ -41,13 +41,13 @@ loop-again : tie.Need-loop-again Inv-loop μ-loop
 loop-again c =
     let l = c .before .loop in
     let a = c .before .before .args in
-    let inside : a .at + l .i < length (l .out) = omega arith in (
+    let inside : a .at + l .index < length (l .out) = omega arith in (
       omega arith,
       (
-        length-set (l .out) (a .at + l .i) (l .left % 256) ∙ l .inv .1 .0,
+        length-set (l .out) (a .at + l .index) (l .left % 256) ∙ l .inv .1 .0,
         (
-          low-on (now (a .out)) (l .out) (a .at) (a .x) (l .i) (l .left) (omega arith) inside (l .inv .1 .1 .0),
-          rest-on (now (a .out)) (l .out) (a .at) (a .x) (l .i) (l .left) (omega arith) inside (l .inv .1 .1 .1),
+          low-on (now (a .out)) (l .out) (a .at) (a .number) (l .index) (l .left) (omega arith) inside (l .inv .1 .1 .0),
+          rest-on (now (a .out)) (l .out) (a .at) (a .number) (l .index) (l .left) (omega arith) inside (l .inv .1 .1 .1),
         ),
       ),
     )
@@ -59,8 +59,8 @@ returns : tie.Need-returns Inv-loop μ-loop
 returns c =
     let l = c .before .loop in
     let a = c .before .before .args in
-    let e : l .i ≡ 8 = omega arith in
-    low-whole (now (a .out)) (l .out) (a .at) (a .x) (l .left) (rw e at (l .inv .1 .1 .0)) (rw e at (l .inv .1 .1 .1))
+    let e : l .index ≡ 8 = omega arith in
+    low-whole (now (a .out)) (l .out) (a .at) (a .number) (l .left) (rw e at (l .inv .1 .1 .0)) (rw e at (l .inv .1 .1 .1))
 
 pub put-number-spec : {M : Type 1} → statement M
 put-number-spec =
@@ -72,7 +72,7 @@ put-number-spec =
     cast-out
     add-out
     slice-write-out
-    add-i
+    add-index
     loop-less
     loop-again
     same-length

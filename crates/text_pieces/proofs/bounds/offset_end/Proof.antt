@@ -22,7 +22,7 @@ numeral-end-requires c κs = tt
 returns : tie.Need-returns
 returns c =
     let a = c .before .before .before .before .before .args in
-    offset-plus (now (a .s)) (a .at) (c .numeral-end .result) (sym (c .before .before .starts-at .ensures) ∙ c .before .if1 .taken) (c .numeral-end .ensures)
+    offset-plus (now (a .text)) (a .at) (c .numeral-end .result) (sym (c .before .before .starts-at .ensures) ∙ c .before .if1 .taken) (c .numeral-end .ensures)
 
 slice-aggregate-starts-at-2 : tie.Need-slice-aggregate-starts-at-2
 slice-aggregate-starts-at-2 c = search needs
@@ -39,13 +39,13 @@ numeral-end-requires-2 c κs = tt
 returns-2 : tie.Need-returns-2
 returns-2 c =
     let a = c .before .before .before .before .before .before .before .before .args in
-    offset-minus (now (a .s)) (a .at) (c .numeral-end2 .result) (sym (c .before .before .before .before .before .starts-at .ensures) ∙ c .before .before .before .before .if1 .left)
+    offset-minus (now (a .text)) (a .at) (c .numeral-end2 .result) (sym (c .before .before .before .before .before .starts-at .ensures) ∙ c .before .before .before .before .if1 .left)
     (sym (c .before .before .starts-at2 .ensures) ∙ c .before .if2 .taken) (c .numeral-end2 .ensures)
 
 returns-3 : tie.Need-returns-3
 returns-3 c =
     let a = c .before .before .before .before .before .before .before .args in
-    offset-none (now (a .s)) (a .at) (c .before .before .before .before .before .before .before .pre .0) (c .before .before .before .before .before .before .before .pre .1) (sym (c .before .before .before .before .starts-at .ensures) ∙ c .before .before .before .if1 .left) (sym (c .before .starts-at2 .ensures) ∙ c .if2 .left)
+    offset-none (now (a .text)) (a .at) (c .before .before .before .before .before .before .before .pre .0) (c .before .before .before .before .before .before .before .pre .1) (sym (c .before .before .before .before .starts-at .ensures) ∙ c .before .before .before .if1 .left) (sym (c .before .starts-at2 .ensures) ∙ c .if2 .left)
 
 pub offset-end-spec : {M : Type 1} → statement M
 offset-end-spec =

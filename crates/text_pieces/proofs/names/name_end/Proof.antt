@@ -21,12 +21,12 @@ is-name-requires c κs = omega (arith, c .run-end .ensures)
 returns : tie.Need-returns
 returns c =
     let a = c .before .before .before .before .args in
-    name-none (now (a .s)) (a .at) (sym (c .before .is-name .ensures) ∙ not-true (c .before .is-name .result) (c .if1 .taken))
+    name-none (now (a .text)) (a .at) (sym (c .before .is-name .ensures) ∙ not-true (c .before .is-name .result) (c .if1 .taken))
 
 returns-2 : tie.Need-returns-2
 returns-2 c =
     let a = c .before .before .before .before .args in
-    name-there (now (a .s)) (a .at) (c .before .before .run-end .result) (c .before .before .run-end .ensures) (sym (c .before .is-name .ensures) ∙ not-false (c .before .is-name .result) (c .if1 .left))
+    name-there (now (a .text)) (a .at) (c .before .before .run-end .result) (c .before .before .run-end .ensures) (sym (c .before .is-name .ensures) ∙ not-false (c .before .is-name .result) (c .if1 .left))
 
 pub name-end-spec : {M : Type 1} → statement M
 name-end-spec =

@@ -13,18 +13,18 @@ sub-if1 : tie.Need-sub-if1
 sub-if1 c = search needs
 
 returns : tie.Need-returns
-returns c = let a = c .before .before .before .args in numeral-short (now (a .s)) (a .at) (c .before .run-end .result) (c .before .run-end .ensures) (c .if1 .taken)
+returns c = let a = c .before .before .before .args in numeral-short (now (a .text)) (a .at) (c .before .run-end .result) (c .before .run-end .ensures) (c .if1 .taken)
 
 sub-if2 : tie.Need-sub-if2
 sub-if2 c = search needs
 
 returns-2 : tie.Need-returns-2
-returns-2 c = let a = c .before .before .before .before .args in numeral-long (now (a .s)) (a .at) (c .before .before .run-end .result) (c .before .before .run-end .ensures) (c .if2 .taken)
+returns-2 c = let a = c .before .before .before .before .args in numeral-long (now (a .text)) (a .at) (c .before .before .run-end .result) (c .before .before .run-end .ensures) (c .if2 .taken)
 
 returns-3 : tie.Need-returns-3
 returns-3 c =
     let a = c .before .before .before .before .args in
-    numeral-there (now (a .s)) (a .at) (c .before .before .run-end .result) (c .before .before .run-end .ensures) (c .before .if1 .left) (c .if2 .left)
+    numeral-there (now (a .text)) (a .at) (c .before .before .run-end .result) (c .before .before .run-end .ensures) (c .before .if1 .left) (c .if2 .left)
 
 pub numeral-end-spec : {M : Type 1} → statement M
 numeral-end-spec =

@@ -15,7 +15,7 @@ name-end-requires : tie.Need-name-end-requires
 name-end-requires c κs = tt
 
 returns : tie.Need-returns
-returns c = let a = c .before .before .before .args in flag-1 (now (a .s)) (a .at) (c .before .name-end .result) (c .before .name-end .ensures) (c .if1 .taken)
+returns c = let a = c .before .before .before .args in flag-1 (now (a .text)) (a .at) (c .before .name-end .result) (c .before .name-end .ensures) (c .if1 .taken)
 
 slice-aggregate-starts-at : tie.Need-slice-aggregate-starts-at
 slice-aggregate-starts-at c = search needs
@@ -26,12 +26,12 @@ starts-at-requires c κs = tt
 returns-2 : tie.Need-returns-2
 returns-2 c =
     let a = c .before .before .before .before .before .before .args in
-    flag-2 (now (a .s)) (a .at) (c .before .before .before .before .name-end .result) (c .before .before .before .before .name-end .ensures) (c .before .before .before .if1 .left)
+    flag-2 (now (a .text)) (a .at) (c .before .before .before .before .name-end .result) (c .before .before .before .before .name-end .ensures) (c .before .before .before .if1 .left)
     (sym (c .before .starts-at .ensures) ∙ not-true (c .before .starts-at .result) (c .if2 .taken))
 
 add-digit-end : tie.Need-add-digit-end
 add-digit-end c =
-    let s = now (c .before .before .before .before .before .before .args .s) in
+    let s = now (c .before .before .before .before .before .before .args .text) in
     let e = sym (c .before .starts-at .ensures) ∙ not-false (c .before .starts-at .result) (c .if2 .left) in
     let w = word-fits s (46 ∷ []) (c .before .before .before .before .name-end .result) (omega arith) e in omega (arith, w)
 
@@ -41,7 +41,7 @@ digit-end-requires c κs = tt
 returns-3 : tie.Need-returns-3
 returns-3 c =
     let a = c .before .before .before .before .before .before .before .args in
-    flag-3 (now (a .s)) (a .at) (c .before .before .before .before .before .name-end .result) (c .before .before .before .before .before .name-end .ensures) (c .before .before .before .before .if1 .left) (c .digit-end .result)
+    flag-3 (now (a .text)) (a .at) (c .before .before .before .before .before .name-end .result) (c .before .before .before .before .before .name-end .ensures) (c .before .before .before .before .if1 .left) (c .digit-end .result)
     (sym (c .before .before .starts-at .ensures) ∙ not-false (c .before .before .starts-at .result) (c .before .if2 .left)) (c .digit-end .ensures)
 
 pub flag-end-spec : {M : Type 1} → statement M

@@ -15,16 +15,16 @@ use Rattle.text_pieces.proofs.scan.run_end.Statement.{statement}
 use Rattle.text_pieces.proofs.scan.run_end.Tie as tie
 
 abbrev Inv-loop : tie.InvT-loop
-Inv-loop s at lo hi i₀ i = at + length (run (between lo hi) (drop at s)) ≡ i + length (run (between lo hi) (drop i s))
+Inv-loop s at lo hi index₀ index = at + length (run (between lo hi) (drop at s)) ≡ index + length (run (between lo hi) (drop index s))
 
 abbrev μ-loop : tie.MeasureT-loop
-μ-loop s at lo hi i₀ i = length s - i
+μ-loop s at lo hi index₀ index = length s - index
 
 loop-holds : tie.Need-loop-holds Inv-loop μ-loop
 loop-holds c = refl
 
-shared-slice-read-c : tie.Need-shared-slice-read-c Inv-loop μ-loop
-shared-slice-read-c c = search needs
+shared-slice-read-byte : tie.Need-shared-slice-read-byte Inv-loop μ-loop
+shared-slice-read-byte c = search needs
 
 is-between-requires : tie.Need-is-between-requires Inv-loop μ-loop
 is-between-requires c κs = tt
@@ -34,11 +34,11 @@ returns c =
     let a = c .before .before .before .before .before .before .args in
     let l = c .before .before .before .before .loop in
     let t = sym (c .before .is-between .ensures) ∙ not-true (c .before .is-between .result) (c .if1 .taken) in
-    let q = run-stop (between (a .lo) (a .hi)) (now (a .text)) (l .i) (c .before .before .before .loop-test .taken) t in
+    let q = run-stop (between (a .lo) (a .hi)) (now (a .text)) (l .index) (c .before .before .before .loop-test .taken) t in
     omega (arith, l .inv, ap length q)
 
-add-i : tie.Need-add-i Inv-loop μ-loop
-add-i c = omega arith
+add-index : tie.Need-add-index Inv-loop μ-loop
+add-index c = omega arith
 
 loop-less : tie.Need-loop-less Inv-loop μ-loop
 loop-less c = omega arith
@@ -48,14 +48,14 @@ loop-again c =
     let a = c .before .before .before .before .before .before .args in
     let l = c .before .before .before .before .loop in
     let t = sym (c .before .is-between .ensures) ∙ not-false (c .before .is-between .result) (c .if1 .left) in
-    let q = run-on (between (a .lo) (a .hi)) (now (a .text)) (l .i) (c .before .before .before .loop-test .taken) t in
-    rw (add-one (l .i)) (omega (arith, l .inv, q))
+    let q = run-on (between (a .lo) (a .hi)) (now (a .text)) (l .index) (c .before .before .before .loop-test .taken) t in
+    rw (add-one (l .index)) (omega (arith, l .inv, q))
 
 returns-2 : tie.Need-returns-2 Inv-loop μ-loop
 returns-2 c =
     let a = c .before .before .before .args in
     let l = c .before .loop in
-    let q = run-none (between (a .lo) (a .hi)) (now (a .text)) (l .i) (c .loop-test .left) in
+    let q = run-none (between (a .lo) (a .hi)) (now (a .text)) (l .index) (c .loop-test .left) in
     omega (arith, l .inv, ap length q)
 
 pub run-end-spec : {M : Type 1} → statement M
@@ -65,10 +65,10 @@ run-end-spec =
     Inv-loop
     μ-loop
     loop-holds
-    shared-slice-read-c
+    shared-slice-read-byte
     is-between-requires
     returns
-    add-i
+    add-index
     loop-less
     loop-again
     returns-2)

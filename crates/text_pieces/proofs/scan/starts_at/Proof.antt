@@ -14,10 +14,10 @@ use Rattle.text_pieces.proofs.scan.starts_at.Statement.{statement}
 use Rattle.text_pieces.proofs.scan.starts_at.Tie as tie
 
 abbrev Inv-loop : tie.InvT-loop
-Inv-loop s at w k₀ k = (k ≤ length w) × (at + length w ≤ length s) × (starts w (drop at s) ≡ starts (drop k w) (drop (at + k) s))
+Inv-loop s at w index₀ index = (index ≤ length w) × (at + length w ≤ length s) × (starts w (drop at s) ≡ starts (drop index w) (drop (at + index) s))
 
 abbrev μ-loop : tie.MeasureT-loop
-μ-loop s at w k₀ k = length w - k
+μ-loop s at w index₀ index = length w - index
 
 returns : tie.Need-returns Inv-loop μ-loop
 returns c = sym (starts-past (now (c .before .args .word)) (now (c .before .args .text)) (c .before .args .at) (omega arith))
@@ -47,10 +47,10 @@ returns-3 : tie.Need-returns-3 Inv-loop μ-loop
 returns-3 c =
     let a = c .before .before .before .before .before .before .before .args in
     let l = c .before .before .before .before .loop in
-    sym (l .inv .2 ∙ starts-off (now (a .word)) (now (a .text)) (l .k) (a .at + l .k) (c .before .before .before .loop-test .taken) (omega arith) (c .if3 .taken))
+    sym (l .inv .2 ∙ starts-off (now (a .word)) (now (a .text)) (l .index) (a .at + l .index) (c .before .before .before .loop-test .taken) (omega arith) (c .if3 .taken))
 
-add-k : tie.Need-add-k Inv-loop μ-loop
-add-k c = omega arith
+add-index : tie.Need-add-index Inv-loop μ-loop
+add-index c = omega arith
 
 loop-less : tie.Need-loop-less Inv-loop μ-loop
 loop-less c = omega arith
@@ -59,15 +59,15 @@ loop-again : tie.Need-loop-again Inv-loop μ-loop
 loop-again c =
     let a = c .before .before .before .before .before .before .before .args in
     let l = c .before .before .before .before .loop in
-    let q = starts-on (now (a .word)) (now (a .text)) (l .k) (a .at + l .k) (c .before .before .before .loop-test .taken) (omega arith) (c .if3 .left) in
-    let z : a .at + (l .k + 1) ≡ suc (a .at + l .k) = omega arith in
-    (omega arith, l .inv .1, rw (z, add-one (l .k)) (l .inv .2 ∙ q))
+    let q = starts-on (now (a .word)) (now (a .text)) (l .index) (a .at + l .index) (c .before .before .before .loop-test .taken) (omega arith) (c .if3 .left) in
+    let z : a .at + (l .index + 1) ≡ suc (a .at + l .index) = omega arith in
+    (omega arith, l .inv .1, rw (z, add-one (l .index)) (l .inv .2 ∙ q))
 
 returns-4 : tie.Need-returns-4 Inv-loop μ-loop
 returns-4 c =
     let a = c .before .before .before .before .args in
     let l = c .before .loop in
-    sym (l .inv .2 ∙ starts-all (now (a .word)) (drop (a .at + l .k) (now (a .text))) (l .k) (c .loop-test .left))
+    sym (l .inv .2 ∙ starts-all (now (a .word)) (drop (a .at + l .index) (now (a .text))) (l .index) (c .loop-test .left))
 
 pub starts-at-spec : {M : Type 1} → statement M
 starts-at-spec =
@@ -83,7 +83,7 @@ starts-at-spec =
     shared-slice-read-if3
     shared-slice-read-if3-2
     returns-3
-    add-k
+    add-index
     loop-less
     loop-again
     returns-4)

@@ -15,7 +15,7 @@ add-write-flag c = search needs
 write-flag-requires : tie.Need-write-flag-requires
 write-flag-requires c κs = let a = c .before .before .before .before .before .args in
     let pre = c .before .before .before .before .before .pre in
-    let e = flag-end (now (a .s)) [] (now (a .names)) (now (a .out)) (a .p) (pre .1) (pre .0) (a .q) (pre .5) in
+    let e = flag-end (now (a .text)) [] (now (a .names)) (now (a .out)) (a .cursor) (pre .1) (pre .0) (a .end) (pre .5) in
     (omega (arith, e, pre .5 .inside), omega (arith, pre .1 .names-fit, pre .1 .place, pre .2, pre .3), omega (arith, pre .1 .names-fit, pre .1 .place, pre .2), omega (arith, e, pre .1 .bytes-fit, pre .5 .inside, pre .2, pre .4))
 
 add-t7 : tie.Need-add-t7
@@ -32,8 +32,8 @@ returns c = let a = c .before .before .before .before .before .before .before .b
     let pre = c .before .before .before .before .before .before .before .before .before .before .pre in
     let x = pre .5 in
     let f = c .before .before .before .before .write-flag .ensures in
-    let g = f .1 (x .name) (x .digit) (drop (a .q) (now (a .s))) (x .named) in
-    λ frames. flag-arm (now (a .s)) frames (now (a .names)) (now (a .out)) (a .p) (pre .1) (pre .0) (a .q) x _ (c .before .before .before .before .write-flag .result) (c .both .result) (f .0) (g .0) (g .1) (c .both .ensures)
+    let g = f .1 (x .name) (x .digit) (drop (a .end) (now (a .text))) (x .named) in
+    λ frames. flag-arm (now (a .text)) frames (now (a .names)) (now (a .out)) (a .cursor) (pre .1) (pre .0) (a .end) x _ (c .before .before .before .before .write-flag .result) (c .both .result) (f .0) (g .0) (g .1) (c .both .ensures)
 
 pub begin-flag-spec : {M : Type 1} → statement M
 begin-flag-spec =

@@ -28,7 +28,7 @@ begin-flag-requires : tie.Need-begin-flag-requires
 begin-flag-requires c κs = let a = c .before .before .before .before .before .before .before .before .before .before .args in
     let pre = c .before .before .before .before .before .before .before .before .before .before .pre in
     let q = c .before .before .before .piece .given .0 .0 in
-    let x : FlagAt (now (a .s)) (a .p .at + 1) q (read-token (drop (a .p .at) (now (a .s)))) = rw (c .before .before .before .piece .given .1) at (c .before .before .before .before .before .piece-at .ensures) in
+    let x : FlagAt (now (a .text)) (a .cursor .at + 1) q (read-token (drop (a .cursor .at) (now (a .text)))) = rw (c .before .before .before .piece .given .1) at (c .before .before .before .before .before .piece-at .ensures) in
     (pre .0, pre .1, pre .2 .short, pre .2 .names-room, pre .2 .bytes-room, x)
 
 enum-known-piece-2 : tie.Need-enum-known-piece-2
@@ -38,7 +38,7 @@ begin-range-requires : tie.Need-begin-range-requires
 begin-range-requires c κs = let a = c .before .before .before .before .before .before .before .before .before .before .before .args in
     let pre = c .before .before .before .before .before .before .before .before .before .before .before .pre in
     let q = c .before .before .before .before .piece2 .given .0 .0 in
-    let x : ForallAt (now (a .s)) (a .p .at + 7) q (read-token (drop (a .p .at) (now (a .s)))) = rw (c .before .before .before .before .piece2 .given .1) at (c .before .before .before .before .before .before .piece-at .ensures) in
+    let x : ForallAt (now (a .text)) (a .cursor .at + 7) q (read-token (drop (a .cursor .at) (now (a .text)))) = rw (c .before .before .before .before .piece2 .given .1) at (c .before .before .before .before .before .before .piece-at .ensures) in
     (pre .0, pre .1, pre .2, x)
 
 enum-known-piece-3 : tie.Need-enum-known-piece-3
@@ -48,8 +48,8 @@ slice-write-out : tie.Need-slice-write-out
 slice-write-out c = let a = c .before .before .before .before .before .before .before .before .args in
     let pre = c .before .before .before .before .before .before .before .before .pre in
     let q = c .before .piece3 .given .0 .0 in
-    let x : (q ≤ length (now (a .s))) × (read-token (drop (a .p .at) (now (a .s))) ≡ got negate-token (drop q (now (a .s)))) = rw (c .before .piece3 .given .1) at (c .before .before .before .piece-at .ensures) in
-    rooms (now (a .s)) (now (a .frames)) (now (a .names)) (now (a .out)) (a .p) (pre .1) q negate-token (x .0) (x .1) (pre .2) .0
+    let x : (q ≤ length (now (a .text))) × (read-token (drop (a .cursor .at) (now (a .text))) ≡ got negate-token (drop q (now (a .text)))) = rw (c .before .piece3 .given .1) at (c .before .before .before .piece-at .ensures) in
+    rooms (now (a .text)) (now (a .frames)) (now (a .names)) (now (a .out)) (a .cursor) (pre .1) q negate-token (x .0) (x .1) (pre .2) .0
 
 add-t25 : tie.Need-add-t25
 add-t25 c = search needs
@@ -69,15 +69,15 @@ slice-write-frames : tie.Need-slice-write-frames
 slice-write-frames c = let a = c .before .before .before .before .before .before .before .before .before .args in
     let pre = c .before .before .before .before .before .before .before .before .before .pre in
     let q = c .before .before .piece4 .given .0 .0 in
-    let x : (q ≤ length (now (a .s))) × (read-token (drop (a .p .at) (now (a .s))) ≡ got open-token (drop q (now (a .s)))) = rw (c .before .before .piece4 .given .1) at (c .before .before .before .before .piece-at .ensures) in
-    rooms (now (a .s)) (now (a .frames)) (now (a .names)) (now (a .out)) (a .p) (pre .1) q open-token (x .0) (x .1) (pre .2) .1
+    let x : (q ≤ length (now (a .text))) × (read-token (drop (a .cursor .at) (now (a .text))) ≡ got open-token (drop q (now (a .text)))) = rw (c .before .before .piece4 .given .1) at (c .before .before .before .before .piece-at .ensures) in
+    rooms (now (a .text)) (now (a .frames)) (now (a .names)) (now (a .out)) (a .cursor) (pre .1) q open-token (x .0) (x .1) (pre .2) .1
 
 slice-write-out-2 : tie.Need-slice-write-out-2
 slice-write-out-2 c = let a = c .before .before .before .before .before .before .before .before .before .args in
     let pre = c .before .before .before .before .before .before .before .before .before .pre in
     let q = c .before .before .piece4 .given .0 .0 in
-    let x : (q ≤ length (now (a .s))) × (read-token (drop (a .p .at) (now (a .s))) ≡ got open-token (drop q (now (a .s)))) = rw (c .before .before .piece4 .given .1) at (c .before .before .before .before .piece-at .ensures) in
-    rooms (now (a .s)) (now (a .frames)) (now (a .names)) (now (a .out)) (a .p) (pre .1) q open-token (x .0) (x .1) (pre .2) .0
+    let x : (q ≤ length (now (a .text))) × (read-token (drop (a .cursor .at) (now (a .text))) ≡ got open-token (drop q (now (a .text)))) = rw (c .before .before .piece4 .given .1) at (c .before .before .before .before .piece-at .ensures) in
+    rooms (now (a .text)) (now (a .frames)) (now (a .names)) (now (a .out)) (a .cursor) (pre .1) q open-token (x .0) (x .1) (pre .2) .0
 
 add-t27 : tie.Need-add-t27
 add-t27 c = search needs
@@ -88,8 +88,8 @@ add-t30 c = search needs
 returns : tie.Need-returns
 returns c = let a = c .before .before .before .before .before .before .before .before .args in
     let pre = c .before .before .before .before .before .before .before .before .pre in
-    let x : read-token (drop (a .p .at) (now (a .s))) ≡ none = rw (c .before .enum-told .given .1) at (c .before .before .before .piece-at .ensures) in
-    wrong-arm (now (a .s)) (now (a .frames)) (now (a .names)) (now (a .out)) (a .p) (pre .1) (pre .0) (c .misspelt .result) (c .misspelt .ensures) x
+    let x : read-token (drop (a .cursor .at) (now (a .text))) ≡ none = rw (c .before .enum-told .given .1) at (c .before .before .before .piece-at .ensures) in
+    wrong-arm (now (a .text)) (now (a .frames)) (now (a .names)) (now (a .out)) (a .cursor) (pre .1) (pre .0) (c .misspelt .result) (c .misspelt .ensures) x
 
 same-length : tie.Need-same-length
 same-length c = search needs
@@ -121,8 +121,8 @@ returns-4 : tie.Need-returns-4
 returns-4 c = let a = c .before .before .before .before .before .before .before .before .args in
     let pre = c .before .before .before .before .before .before .before .before .pre in
     let q = c .before .piece3 .given .0 .0 in
-    let x : (q ≤ length (now (a .s))) × (read-token (drop (a .p .at) (now (a .s))) ≡ got negate-token (drop q (now (a .s)))) = rw (c .before .piece3 .given .1) at (c .before .before .before .piece-at .ensures) in
-    negate-arm (now (a .s)) (now (a .frames)) (now (a .names)) (now (a .out)) (a .p) (pre .1) (pre .0) q (x .0) (x .1) (rooms (now (a .s)) (now (a .frames)) (now (a .names)) (now (a .out)) (a .p) (pre .1) q negate-token (x .0) (x .1) (pre .2) .0)
+    let x : (q ≤ length (now (a .text))) × (read-token (drop (a .cursor .at) (now (a .text))) ≡ got negate-token (drop q (now (a .text)))) = rw (c .before .piece3 .given .1) at (c .before .before .before .piece-at .ensures) in
+    negate-arm (now (a .text)) (now (a .frames)) (now (a .names)) (now (a .out)) (a .cursor) (pre .1) (pre .0) q (x .0) (x .1) (rooms (now (a .text)) (now (a .frames)) (now (a .names)) (now (a .out)) (a .cursor) (pre .1) q negate-token (x .0) (x .1) (pre .2) .0)
 
 same-length-7 : tie.Need-same-length-7
 same-length-7 c = search needs
@@ -134,9 +134,9 @@ returns-5 : tie.Need-returns-5
 returns-5 c = let a = c .before .before .before .before .before .before .before .before .before .args in
     let pre = c .before .before .before .before .before .before .before .before .before .pre in
     let q = c .before .before .piece4 .given .0 .0 in
-    let x : (q ≤ length (now (a .s))) × (read-token (drop (a .p .at) (now (a .s))) ≡ got open-token (drop q (now (a .s)))) = rw (c .before .before .piece4 .given .1) at (c .before .before .before .before .piece-at .ensures) in
-    let r = rooms (now (a .s)) (now (a .frames)) (now (a .names)) (now (a .out)) (a .p) (pre .1) q open-token (x .0) (x .1) (pre .2) in
-    open-arm (now (a .s)) (now (a .frames)) (now (a .names)) (now (a .out)) (a .p) (pre .1) (pre .0) q (x .0) (x .1) (r .0) (r .1) (c .bracket-frame .result) (c .bracket-frame .ensures)
+    let x : (q ≤ length (now (a .text))) × (read-token (drop (a .cursor .at) (now (a .text))) ≡ got open-token (drop q (now (a .text)))) = rw (c .before .before .piece4 .given .1) at (c .before .before .before .before .piece-at .ensures) in
+    let r = rooms (now (a .text)) (now (a .frames)) (now (a .names)) (now (a .out)) (a .cursor) (pre .1) q open-token (x .0) (x .1) (pre .2) in
+    open-arm (now (a .text)) (now (a .frames)) (now (a .names)) (now (a .out)) (a .cursor) (pre .1) (pre .0) q (x .0) (x .1) (r .0) (r .1) (c .bracket-frame .result) (c .bracket-frame .ensures)
 
 pub begin-formula-spec : {M : Type 1} → statement M
 begin-formula-spec =

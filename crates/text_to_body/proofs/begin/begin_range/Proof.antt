@@ -14,14 +14,14 @@ add-name c = search needs
 write-forall-requires : tie.Need-write-forall-requires
 write-forall-requires c κs = let a = c .before .before .before .before .before .before .before .args in
     let pre = c .before .before .before .before .before .before .before .pre in
-    let e = range-end (now (a .s)) (now (a .frames)) (now (a .names)) (now (a .out)) (a .p) (pre .1) (pre .0) (a .q) (pre .3) in
+    let e = range-end (now (a .text)) (now (a .frames)) (now (a .names)) (now (a .out)) (a .cursor) (pre .1) (pre .0) (a .end) (pre .3) in
     let x = pre .3 in
     let r = pre .2 in (
       omega (arith, e, x .inside),
       omega (arith, pre .1 .names-fit, pre .1 .place, r .short, r .names-room),
       omega (arith, pre .1 .names-fit, pre .1 .place, r .short),
       omega (arith, e, pre .1 .bytes-fit, x .inside, r .short, r .bytes-room),
-      (x .name, x .first, x .second, drop (a .q) (now (a .s)), x .named),
+      (x .name, x .first, x .second, drop (a .end) (now (a .text)), x .named),
     )
 
 mul-names : tie.Need-mul-names
@@ -30,7 +30,7 @@ mul-names c = search needs
 slice-write-names : tie.Need-slice-write-names
 slice-write-names c = let a = c .before .before .before .before .before .before .before .before .before .before .args in
     let pre = c .before .before .before .before .before .before .before .before .before .before .pre in
-    range-names (now (a .s)) (now (a .frames)) (now (a .names)) (now (a .out)) (a .p) (pre .1) (pre .0) (a .q) (pre .3) (pre .2)
+    range-names (now (a .text)) (now (a .frames)) (now (a .names)) (now (a .out)) (a .cursor) (pre .1) (pre .0) (a .end) (pre .3) (pre .2)
 
 mul-frames : tie.Need-mul-frames
 mul-frames c = search needs
@@ -38,7 +38,7 @@ mul-frames c = search needs
 slice-write-frames : tie.Need-slice-write-frames
 slice-write-frames c = let a = c .before .before .before .before .before .before .before .before .before .before .args in
     let pre = c .before .before .before .before .before .before .before .before .before .before .pre in
-    range-frames (now (a .s)) (now (a .frames)) (now (a .names)) (now (a .out)) (a .p) (pre .1) (pre .0) (a .q) (pre .3) (pre .2)
+    range-frames (now (a .text)) (now (a .frames)) (now (a .names)) (now (a .out)) (a .cursor) (pre .1) (pre .0) (a .end) (pre .3) (pre .2)
 
 add-t15 : tie.Need-add-t15
 add-t15 c = search needs
@@ -66,8 +66,8 @@ returns c = let a = c .before .before .before .before .before .before .before .b
     let pre = c .before .before .before .before .before .before .before .before .before .before .before .before .pre in
     let x = pre .3 in
     let f = c .before .before .before .before .write-forall .ensures in
-    let g = f .1 (x .name) (x .first) (x .second) (drop (a .q) (now (a .s))) (x .named) in
-    range-arm (now (a .s)) (now (a .frames)) (now (a .names)) (now (a .out)) (a .p) (pre .1) (pre .0) (a .q) (pre .3) _ (c .before .before .before .before .write-forall .result) (c .both .result) (range-frames (now (a .s)) (now (a .frames)) (now (a .names)) (now (a .out)) (a .p) (pre .1) (pre .0) (a .q) (pre .3) (pre .2)) (range-names (now (a .s)) (now (a .frames)) (now (a .names)) (now (a .out)) (a .p) (pre .1) (pre .0) (a .q) (pre .3) (pre .2)) (f .0) (g .0) (g .1) (c .both .ensures)
+    let g = f .1 (x .name) (x .first) (x .second) (drop (a .end) (now (a .text))) (x .named) in
+    range-arm (now (a .text)) (now (a .frames)) (now (a .names)) (now (a .out)) (a .cursor) (pre .1) (pre .0) (a .end) (pre .3) _ (c .before .before .before .before .write-forall .result) (c .both .result) (range-frames (now (a .text)) (now (a .frames)) (now (a .names)) (now (a .out)) (a .cursor) (pre .1) (pre .0) (a .end) (pre .3) (pre .2)) (range-names (now (a .text)) (now (a .frames)) (now (a .names)) (now (a .out)) (a .cursor) (pre .1) (pre .0) (a .end) (pre .3) (pre .2)) (f .0) (g .0) (g .1) (c .both .ensures)
 
 pub begin-range-spec : {M : Type 1} → statement M
 begin-range-spec =

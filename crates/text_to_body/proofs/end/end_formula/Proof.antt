@@ -37,7 +37,7 @@ end-range-requires c κs = search needs
 
 returns-3 : tie.Need-returns-3
 returns-3 c = let a = c .before .before .before .before .before .before .before .before .before .before .before .args in
-    λ names. c .end-range .ensures (now (a .s)) (now (a .frames)) names (now (a .out)) (c .before .before .before .before .before .before .before .before .before .before .before .pre .1) (sym (c .before .before .before .word-value .ensures .0) ∙ c .before .if3 .taken)
+    λ names. c .end-range .ensures (now (a .text)) (now (a .frames)) names (now (a .out)) (c .before .before .before .before .before .before .before .before .before .before .before .pre .1) (sym (c .before .before .before .word-value .ensures .0) ∙ c .before .if3 .taken)
 
 end-first-requires : tie.Need-end-first-requires
 end-first-requires c κs = search needs

@@ -16,11 +16,11 @@ starts-at-requires c κs = tt
 
 returns : tie.Need-returns
 returns c = let a = c .before .before .before .before .args in
-    λ j t e. joint-is-then (drop (a .at) (now (a .s))) j t e (sym (c .before .starts-at .ensures) ∙ c .if1 .taken)
+    λ j t e. joint-is-then (drop (a .at) (now (a .text))) j t e (sym (c .before .starts-at .ensures) ∙ c .if1 .taken)
 
 returns-2 : tie.Need-returns-2
 returns-2 c = let a = c .before .before .before .before .args in
-    λ j t e. joint-is-beside (drop (a .at) (now (a .s))) j t e (sym (c .before .starts-at .ensures) ∙ c .if1 .left)
+    λ j t e. joint-is-beside (drop (a .at) (now (a .text))) j t e (sym (c .before .starts-at .ensures) ∙ c .if1 .left)
 
 pub joint-code-spec : {M : Type 1} → statement M
 joint-code-spec =

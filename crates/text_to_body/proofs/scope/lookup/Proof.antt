@@ -14,10 +14,10 @@ use Rattle.text_to_body.proofs.scope.lookup.Statement.{statement}
 use Rattle.text_to_body.proofs.scope.lookup.Tie as tie
 
 abbrev Inv-loop : tie.InvT-loop
-Inv-loop s names m at i₀ i = (i ≤ m) × (seek (scope-of s names m) (run letter (drop at s)) ≡ seek (scope-of s names i) (run letter (drop at s)))
+Inv-loop text names scope at count₀ count = (count ≤ scope) × (seek (scope-of text names scope) (run letter (drop at text)) ≡ seek (scope-of text names count) (run letter (drop at text)))
 
 abbrev μ-loop : tie.MeasureT-loop
-μ-loop s names m at i₀ i = i
+μ-loop text names scope at count₀ count = count
 
 loop-holds : tie.Need-loop-holds Inv-loop μ-loop
 loop-holds c = (omega arith, refl)
@@ -38,10 +38,10 @@ returns : tie.Need-returns Inv-loop μ-loop
 returns c =
     let a = c .before .before .before .before .before .before .before .args in
     let l = c .before .before .before .before .loop in
-    sym (l .inv .1 ∙ seek-hit (now (a .s)) (now (a .names)) (run letter (drop (a .at) (now (a .s)))) (l .i) (omega arith) (sym (c .before .same-name .ensures) ∙ c .if1 .taken))
+    sym (l .inv .1 ∙ seek-hit (now (a .text)) (now (a .names)) (run letter (drop (a .at) (now (a .text)))) (l .count) (omega arith) (sym (c .before .same-name .ensures) ∙ c .if1 .taken))
 
-sub-i : tie.Need-sub-i Inv-loop μ-loop
-sub-i c = omega arith
+sub-count : tie.Need-sub-count Inv-loop μ-loop
+sub-count c = omega arith
 
 loop-less : tie.Need-loop-less Inv-loop μ-loop
 loop-less c = omega arith
@@ -51,12 +51,12 @@ loop-again c =
     let a = c .before .before .before .before .before .before .before .args in
     let l = c .before .before .before .before .loop in
     let t = sym (c .before .same-name .ensures) ∙ c .if1 .left in
-    (omega (arith, l .inv .0), l .inv .1 ∙ seek-miss (now (a .s)) (now (a .names)) (run letter (drop (a .at) (now (a .s)))) (l .i) (omega arith) t)
+    (omega (arith, l .inv .0), l .inv .1 ∙ seek-miss (now (a .text)) (now (a .names)) (run letter (drop (a .at) (now (a .text)))) (l .count) (omega arith) t)
 
 returns-2 : tie.Need-returns-2 Inv-loop μ-loop
 returns-2 c =
     let a = c .before .before .before .before .args in
-    sym (c .before .loop .inv .1 ∙ seek-none (now (a .s)) (now (a .names)) (run letter (drop (a .at) (now (a .s)))) (c .before .loop .i) (omega arith))
+    sym (c .before .loop .inv .1 ∙ seek-none (now (a .text)) (now (a .names)) (run letter (drop (a .at) (now (a .text)))) (c .before .loop .count) (omega arith))
 
 pub lookup-spec : {M : Type 1} → statement M
 lookup-spec =
@@ -70,7 +70,7 @@ lookup-spec =
     shared-slice-read-same-name
     same-name-requires
     returns
-    sub-i
+    sub-count
     loop-less
     loop-again
     returns-2)

@@ -8,7 +8,7 @@ use Rattle.text_to_body.proofs.scope.put.Statement.{statement}
 use Rattle.text_to_body.proofs.scope.put.Tie as tie
 
 returns : tie.Need-returns
-returns c = sym (set-out (now (c .before .args .out)) (c .before .args .i) (c .before .args .b) (c .if1 .taken))
+returns c = sym (set-out (now (c .before .args .out)) (c .before .args .at) (c .before .args .byte) (c .if1 .taken))
 
 slice-write-out : tie.Need-slice-write-out
 slice-write-out c = search needs

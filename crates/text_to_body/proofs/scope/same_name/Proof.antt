@@ -21,7 +21,7 @@ part-is-word-start : tie.Need-part-is-word-start
 part-is-word-start c = omega (arith, c .run-end .ensures)
 
 part-is-word-end : tie.Need-part-is-word-end
-part-is-word-end c = let a = c .before .before .args in omega (arith, c .run-end .ensures, c .before .before .pre, run-fits letter (now (a .s)) (a .b))
+part-is-word-end c = let a = c .before .before .args in omega (arith, c .run-end .ensures, c .before .before .pre, run-fits letter (now (a .text)) (a .second))
 
 is-word-requires : tie.Need-is-word-requires
 is-word-requires c κs = tt
@@ -29,7 +29,7 @@ is-word-requires c κs = tt
 returns : tie.Need-returns
 returns c =
     let a = c .before .before .before .before .args in
-    c .is-word .ensures ∙ ap (same (run letter (drop (a .a) (now (a .s))))) (run-part letter (now (a .s)) (a .b) (c .before .before .run-end .result) (c .before .before .run-end .ensures))
+    c .is-word .ensures ∙ ap (same (run letter (drop (a .first) (now (a .text))))) (run-part letter (now (a .text)) (a .second) (c .before .before .run-end .result) (c .before .before .run-end .ensures))
 
 pub same-name-spec : {M : Type 1} → statement M
 same-name-spec =

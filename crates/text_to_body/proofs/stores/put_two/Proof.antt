@@ -17,15 +17,15 @@ add-out : tie.Need-add-out
 add-out c = search needs
 
 slice-write-out-2 : tie.Need-slice-write-out-2
-slice-write-out-2 c = omega (arith, c .pre, length-set (now (c .args .out)) (c .args .o) (c .args .a))
+slice-write-out-2 c = omega (arith, c .pre, length-set (now (c .args .out)) (c .args .at) (c .args .first))
 
 same-length : tie.Need-same-length
 same-length c = search needs
 
 returns : tie.Need-returns
 returns c = (
-  length-set (set (now (c .args .out)) (c .args .o) (c .args .a)) (c .args .o + 1) (c .args .b) ∙ length-set (now (c .args .out)) (c .args .o) (c .args .a),
-  take-two (now (c .args .out)) (c .args .o) (c .args .a) (c .args .b) (c .pre),
+  length-set (set (now (c .args .out)) (c .args .at) (c .args .first)) (c .args .at + 1) (c .args .second) ∙ length-set (now (c .args .out)) (c .args .at) (c .args .first),
+  take-two (now (c .args .out)) (c .args .at) (c .args .first) (c .args .second) (c .pre),
 )
 
 pub put-two-spec : {M : Type 1} → statement M

@@ -29,7 +29,7 @@ unfolding base-bound base-bytes
 returns c =
     let a = c .before .before .before .before .before .before .before .before .before .before .args in (
       c .before .before .put-two .ensures .0,
-      λ b t e. let q = is-origin (now (a .s)) (a .at) b t e (sym (c .before .before .before .before .before .starts-at .ensures) ∙ c .before .before .before .before .if1 .taken) in
+      λ b t e. let q = is-origin (now (a .text)) (a .at) b t e (sym (c .before .before .before .before .before .starts-at .ensures) ∙ c .before .before .before .before .if1 .taken) in
           (rw q refl, rw q (c .before .before .put-two .ensures .1)),
     )
 
@@ -50,7 +50,7 @@ unfolding base-bound base-bytes
 returns-2 c =
     let a = c .before .before .before .before .before .before .before .before .before .before .before .before .before .args in (
       c .before .before .put-two2 .ensures .0,
-      λ b t e. let q = is-infinity (now (a .s)) (a .at) b t e (sym (c .before .before .before .before .before .before .before .before .starts-at .ensures) ∙ c .before .before .before .before .before .before .before .if1 .left) (sym (c .before .before .before .before .before .is-word .ensures) ∙ c .before .before .before .before .if2 .taken) in
+      λ b t e. let q = is-infinity (now (a .text)) (a .at) b t e (sym (c .before .before .before .before .before .before .before .before .starts-at .ensures) ∙ c .before .before .before .before .before .before .before .if1 .left) (sym (c .before .before .before .before .before .is-word .ensures) ∙ c .before .before .before .before .if2 .taken) in
           (rw q refl, rw q (c .before .before .put-two2 .ensures .1)),
     )
 
@@ -73,8 +73,8 @@ returns-3 c =
     let v = c .before .before .before .before .before .lookup .ensures in
     let y = c .before .before .before .variable-byte .ensures ∙ ap (λ (n : ℕ). (n - 1) % 256) v in (
       c .before .before .put-two3 .ensures .0,
-      λ b t e. let q = is-position (now (a .s)) (a .at) b t e (sym (c .before .before .before .before .before .before .before .before .before .before .starts-at .ensures) ∙ c .before .before .before .before .before .before .before .before .before .if1 .left) (sym (c .before .before .before .before .before .before .before .is-word .ensures) ∙ c .before .before .before .before .before .before .if2 .left) in
-          (rw q (ap (leb 1) v), rw q (c .before .before .put-two3 .ensures .1 ∙ ap (λ (x : ℕ). take (a .o) (now (a .out)) ++ (2 ∷ x ∷ [])) y)),
+      λ b t e. let q = is-position (now (a .text)) (a .at) b t e (sym (c .before .before .before .before .before .before .before .before .before .before .starts-at .ensures) ∙ c .before .before .before .before .before .before .before .before .before .if1 .left) (sym (c .before .before .before .before .before .before .before .is-word .ensures) ∙ c .before .before .before .before .before .before .if2 .left) in
+          (rw q (ap (leb 1) v), rw q (c .before .before .put-two3 .ensures .1 ∙ ap (λ (x : ℕ). take (a .written) (now (a .out)) ++ (2 ∷ x ∷ [])) y)),
     )
 
 pub write-base-spec : {M : Type 1} → statement M

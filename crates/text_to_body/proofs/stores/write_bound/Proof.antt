@@ -40,15 +40,15 @@ returns : tie.Need-returns
 unfolding end-bound
 returns c =
     let a = c .before .before .before .before .before .before .before .before .before .before .before .before .before .args in
-    let s = now (a .s) in
+    let s = now (a .text) in
     let mid = c .before .before .before .before .before .before .before .before .write-base .last .1 .1 .1 .1 .0 in (
       c .before .before .put-two .ensures .0 ∙ c .before .before .before .before .before .before .before .before .write-base .ensures .0,
       λ E t e. let p = end-parts s (a .at) (c .before .before .before .before .before .base-end .result) (c .before .before .before .before .before .base-end .ensures) E t e in
           let b = c .before .before .before .before .before .before .before .before .write-base .ensures .1 (p .0) (drop (c .before .before .before .before .before .base-end .result) s) (p .3) in
           let x = c .before .before .before .before .offset-at .ensures .1 (p .1) t (p .4) in
-          let z : a .o + 4 ≡ a .o + 2 + 2 = omega arith in (
+          let z : a .written + 4 ≡ a .written + 2 + 2 = omega arith in (
             rw (p .2) (b .0),
-            rw (p .2, z) (c .before .before .put-two .ensures .1 ∙ end-written (scope-of s (now (a .names)) (a .m)) (p .0) (p .1) (take (a .o) (now (a .out))) (take (a .o + 2) mid) (c .before .before .before .before .offset-at .result) x (b .1)),
+            rw (p .2, z) (c .before .before .put-two .ensures .1 ∙ end-written (scope-of s (now (a .names)) (a .scope)) (p .0) (p .1) (take (a .written) (now (a .out))) (take (a .written + 2) mid) (c .before .before .before .before .offset-at .result) x (b .1)),
           ),
     )
 

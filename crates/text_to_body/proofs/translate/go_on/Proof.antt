@@ -11,11 +11,11 @@ use Rattle.text_to_body.proofs.translate.go_on.Statement.{statement}
 use Rattle.text_to_body.proofs.translate.go_on.Tie as tie
 
 abbrev Inv-loop : tie.InvT-loop
-Inv-loop s frames₀ names₀ out₀ p₀ frames names out p =
-    (answer-at s frames₀ names₀ out₀ p₀ ≡ answer-at s frames names out p) × CursorFits s p × (length frames ≡ length frames₀) × (length names ≡ length names₀) × (length out ≡ length out₀)
+Inv-loop text frames₀ names₀ out₀ cursor₀ frames names out cursor =
+    (answer-at text frames₀ names₀ out₀ cursor₀ ≡ answer-at text frames names out cursor) × CursorFits text cursor × (length frames ≡ length frames₀) × (length names ≡ length names₀) × (length out ≡ length out₀)
 
 abbrev μ-loop : tie.MeasureT-loop
-μ-loop s frames₀ names₀ out₀ p₀ frames names out p = left s p
+μ-loop text frames₀ names₀ out₀ cursor₀ frames names out cursor = left text cursor
 
 loop-holds : tie.Need-loop-holds Inv-loop μ-loop
 loop-holds c = (refl, c .before .before .before .before .pre .0, refl, refl, refl)
@@ -55,12 +55,12 @@ returns c =
     let args = c .before .before .before .before .before .before .before .args in
     let pre = c .before .before .before .before .before .before .before .pre in
     let l = c .before .before .loop in
-    let s = now (args .s) in
+    let s = now (args .text) in
     let r = pre .1 in (
       l .inv .4,
       record {
         past = c .if1 .left;
-        answer = l .inv .0 ∙ settles (l .p .mode) (l .p .depth) (l .frames) (scope-of s (l .names) (l .p .scope)) (take (l .p .written) (l .out)) (l .p .resolved) (drop (l .p .at) s) (c .if1 .left);
+        answer = l .inv .0 ∙ settles (l .cursor .mode) (l .cursor .depth) (l .frames) (scope-of s (l .names) (l .cursor .scope)) (take (l .cursor .written) (l .out)) (l .cursor .resolved) (drop (l .cursor .at) s) (c .if1 .left);
         room = omega (arith, l .inv .1 .bytes-fit, l .inv .1 .place, l .inv .4, r .short, r .bytes-room);
       },
     )

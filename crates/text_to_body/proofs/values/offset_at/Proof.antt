@@ -20,7 +20,7 @@ starts-at-requires c κs = tt
 add-value-at : tie.Need-add-value-at
 add-value-at c =
     let a = c .before .before .before .before .args in
-    let w = word-fits (now (a .s)) (43 ∷ []) (a .at) (omega arith) (sym (c .before .starts-at .ensures) ∙ c .if1 .taken) in omega (arith, w)
+    let w = word-fits (now (a .text)) (43 ∷ []) (a .at) (omega arith) (sym (c .before .starts-at .ensures) ∙ c .if1 .taken) in omega (arith, w)
 
 value-at-requires : tie.Need-value-at-requires
 value-at-requires c κs = tt
@@ -28,7 +28,7 @@ value-at-requires c κs = tt
 returns : tie.Need-returns
 returns c =
     let a = c .before .before .before .before .before .args in
-    (c .value-at .ensures .1, λ o t e. c .value-at .ensures .0 ∙ sym (plus-word (now (a .s)) (a .at) o t e (sym (c .before .before .starts-at .ensures) ∙ c .before .if1 .taken)))
+    (c .value-at .ensures .1, λ o t e. c .value-at .ensures .0 ∙ sym (plus-word (now (a .text)) (a .at) o t e (sym (c .before .before .starts-at .ensures) ∙ c .before .if1 .taken)))
 
 slice-aggregate-starts-at-2 : tie.Need-slice-aggregate-starts-at-2
 slice-aggregate-starts-at-2 c = search needs
@@ -39,7 +39,7 @@ starts-at-requires-2 c κs = tt
 add-value-at-2 : tie.Need-add-value-at-2
 add-value-at-2 c =
     let a = c .before .before .before .before .before .before .before .args in
-    let w = word-fits (now (a .s)) (45 ∷ []) (a .at) (omega arith) (sym (c .before .starts-at2 .ensures) ∙ c .if2 .taken) in omega (arith, w)
+    let w = word-fits (now (a .text)) (45 ∷ []) (a .at) (omega arith) (sym (c .before .starts-at2 .ensures) ∙ c .if2 .taken) in omega (arith, w)
 
 value-at-requires-2 : tie.Need-value-at-requires-2
 value-at-requires-2 c κs = tt
@@ -53,14 +53,14 @@ returns-2 c =
     let v = c .value-at2 .ensures .0 in
     let e₁ = sym (c .before .before .before .before .before .starts-at .ensures) ∙ c .before .before .before .before .if1 .left in
     let e₂ = sym (c .before .before .starts-at2 .ensures) ∙ c .before .if2 .taken in
-    (omega arith, λ o t e. ap (λ (n : ℕ). (65536 - n) % 65536) v ∙ sym (minus-word (now (a .s)) (a .at) o t e e₁ e₂))
+    (omega arith, λ o t e. ap (λ (n : ℕ). (65536 - n) % 65536) v ∙ sym (minus-word (now (a .text)) (a .at) o t e e₁ e₂))
 
 returns-3 : tie.Need-returns-3
 returns-3 c =
     let a = c .before .before .before .before .before .before .before .args in
     let e₁ = sym (c .before .before .before .before .starts-at .ensures) ∙ c .before .before .before .if1 .left in
     let e₂ = sym (c .before .starts-at2 .ensures) ∙ c .if2 .left in
-    (omega arith, λ o t e. sym (no-word (now (a .s)) (a .at) o t e e₁ e₂))
+    (omega arith, λ o t e. sym (no-word (now (a .text)) (a .at) o t e e₁ e₂))
 
 pub offset-at-spec : {M : Type 1} → statement M
 offset-at-spec =

@@ -8,10 +8,10 @@ use Rattle.watch_run.proofs.sheet_file.read_sheet.Statement.{statement}
 use Rattle.watch_run.proofs.sheet_file.read_sheet.Tie as tie
 
 abbrev Inv-loop : tie.InvT-loop
-Inv-loop fd buf₀ n₀ t5 buf n = (n ≤ length buf) × (length buf ≡ length buf₀)
+Inv-loop fd buf₀ count₀ t5 buf count = (count ≤ length buf) × (length buf ≡ length buf₀)
 
 abbrev μ-loop : tie.MeasureT-loop
-μ-loop fd buf₀ n₀ t5 buf n = length buf - n
+μ-loop fd buf₀ count₀ t5 buf count = length buf - count
 
 loop-holds : tie.Need-loop-holds Inv-loop μ-loop
 loop-holds c = search needs
@@ -46,8 +46,8 @@ same-length-2 c = search needs
 returns-2 : tie.Need-returns-2 Inv-loop μ-loop
 returns-2 c = counts _ _ (search needs)
 
-add-n : tie.Need-add-n Inv-loop μ-loop
-add-n c = search needs
+add-count : tie.Need-add-count Inv-loop μ-loop
+add-count c = search needs
 
 loop-less : tie.Need-loop-less Inv-loop μ-loop
 loop-less c = search needs
@@ -78,7 +78,7 @@ read-sheet-spec =
     returns
     same-length-2
     returns-2
-    add-n
+    add-count
     loop-less
     loop-again
     same-length-3

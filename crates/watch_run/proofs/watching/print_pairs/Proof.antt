@@ -6,10 +6,10 @@ use Rattle.watch_run.proofs.watching.print_pairs.Statement.{statement}
 use Rattle.watch_run.proofs.watching.print_pairs.Tie as tie
 
 abbrev Inv-loop : tie.InvT-loop
-Inv-loop report n at₀ left₀ at left = at ≤ length report
+Inv-loop report count at₀ left₀ at left = at ≤ length report
 
 abbrev μ-loop : tie.MeasureT-loop
-μ-loop report n at₀ left₀ at left = left
+μ-loop report count at₀ left₀ at left = left
 
 loop-holds : tie.Need-loop-holds Inv-loop μ-loop
 loop-holds c = search needs

@@ -6,10 +6,10 @@ use Rattle.watch_run.proofs.watching.take_all.Statement.{statement}
 use Rattle.watch_run.proofs.watching.take_all.Tie as tie
 
 abbrev Inv-loop : tie.InvT-loop
-Inv-loop history₀ cells₀ report₀ p₀ turns₀ history cells report p turns = (length history ≡ length history₀) × (length cells ≡ length cells₀) × (length report ≡ length report₀)
+Inv-loop history₀ cells₀ report₀ progress₀ turns₀ history cells report progress turns = (length history ≡ length history₀) × (length cells ≡ length cells₀) × (length report ≡ length report₀)
 
 abbrev μ-loop : tie.MeasureT-loop
-μ-loop history₀ cells₀ report₀ p₀ turns₀ history cells report p turns = turns
+μ-loop history₀ cells₀ report₀ progress₀ turns₀ history cells report progress turns = turns
 
 loop-holds : tie.Need-loop-holds Inv-loop μ-loop
 loop-holds c = search needs

@@ -7,10 +7,10 @@ use Rattle.watch_run.proofs.watching.take_chunk.Statement.{statement}
 use Rattle.watch_run.proofs.watching.take_chunk.Tie as tie
 
 abbrev Inv-loop : tie.InvT-loop
-Inv-loop chunk history₀ cells₀ report₀ so-far₀ i₀ history cells report so-far i = (i ≤ length chunk) × (length history ≡ length history₀) × (length cells ≡ length cells₀) × (length report ≡ length report₀)
+Inv-loop chunk history₀ cells₀ report₀ so-far₀ at₀ history cells report so-far at = (at ≤ length chunk) × (length history ≡ length history₀) × (length cells ≡ length cells₀) × (length report ≡ length report₀)
 
 abbrev μ-loop : tie.MeasureT-loop
-μ-loop chunk history₀ cells₀ report₀ so-far₀ i₀ history cells report so-far i = length chunk - i
+μ-loop chunk history₀ cells₀ report₀ so-far₀ at₀ history cells report so-far at = length chunk - at
 
 loop-holds : tie.Need-loop-holds Inv-loop μ-loop
 loop-holds c = search needs
@@ -69,8 +69,8 @@ same-length-9 c = search needs
 returns-3 : tie.Need-returns-3 Inv-loop μ-loop
 returns-3 c = search needs
 
-add-i : tie.Need-add-i Inv-loop μ-loop
-add-i c = search needs
+add-at : tie.Need-add-at Inv-loop μ-loop
+add-at c = search needs
 
 loop-less : tie.Need-loop-less Inv-loop μ-loop
 loop-less c = search needs
@@ -115,7 +115,7 @@ take-chunk-spec =
     same-length-8
     same-length-9
     returns-3
-    add-i
+    add-at
     loop-less
     loop-again
     same-length-10
