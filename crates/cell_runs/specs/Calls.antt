@@ -20,23 +20,23 @@ use Rattle.cell_runs.specs.Run.{out, with-position, own-tick, RunHolds, 
 
 -- ---- the variables and their bytes
 
--- The first `depth` variables are bound: the position of each, and the flag byte at it.
+-- So many variables are bound, the rule's own tick first: the position of each, and the flag byte at it.
 pub record Variables : Type 0 where
-  pub depth : ℕ
+  pub bound : ℕ
   pub pos : List ℕ
   pub byte : List ℕ
 
 -- The code has them as a number and two arrays.
 abbrev pub variables-of : ℕ → List ℕ → List ℕ → Variables
-variables-of depth pos byte = record { depth = depth; pos = pos; byte = byte }
+variables-of bound pos byte = record { bound = bound; pos = pos; byte = byte }
 
 -- The positions of the variables that are bound.
 abbrev pub places : Variables → List ℕ
-places variables = take (variables .depth) (variables .pos)
+places variables = take (variables .bound) (variables .pos)
 
 -- The environment with one more position and its byte.
 abbrev pub with-byte : Variables → ℕ → ℕ → Variables
-with-byte variables q byte = record { depth = variables .depth + 1; pos = set (variables .pos) (variables .depth) q; byte = set (variables .byte) (variables .depth) byte }
+with-byte variables q byte = record { bound = variables .bound + 1; pos = set (variables .pos) (variables .bound) q; byte = set (variables .byte) (variables .bound) byte }
 
 -- The flag formula, by the byte that was saved for its variable.
 abbrev pub flagged : List ℕ → ℕ → ℕ → ℕ → Outcome
@@ -50,38 +50,38 @@ pub record FlagsAtHand (flags : ℕ → ℕ) (H : ℕ) (hist : List ℕ) (flag t
 -- And each variable's byte is saved.
 pub record AtHand (flags : ℕ → ℕ) (H : ℕ) (hist : List ℕ) (flag : ℕ) (variables : Variables) (t : ℕ) : Type 0 where
   pub stream : FlagsAtHand flags H hist flag t
-  pub saved : (variable : ℕ) → variable < variables .depth → getD (variables .byte) variable 0 ≡ flags (getD (variables .pos) variable 0)
+  pub saved : (variable : ℕ) → variable < variables .bound → getD (variables .byte) variable 0 ≡ flags (getD (variables .pos) variable 0)
 
 -- ---- what the functions require: nothing of what the cells hold
 
 pub record Fit (F : Tree) (variables : Variables) (t : ℕ) (len : ℕ) : Type 0 where
   pub pairs : List Pair
   pub fits : Fits (own-tick (places variables)) pairs (places variables)
-  pub size : length pairs ≡ variables .depth
+  pub size : length pairs ≡ variables .bound
   pub formed : Formed pairs F
   pub room : words pairs F ≤ len
   pub low : t < 4294967296
   pub past : (variable : ℕ) → getD (variables .pos) variable 0 ≤ t
-  pub unbound : (variable : ℕ) → variables .depth ≤ variable → getD (variables .pos) variable 0 ≡ 0
+  pub unbound : (variable : ℕ) → variables .bound ≤ variable → getD (variables .pos) variable 0 ≡ 0
   pub five-places : length (variables .pos) ≡ 5
   pub five-bytes : length (variables .byte) ≡ 5
-  pub depth : variables .depth ≤ 5
-  pub some : 0 < variables .depth
+  pub bound : variables .bound ≤ 5
+  pub some : 0 < variables .bound
 
 -- One position's slot.
 pub record SlotFit (F : Tree) (variables : Variables) (t q : ℕ) (len : ℕ) : Type 0 where
   pub pairs : List Pair
   pub fits : Fits (own-tick (with-position (places variables) q)) pairs (with-position (places variables) q)
-  pub size : length pairs ≡ suc (variables .depth)
+  pub size : length pairs ≡ suc (variables .bound)
   pub formed : Formed pairs F
   pub room : 4 + words pairs F ≤ len
   pub low : t < 4294967296
   pub come : q ≤ t
   pub past : (variable : ℕ) → getD (variables .pos) variable 0 ≤ t
-  pub unbound : (variable : ℕ) → variables .depth ≤ variable → getD (variables .pos) variable 0 ≡ 0
+  pub unbound : (variable : ℕ) → variables .bound ≤ variable → getD (variables .pos) variable 0 ≡ 0
   pub five-places : length (variables .pos) ≡ 5
   pub five-bytes : length (variables .byte) ≡ 5
-  pub depth : variables .depth < 5
+  pub bound : variables .bound < 5
 
 pub record WalkFit (F : Tree) (variables : Variables) (t first leading positions size : ℕ) (len : ℕ) : Type 0 where
   pub slots : (index : ℕ) → index < positions → SlotFit F variables t (first + index) size

@@ -45,14 +45,14 @@ fn advance_part(
     end: usize,
     history: &[u8],
     flag: u8,
-    depth: usize,
+    bound: usize,
     pos: &[u64; 5],
     byte: &[u8; 5],
     s: u64,
     t: u64,
 ) -> Outcome
-    requires { ⌜ PartFit (tree-at left (now nodes) node) (variables-of depth (now pos) (now byte)) t word start end (length (now run)) ⌝ }
-    ensures { λ r. ⌜ PartAdvanced (tree-at left (now (nodes .entry)) node) (now (history .entry)) flag (variables-of depth (now (pos .entry)) (now (byte .entry))) s t word start end (now (run .entry)) r (now (run .exit)) ⌝ }
+    requires { ⌜ PartFit (tree-at left (now nodes) node) (variables-of bound (now pos) (now byte)) t word start end (length (now run)) ⌝ }
+    ensures { λ r. ⌜ PartAdvanced (tree-at left (now (nodes .entry)) node) (now (history .entry)) flag (variables-of bound (now (pos .entry)) (now (byte .entry))) s t word start end (now (run .entry)) r (now (run .exit)) ⌝ }
 {
     let p = own_tick(pos);
     if t != s {
@@ -68,7 +68,7 @@ fn advance_part(
         &mut run[start..end],
         history,
         flag,
-        depth,
+        bound,
         pos,
         byte,
         s,
@@ -86,15 +86,15 @@ pub(crate) fn advance_position(
     slot: &mut [u32],
     history: &[u8],
     flag: u8,
-    depth: usize,
+    bound: usize,
     pos: &[u64; 5],
     byte: &[u8; 5],
     s: u64,
     t: u64,
     q: u64,
 ) -> Outcome
-    requires { ⌜ SlotFit (tree-at left (now nodes) node) (variables-of depth (now pos) (now byte)) t q (length (now slot)) ⌝ }
-    ensures { λ r. ⌜ PositionAdvanced (tree-at left (now (nodes .entry)) node) (now (history .entry)) flag (variables-of depth (now (pos .entry)) (now (byte .entry))) s t q (now (slot .entry)) r (now (slot .exit)) ⌝ }
+    requires { ⌜ SlotFit (tree-at left (now nodes) node) (variables-of bound (now pos) (now byte)) t q (length (now slot)) ⌝ }
+    ensures { λ r. ⌜ PositionAdvanced (tree-at left (now (nodes .entry)) node) (now (history .entry)) flag (variables-of bound (now (pos .entry)) (now (byte .entry))) s t q (now (slot .entry)) r (now (slot .exit)) ⌝ }
 {
     let start = outcomes::later(s, q);
     if t == start {
@@ -102,9 +102,9 @@ pub(crate) fn advance_position(
     }
     let saved = (slot[1] % BYTE_VALUES) as u8;
     let mut places = *pos;
-    places[depth] = q;
+    places[bound] = q;
     let mut bytes = *byte;
-    bytes[depth] = saved;
+    bytes[bound] = saved;
     let length = slot.len();
     advance_part(
         nodes,
@@ -116,7 +116,7 @@ pub(crate) fn advance_position(
         length,
         history,
         flag,
-        depth + 1,
+        bound + 1,
         &places,
         &bytes,
         start,
@@ -133,7 +133,7 @@ fn walk_positions(
     run: &mut [u32],
     history: &[u8],
     flag: u8,
-    depth: usize,
+    bound: usize,
     pos: &[u64; 5],
     byte: &[u8; 5],
     s: u64,
@@ -144,8 +144,8 @@ fn walk_positions(
     end: Outcome,
     size: usize,
 ) -> Outcome
-    requires { ⌜ WalkFit (tree-at left (now nodes) node) (variables-of depth (now pos) (now byte)) t first leading positions size (length (now run)) ⌝ }
-    ensures { λ r. ⌜ PositionsWalked (tree-at left (now (nodes .entry)) node) (now (history .entry)) flag (variables-of depth (now (pos .entry)) (now (byte .entry))) s t first leading positions end size (now (run .entry)) r (now (run .exit)) ⌝ }
+    requires { ⌜ WalkFit (tree-at left (now nodes) node) (variables-of bound (now pos) (now byte)) t first leading positions size (length (now run)) ⌝ }
+    ensures { λ r. ⌜ PositionsWalked (tree-at left (now (nodes .entry)) node) (now (history .entry)) flag (variables-of bound (now (pos .entry)) (now (byte .entry))) s t first leading positions end size (now (run .entry)) r (now (run .exit)) ⌝ }
 {
     let mut acc = end;
     let mut count = positions;
@@ -160,7 +160,7 @@ fn walk_positions(
             &mut run[at..top],
             history,
             flag,
-            depth,
+            bound,
             pos,
             byte,
             s,
@@ -183,14 +183,14 @@ fn advance_range(
     run: &mut [u32],
     history: &[u8],
     flag: u8,
-    depth: usize,
+    bound: usize,
     pos: &[u64; 5],
     byte: &[u8; 5],
     s: u64,
     t: u64,
 ) -> Outcome
-    requires { ⌜ (node < 768) × Fit (range-node (bound-at (now nodes) (node + 1)) (bound-at (now nodes) (node + 4)) (getD (now nodes) (node + 8) 0) (tree-at left (now nodes) (node + 12))) (variables-of depth (now pos) (now byte)) t (length (now run)) ⌝ }
-    ensures { λ r. ⌜ Advanced (range-node (bound-at (now (nodes .entry)) (node + 1)) (bound-at (now (nodes .entry)) (node + 4)) (getD (now (nodes .entry)) (node + 8) 0) (tree-at left (now (nodes .entry)) (node + 12))) (now (history .entry)) flag (variables-of depth (now (pos .entry)) (now (byte .entry))) s t (now (run .entry)) r (now (run .exit)) ⌝ }
+    requires { ⌜ (node < 768) × Fit (range-node (bound-at (now nodes) (node + 1)) (bound-at (now nodes) (node + 4)) (getD (now nodes) (node + 8) 0) (tree-at left (now nodes) (node + 12))) (variables-of bound (now pos) (now byte)) t (length (now run)) ⌝ }
+    ensures { λ r. ⌜ Advanced (range-node (bound-at (now (nodes .entry)) (node + 1)) (bound-at (now (nodes .entry)) (node + 4)) (getD (now (nodes .entry)) (node + 8) 0) (tree-at left (now (nodes .entry)) (node + 12))) (now (history .entry)) flag (variables-of bound (now (pos .entry)) (now (byte .entry))) s t (now (run .entry)) r (now (run .exit)) ⌝ }
 {
     let size = node_word(nodes, node, SLOT_WORDS) as usize;
     let span = ranges::range_at(nodes, node, pos);
@@ -207,7 +207,7 @@ fn advance_range(
         &mut run[CELL_WORDS..],
         history,
         flag,
-        depth,
+        bound,
         pos,
         byte,
         s,
@@ -230,14 +230,14 @@ fn advance_then(
     run: &mut [u32],
     history: &[u8],
     flag: u8,
-    depth: usize,
+    bound: usize,
     pos: &[u64; 5],
     byte: &[u8; 5],
     s: u64,
     t: u64,
 ) -> Outcome
-    requires { ⌜ (node < 768) × Fit (then-node (tree-at left (now nodes) (node + 12)) (tree-at left (now nodes) (getD (now nodes) (node + 7) 0))) (variables-of depth (now pos) (now byte)) t (length (now run)) ⌝ }
-    ensures { λ r. ⌜ Advanced (then-node (tree-at left (now (nodes .entry)) (node + 12)) (tree-at left (now (nodes .entry)) (getD (now (nodes .entry)) (node + 7) 0))) (now (history .entry)) flag (variables-of depth (now (pos .entry)) (now (byte .entry))) s t (now (run .entry)) r (now (run .exit)) ⌝ }
+    requires { ⌜ (node < 768) × Fit (then-node (tree-at left (now nodes) (node + 12)) (tree-at left (now nodes) (getD (now nodes) (node + 7) 0))) (variables-of bound (now pos) (now byte)) t (length (now run)) ⌝ }
+    ensures { λ r. ⌜ Advanced (then-node (tree-at left (now (nodes .entry)) (node + 12)) (tree-at left (now (nodes .entry)) (getD (now (nodes .entry)) (node + 7) 0))) (now (history .entry)) flag (variables-of bound (now (pos .entry)) (now (byte .entry))) s t (now (run .entry)) r (now (run .exit)) ⌝ }
 {
     let length = run.len();
     let outcome = advance_part(
@@ -250,7 +250,7 @@ fn advance_then(
         length,
         history,
         flag,
-        depth,
+        bound,
         pos,
         byte,
         s,
@@ -269,7 +269,7 @@ fn advance_then(
                     &mut run[CELL_WORDS..],
                     history,
                     flag,
-                    depth,
+                    bound,
                     pos,
                     byte,
                     step,
@@ -288,14 +288,14 @@ fn advance_beside(
     run: &mut [u32],
     history: &[u8],
     flag: u8,
-    depth: usize,
+    bound: usize,
     pos: &[u64; 5],
     byte: &[u8; 5],
     s: u64,
     t: u64,
 ) -> Outcome
-    requires { ⌜ (node < 768) × Fit (beside-node (getD (now nodes) (node + 9) 0) (tree-at left (now nodes) (node + 12)) (tree-at left (now nodes) (getD (now nodes) (node + 7) 0))) (variables-of depth (now pos) (now byte)) t (length (now run)) ⌝ }
-    ensures { λ r. ⌜ Advanced (beside-node (getD (now (nodes .entry)) (node + 9) 0) (tree-at left (now (nodes .entry)) (node + 12)) (tree-at left (now (nodes .entry)) (getD (now (nodes .entry)) (node + 7) 0))) (now (history .entry)) flag (variables-of depth (now (pos .entry)) (now (byte .entry))) s t (now (run .entry)) r (now (run .exit)) ⌝ }
+    requires { ⌜ (node < 768) × Fit (beside-node (getD (now nodes) (node + 9) 0) (tree-at left (now nodes) (node + 12)) (tree-at left (now nodes) (getD (now nodes) (node + 7) 0))) (variables-of bound (now pos) (now byte)) t (length (now run)) ⌝ }
+    ensures { λ r. ⌜ Advanced (beside-node (getD (now (nodes .entry)) (node + 9) 0) (tree-at left (now (nodes .entry)) (node + 12)) (tree-at left (now (nodes .entry)) (getD (now (nodes .entry)) (node + 7) 0))) (now (history .entry)) flag (variables-of bound (now (pos .entry)) (now (byte .entry))) s t (now (run .entry)) r (now (run .exit)) ⌝ }
 {
     let length = run.len();
     let mid = CELL_WORDS + node_word(nodes, node, FIRST_WORDS) as usize;
@@ -309,7 +309,7 @@ fn advance_beside(
         mid,
         history,
         flag,
-        depth,
+        bound,
         pos,
         byte,
         s,
@@ -329,7 +329,7 @@ fn advance_beside(
         length,
         history,
         flag,
-        depth,
+        bound,
         pos,
         byte,
         s,
@@ -346,14 +346,14 @@ fn advance_not(
     run: &mut [u32],
     history: &[u8],
     flag: u8,
-    depth: usize,
+    bound: usize,
     pos: &[u64; 5],
     byte: &[u8; 5],
     s: u64,
     t: u64,
 ) -> Outcome
-    requires { ⌜ (left ≡ 0 → ⊥) × ((getD (now nodes) (node + 0) 0 ≡ 2) × Fit (tree-at left (now nodes) node) (variables-of depth (now pos) (now byte)) t (length (now run))) ⌝ }
-    ensures { λ r. ⌜ Advanced (tree-at left (now (nodes .entry)) node) (now (history .entry)) flag (variables-of depth (now (pos .entry)) (now (byte .entry))) s t (now (run .entry)) r (now (run .exit)) ⌝ }
+    requires { ⌜ (left ≡ 0 → ⊥) × ((getD (now nodes) (node + 0) 0 ≡ 2) × Fit (tree-at left (now nodes) node) (variables-of bound (now pos) (now byte)) t (length (now run))) ⌝ }
+    ensures { λ r. ⌜ Advanced (tree-at left (now (nodes .entry)) node) (now (history .entry)) flag (variables-of bound (now (pos .entry)) (now (byte .entry))) s t (now (run .entry)) r (now (run .exit)) ⌝ }
 {
     let under = skip_nots(nodes, left, node);
     let outcome = advance(
@@ -363,7 +363,7 @@ fn advance_not(
         run,
         history,
         flag,
-        depth,
+        bound,
         pos,
         byte,
         s,
@@ -380,14 +380,14 @@ fn advance(
     run: &mut [u32],
     history: &[u8],
     flag: u8,
-    depth: usize,
+    bound: usize,
     pos: &[u64; 5],
     byte: &[u8; 5],
     s: u64,
     t: u64,
 ) -> Outcome
-    requires { ⌜ Fit (tree-at left (now nodes) node) (variables-of depth (now pos) (now byte)) t (length (now run)) ⌝ }
-    ensures { λ r. ⌜ Advanced (tree-at left (now (nodes .entry)) node) (now (history .entry)) flag (variables-of depth (now (pos .entry)) (now (byte .entry))) s t (now (run .entry)) r (now (run .exit)) ⌝ }
+    requires { ⌜ Fit (tree-at left (now nodes) node) (variables-of bound (now pos) (now byte)) t (length (now run)) ⌝ }
+    ensures { λ r. ⌜ Advanced (tree-at left (now (nodes .entry)) node) (now (history .entry)) flag (variables-of bound (now (pos .entry)) (now (byte .entry))) s t (now (run .entry)) r (now (run .exit)) ⌝ }
 {
     if is_flag(nodes, left, node) {
         return flag_in(nodes, node, byte, s);
@@ -401,7 +401,7 @@ fn advance(
             run,
             history,
             flag,
-            depth,
+            bound,
             pos,
             byte,
             s,
@@ -416,7 +416,7 @@ fn advance(
             run,
             history,
             flag,
-            depth,
+            bound,
             pos,
             byte,
             s,
@@ -431,7 +431,7 @@ fn advance(
             run,
             history,
             flag,
-            depth,
+            bound,
             pos,
             byte,
             s,
@@ -445,7 +445,7 @@ fn advance(
         run,
         history,
         flag,
-        depth,
+        bound,
         pos,
         byte,
         s,
