@@ -49,8 +49,8 @@ extern "C" {
 
 #define SW_VERSION_MAJOR 0
 #define SW_VERSION_MINOR 4
-#define SW_VERSION_PATCH 3
-#define SW_VERSION "0.4.3"
+#define SW_VERSION_PATCH 4
+#define SW_VERSION "0.4.4"
 
 /* ---- Refusals: the sentence that sw_sentence writes, and what to do ---- */
 

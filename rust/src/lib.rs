@@ -62,7 +62,7 @@ mod watch;
 /// The version of this crate, which is that of the library.
 ///
 /// ```
-/// assert_eq!(station_watch::VERSION, "0.4.3");
+/// assert_eq!(station_watch::VERSION, "0.4.4");
 /// ```
 pub const VERSION: &str = env!("CARGO_PKG_VERSION");
 
