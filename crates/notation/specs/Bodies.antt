@@ -15,118 +15,118 @@ use Rattle.notation.specs.Reading.{Joint, then-joint, beside-joint, read
 
 -- A name's variable plus 1, or 0 where it is bound nowhere; "an inner name may hide an outer one".
 unfoldable pub seek : List (List ℕ) → List ℕ → ℕ
-seek [] n = 0
-seek (m ∷ scope) n = cond (same m n) (suc (length scope)) (seek scope n)
+seek [] name = 0
+seek (inner ∷ scope) name = cond (same inner name) (suc (length scope)) (seek scope name)
 
 unfoldable pub is-bound : List (List ℕ) → List ℕ → Bool
-is-bound scope n = leb 1 (seek scope n)
+is-bound scope name = leb 1 (seek scope name)
 
 -- A variable's byte. (A text of 4,096 bytes has fewer than 256 variables in scope.)
 unfoldable pub variable-byte : List (List ℕ) → List ℕ → ℕ
-variable-byte scope n = (seek scope n - 1) % 256
+variable-byte scope name = (seek scope name - 1) % 256
 
 -- ---- offsets
 
 -- The number that digits say, in 16 bits. (Four digits always fit.)
 unfoldable pub value-on : ℕ → List ℕ → ℕ
-value-on n [] = n
-value-on n (c ∷ d) = value-on ((n * 10 + (c - 48)) % 65536) d
+value-on number [] = number
+value-on number (digit ∷ digits) = value-on ((number * 10 + (digit - 48)) % 65536) digits
 
 unfoldable pub offset-word : Offset → ℕ
 offset-word nothing = 0
-offset-word (plus d) = value-on 0 d
-offset-word (minus d) = (65536 - value-on 0 d) % 65536
+offset-word (plus digits) = value-on 0 digits
+offset-word (minus digits) = (65536 - value-on 0 digits) % 65536
 
 -- ---- bytes
 
 unfoldable pub base-bytes : List (List ℕ) → Base → List ℕ
 base-bytes scope origin = 0 ∷ 0 ∷ []
 base-bytes scope infinity = 1 ∷ 0 ∷ []
-base-bytes scope (position n) = 2 ∷ variable-byte scope n ∷ []
+base-bytes scope (position name) = 2 ∷ variable-byte scope name ∷ []
 
 unfoldable pub word-bytes : ℕ → List ℕ
-word-bytes w = (w % 256) ∷ (w / 256 % 256) ∷ []
+word-bytes word = (word % 256) ∷ (word / 256 % 256) ∷ []
 
 unfoldable pub end-bytes : List (List ℕ) → End → List ℕ
-end-bytes scope (end b o) = base-bytes scope b ++ word-bytes (offset-word o)
+end-bytes scope (end base offset) = base-bytes scope base ++ word-bytes (offset-word offset)
 
 unfoldable pub flag-bytes : List (List ℕ) → List ℕ → ℕ → List ℕ
-flag-bytes scope n k = 1 ∷ variable-byte scope n ∷ (k - 48) ∷ []
+flag-bytes scope name digit = 1 ∷ variable-byte scope name ∷ (digit - 48) ∷ []
 
 unfoldable pub forall-bytes : List (List ℕ) → End → End → List ℕ
-forall-bytes scope A B = 5 ∷ (end-bytes scope A ++ end-bytes scope B)
+forall-bytes scope first second = 5 ∷ (end-bytes scope first ++ end-bytes scope second)
 
 abbrev pub joint-code : Joint → ℕ
 joint-code then-joint = 3
 joint-code beside-joint = 4
 
 unfoldable pub formula-bytes : List (List ℕ) → Named → List ℕ
-formula-bytes scope (flag n k) = flag-bytes scope n k
+formula-bytes scope (flag name digit) = flag-bytes scope name digit
 formula-bytes scope (negate F) = 2 ∷ formula-bytes scope F
 formula-bytes scope (then F G) = 3 ∷ (formula-bytes scope F ++ formula-bytes scope G)
 formula-bytes scope (beside F G) = 4 ∷ (formula-bytes scope F ++ formula-bytes scope G)
-formula-bytes scope (forall n A B F) = forall-bytes scope A B ++ formula-bytes (n ∷ scope) F
+formula-bytes scope (forall name first second F) = forall-bytes scope first second ++ formula-bytes (name ∷ scope) F
 
 -- ---- which names are bound
 
 unfoldable pub base-bound : List (List ℕ) → Base → Bool
 base-bound scope origin = true
 base-bound scope infinity = true
-base-bound scope (position n) = is-bound scope n
+base-bound scope (position name) = is-bound scope name
 
 unfoldable pub end-bound : List (List ℕ) → End → Bool
-end-bound scope (end b o) = base-bound scope b
+end-bound scope (end base offset) = base-bound scope base
 
 unfoldable pub all-bound : List (List ℕ) → Named → Bool
-all-bound scope (flag n k) = is-bound scope n
+all-bound scope (flag name digit) = is-bound scope name
 all-bound scope (negate F) = all-bound scope F
 all-bound scope (then F G) = all-bound scope F && all-bound scope G
 all-bound scope (beside F G) = all-bound scope F && all-bound scope G
-all-bound scope (forall n A B F) = (end-bound scope A && end-bound scope B) && all-bound (n ∷ scope) F
+all-bound scope (forall name first second F) = (end-bound scope first && end-bound scope second) && all-bound (name ∷ scope) F
 
 -- ---- the body: "misspelt text .. is 25 and an unbound name 26, in this order; then 01's refusals 4 to 10 .. apply to the result, and last 22
 -- if the lent buffer is shorter than the body"
 
 -- Bytes, if all names are bound.
 abbrev pub if-bound : Bool → List ℕ → Answer (List ℕ)
-if-bound u b = cond u (accepted b) (refused 26)
+if-bound resolved bytes = cond resolved (accepted bytes) (refused 26)
 
 unfoldable pub named-body : Rule → Answer (List ℕ)
-named-body (monitor n F) = if-bound (all-bound (n ∷ []) F) (formula-bytes (n ∷ []) F)
+named-body (monitor name F) = if-bound (all-bound (name ∷ []) F) (formula-bytes (name ∷ []) F)
 
 -- The body's bytes, before 01's refusals.
 unfoldable pub translated : List ℕ → Answer (List ℕ)
-translated s = and-then (reading s) named-body
+translated text = and-then (reading text) named-body
 
 unfoldable pub checked : List ℕ → Answer (List ℕ)
-checked b = and-then (body b) (λ F. accepted b)
+checked bytes = and-then (body bytes) (λ F. accepted bytes)
 
 unfoldable pub fitted : ℕ → List ℕ → Answer (List ℕ)
-fitted room b = cond (leb (length b) room) (accepted b) (refused 22)
+fitted room bytes = cond (leb (length bytes) room) (accepted bytes) (refused 22)
 
 unfoldable pub body-of-text : List ℕ → ℕ → Answer (List ℕ)
-body-of-text s room = and-then (and-then (translated s) checked) (fitted room)
+body-of-text text room = and-then (and-then (translated text) checked) (fitted room)
 
 -- ---- the texts that are 25 and 26, said by `Reads` alone
 
 -- Longer than a text may be, or without a reading.
 abbrev pub Misspelt : List ℕ → Type 0
-Misspelt s = (4096 < length s) ⊎ ((N : Rule) → Reads s N → ⊥)
+Misspelt text = (4096 < length text) ⊎ ((rule : Rule) → Reads text rule → ⊥)
 
 -- With a reading in which some name is not bound.
 abbrev pub Unbound : List ℕ → Type 0
-Unbound s = (n : List ℕ) × (F : Named) × (length s ≤ 4096) × Reads s (monitor n F) × (all-bound (n ∷ []) F ≡ false)
+Unbound text = (name : List ℕ) × (F : Named) × (length text ≤ 4096) × Reads text (monitor name F) × (all-bound (name ∷ []) F ≡ false)
 
 -- ---- what is answered and what the lent buffer holds then: "if the lent buffer is shorter than the body, whose length is answered; bytes
 -- after it keep their content"
 
 abbrev pub length-of : Answer (List ℕ) → Answer ℕ
-length-of (refused n) = refused n
-length-of (accepted b) = accepted (length b)
+length-of (refused number) = refused number
+length-of (accepted bytes) = accepted (length bytes)
 
 abbrev pub buffer-with : Answer (List ℕ) → List ℕ → List ℕ
-buffer-with answer out = or-kept (λ b. b ++ drop (length b) out) answer out
+buffer-with answer out = or-kept (λ bytes. bytes ++ drop (length bytes) out) answer out
 
--- The promise of whoever writes x into a lent buffer `out` and answers r.
+-- The promise of whoever writes `content` into a lent buffer `out`, and gives `answer`.
 abbrev pub Writes : Answer (List ℕ) → Answer ℕ → List ℕ → List ℕ → Type 0
-Writes x r out out′ = (r ≡ length-of x) × (out′ ≡ buffer-with x out)
+Writes content answer out out′ = (answer ≡ length-of content) × (out′ ≡ buffer-with content out)

@@ -79,36 +79,37 @@ then-sign = 32 ∷ 38 ∷ 38 ∷ 32 ∷ []
 abbrev pub beside-sign : List ℕ
 beside-sign = 32 ∷ 47 ∷ 92 ∷ 32 ∷ []
 
--- ---- the text of a rule, "single blanks as shown". Each part's text is followed by the text `r`.
+-- ---- the text of a rule, "single blanks as shown". Each part's text is followed by the text `rest`.
 
 unfoldable pub base-text : Base → List ℕ → List ℕ
-base-text origin r = 48 ∷ r  -- 0
-base-text infinity r = infinity-word ++ r
-base-text (position n) r = n ++ r
+base-text origin rest = 48 ∷ rest  -- 0
+base-text infinity rest = infinity-word ++ rest
+base-text (position name) rest = name ++ rest
 
 unfoldable pub offset-text : Offset → List ℕ → List ℕ
-offset-text nothing r = r
-offset-text (plus d) r = 43 ∷ (d ++ r)  -- +
-offset-text (minus d) r = 45 ∷ (d ++ r)  -- -
+offset-text nothing rest = rest
+offset-text (plus digits) rest = 43 ∷ (digits ++ rest)  -- +
+offset-text (minus digits) rest = 45 ∷ (digits ++ rest)  -- -
 
 unfoldable pub end-text : End → List ℕ → List ℕ
-end-text (end b o) r = base-text b (offset-text o r)
+end-text (end base offset) rest = base-text base (offset-text offset rest)
 
 unfoldable pub formula-text : Named → List ℕ → List ℕ
-formula-text (flag n k) r = 64 ∷ (n ++ (46 ∷ k ∷ r))  -- @n.k
-formula-text (negate F) r = 126 ∷ formula-text F r  -- ~F
-formula-text (then F G) r = 40 ∷ formula-text F (then-sign ++ formula-text G (41 ∷ r))  -- (F && G)
-formula-text (beside F G) r = 40 ∷ formula-text F (beside-sign ++ formula-text G (41 ∷ r))  -- (F /\ G)
-formula-text (forall n A B F) r = forall-sign ++ (n ++ (in-sign ++ end-text A (to-sign ++ end-text B (colon-sign ++ formula-text F r))))
+formula-text (flag name digit) rest = 64 ∷ (name ++ (46 ∷ digit ∷ rest))  -- @name.digit
+formula-text (negate F) rest = 126 ∷ formula-text F rest  -- ~F
+formula-text (then F G) rest = 40 ∷ formula-text F (then-sign ++ formula-text G (41 ∷ rest))  -- (F && G)
+formula-text (beside F G) rest = 40 ∷ formula-text F (beside-sign ++ formula-text G (41 ∷ rest))  -- (F /\ G)
+formula-text (forall name first second F) rest =
+    forall-sign ++ (name ++ (in-sign ++ end-text first (to-sign ++ end-text second (colon-sign ++ formula-text F rest))))
 
 -- "The whole is "monitor x : F""
 unfoldable pub text : Rule → List ℕ
-text (monitor n F) = monitor-sign ++ (n ++ (colon-sign ++ formula-text F []))
+text (monitor name F) = monitor-sign ++ (name ++ (colon-sign ++ formula-text F []))
 
 -- ---- which rules are spelt
 
 unfoldable pub between : ℕ → ℕ → ℕ → Bool
-between lo hi c = leb lo c && leb c hi
+between lo hi byte = leb lo byte && leb byte hi
 
 abbrev pub letter : ℕ → Bool
 letter = between 97 122
@@ -117,51 +118,51 @@ abbrev pub digit : ℕ → Bool
 digit = between 48 57
 
 unfoldable pub all : (ℕ → Bool) → List ℕ → Bool
-all p [] = true
-all p (c ∷ s) = p c && all p s
+all test [] = true
+all test (byte ∷ rest) = test byte && all test rest
 
 unfoldable pub same : List ℕ → List ℕ → Bool
 same [] [] = true
-same [] (d ∷ t) = false
-same (c ∷ s) [] = false
-same (c ∷ s) (d ∷ t) = eqb c d && same s t
+same [] (byte ∷ rest) = false
+same (byte ∷ rest) [] = false
+same (byte ∷ rest) (other ∷ others) = eqb byte other && same rest others
 
 -- "The words monitor, forall, in and infinity are no names."
 unfoldable pub reserved : List ℕ → Bool
-reserved n = same n monitor-word || (same n forall-word || (same n in-word || same n infinity-word))
+reserved name = same name monitor-word || (same name forall-word || (same name in-word || same name infinity-word))
 
 -- "names of 1 to 8 lower-case letters"
 unfoldable pub is-name : List ℕ → Bool
-is-name n = all letter n && (leb 1 (length n) && (leb (length n) 8 && not (reserved n)))
+is-name name = all letter name && (leb 1 (length name) && (leb (length name) 8 && not (reserved name)))
 
 -- "Offsets have 1 to 4 decimal digits"
 unfoldable pub is-numeral : List ℕ → Bool
-is-numeral d = all digit d && (leb 1 (length d) && leb (length d) 4)
+is-numeral digits = all digit digits && (leb 1 (length digits) && leb (length digits) 4)
 
 abbrev pub SpeltBase : Base → Type 0
 SpeltBase origin = Unit {0}
 SpeltBase infinity = Unit {0}
-SpeltBase (position n) = is-name n ≡ true
+SpeltBase (position name) = is-name name ≡ true
 
 abbrev pub SpeltOffset : Offset → Type 0
 SpeltOffset nothing = Unit {0}
-SpeltOffset (plus d) = is-numeral d ≡ true
-SpeltOffset (minus d) = is-numeral d ≡ true
+SpeltOffset (plus digits) = is-numeral digits ≡ true
+SpeltOffset (minus digits) = is-numeral digits ≡ true
 
 abbrev pub SpeltEnd : End → Type 0
-SpeltEnd (end b o) = SpeltBase b × SpeltOffset o
+SpeltEnd (end base offset) = SpeltBase base × SpeltOffset offset
 
 -- ".. and a flag has one" digit.
 abbrev pub Spelt : Named → Type 0
-Spelt (flag n k) = (is-name n ≡ true) × (digit k ≡ true)
+Spelt (flag name byte) = (is-name name ≡ true) × (digit byte ≡ true)
 Spelt (negate F) = Spelt F
 Spelt (then F G) = Spelt F × Spelt G
 Spelt (beside F G) = Spelt F × Spelt G
-Spelt (forall n A B F) = (is-name n ≡ true) × SpeltEnd A × SpeltEnd B × Spelt F
+Spelt (forall name first second F) = (is-name name ≡ true) × SpeltEnd first × SpeltEnd second × Spelt F
 
 abbrev pub SpeltRule : Rule → Type 0
-SpeltRule (monitor n F) = (is-name n ≡ true) × Spelt F
+SpeltRule (monitor name F) = (is-name name ≡ true) × Spelt F
 
 -- A reading of a text: a rule that is spelt and has this text.
 abbrev pub Reads : List ℕ → Rule → Type 0
-Reads s N = SpeltRule N × (text N ≡ s)
+Reads bytes rule = SpeltRule rule × (text rule ≡ bytes)

@@ -17,20 +17,20 @@ variable-name zero = 120 ∷ []
 variable-name (suc zero) = 121 ∷ []
 variable-name (suc (suc zero)) = 122 ∷ []
 variable-name (suc (suc (suc zero))) = 117 ∷ []
-variable-name (suc (suc (suc (suc v)))) = 118 ∷ []
+variable-name (suc (suc (suc (suc above)))) = 118 ∷ []
 
 -- ---- offsets: none for 0, else the sign and the digits with no 0 before them
 
 -- The digit worth 1, 10, 100 or 1,000.
 abbrev pub digit-of : ℕ → ℕ → ℕ
-digit-of n worth = 48 + n / worth % 10
+digit-of number worth = 48 + number / worth % 10
 
 unfoldable pub digits : ℕ → List ℕ
-digits n =
-    cond (ltb n 10) (digit-of n 1 ∷ [])
-    (cond (ltb n 100) (digit-of n 10 ∷ digit-of n 1 ∷ [])
-    (cond (ltb n 1000) (digit-of n 100 ∷ digit-of n 10 ∷ digit-of n 1 ∷ [])
-    (digit-of n 1000 ∷ digit-of n 100 ∷ digit-of n 10 ∷ digit-of n 1 ∷ [])))
+digits number =
+    cond (ltb number 10) (digit-of number 1 ∷ [])
+    (cond (ltb number 100) (digit-of number 10 ∷ digit-of number 1 ∷ [])
+    (cond (ltb number 1000) (digit-of number 100 ∷ digit-of number 10 ∷ digit-of number 1 ∷ [])
+    (digit-of number 1000 ∷ digit-of number 100 ∷ digit-of number 10 ∷ digit-of number 1 ∷ [])))
 
 unfoldable pub offset-named : ℤ → Offset
 offset-named (pos zero) = nothing
@@ -40,21 +40,21 @@ offset-named (negsuc n) = minus (digits (suc n))
 -- ---- bounds, formulas and the rule
 
 unfoldable pub end-named : Bound → End
-end-named (plain.origin z) = end origin (offset-named z)
+end-named (plain.origin offset) = end origin (offset-named offset)
 end-named plain.infinity = end infinity nothing
-end-named (plain.variable v z) = end (position (variable-name v)) (offset-named z)
+end-named (plain.variable variable offset) = end (position (variable-name variable)) (offset-named offset)
 
--- A formula inside m quantifiers.
+-- A formula inside `depth` quantifiers.
 unfoldable pub named : ℕ → Formula → Named
-named m (plain.flag v k) = flag (variable-name v) (48 + k)
-named m (plain.negate F) = negate (named m F)
-named m (plain.then F G) = then (named m F) (named m G)
-named m (plain.beside F G) = beside (named m F) (named m G)
-named m (plain.forall A B F) = forall (variable-name (suc m)) (end-named A) (end-named B) (named (suc m) F)
+named depth (plain.flag variable k) = flag (variable-name variable) (48 + k)
+named depth (plain.negate F) = negate (named depth F)
+named depth (plain.then F G) = then (named depth F) (named depth G)
+named depth (plain.beside F G) = beside (named depth F) (named depth G)
+named depth (plain.forall B₁ B₂ F) = forall (variable-name (suc depth)) (end-named B₁) (end-named B₂) (named (suc depth) F)
 
 unfoldable pub rule-named : Formula → Rule
 rule-named F = monitor (variable-name 0) (named 0 F)
 
 -- A body's text: 01's refusals of the body, and last 22 if the lent buffer is shorter than the text.
 unfoldable pub text-of-body : List ℕ → ℕ → Answer (List ℕ)
-text-of-body b room = and-then (body b) (λ F. fitted room (text (rule-named F)))
+text-of-body bytes room = and-then (body bytes) (λ F. fitted room (text (rule-named F)))

@@ -14,48 +14,48 @@ pub data Got (A : Type 0) : Type 0 where
 
 unfoldable pub and-read : {A B : Type 0} → Got A → (A → List ℕ → Got B) → Got B
 and-read none next = none
-and-read (got a s) next = next a s
+and-read (got value rest) next = next value rest
 
 unfoldable pub starts : List ℕ → List ℕ → Bool
-starts [] s = true
-starts (w ∷ ws) [] = false
-starts (w ∷ ws) (c ∷ s) = eqb c w && starts ws s
+starts [] text = true
+starts (first ∷ word) [] = false
+starts (first ∷ word) (byte ∷ rest) = eqb byte first && starts word rest
 
 -- A fixed word, and what is read after it.
 unfoldable pub expect : {A : Type 0} → List ℕ → List ℕ → (List ℕ → Got A) → Got A
-expect w s next = cond (starts w s) (next (drop (length w) s)) none
+expect word text next = cond (starts word text) (next (drop (length word) text)) none
 
 -- The longest start of a text whose bytes pass a test, and the text after it.
 unfoldable pub run : (ℕ → Bool) → List ℕ → List ℕ
-run p [] = []
-run p (c ∷ s) = cond (p c) (c ∷ run p s) []
+run test [] = []
+run test (byte ∷ rest) = cond (test byte) (byte ∷ run test rest) []
 
 unfoldable pub past : (ℕ → Bool) → List ℕ → List ℕ
-past p [] = []
-past p (c ∷ s) = cond (p c) (past p s) (c ∷ s)
+past test [] = []
+past test (byte ∷ rest) = cond (test byte) (past test rest) (byte ∷ rest)
 
 unfoldable pub read-name : List ℕ → Got (List ℕ)
-read-name s = cond (is-name (run letter s)) (got (run letter s) (past letter s)) none
+read-name text = cond (is-name (run letter text)) (got (run letter text) (past letter text)) none
 
 unfoldable pub read-numeral : List ℕ → Got (List ℕ)
-read-numeral s = cond (is-numeral (run digit s)) (got (run digit s) (past digit s)) none
+read-numeral text = cond (is-numeral (run digit text)) (got (run digit text) (past digit text)) none
 
 unfoldable pub one-digit : List ℕ → Got ℕ
 one-digit [] = none
-one-digit (c ∷ s) = cond (digit c) (got c s) none
+one-digit (byte ∷ rest) = cond (digit byte) (got byte rest) none
 
 unfoldable pub read-base : List ℕ → Got Base
-read-base s =
-    cond (starts (48 ∷ []) s) (got origin (drop 1 s))
-    (cond (same (run letter s) infinity-word) (got infinity (past letter s)) (and-read (read-name s) (λ n t. got (position n) t)))
+read-base text =
+    cond (starts (48 ∷ []) text) (got origin (drop 1 text))
+    (cond (same (run letter text) infinity-word) (got infinity (past letter text)) (and-read (read-name text) (λ name rest. got (position name) rest)))
 
 unfoldable pub read-offset : List ℕ → Got Offset
-read-offset s =
-    cond (starts (43 ∷ []) s) (and-read (read-numeral (drop 1 s)) (λ d t. got (plus d) t))
-    (cond (starts (45 ∷ []) s) (and-read (read-numeral (drop 1 s)) (λ d t. got (minus d) t)) (got nothing s))
+read-offset text =
+    cond (starts (43 ∷ []) text) (and-read (read-numeral (drop 1 text)) (λ digits rest. got (plus digits) rest))
+    (cond (starts (45 ∷ []) text) (and-read (read-numeral (drop 1 text)) (λ digits rest. got (minus digits) rest)) (got nothing text))
 
 unfoldable pub read-end : List ℕ → Got End
-read-end s = and-read (read-base s) (λ b t. and-read (read-offset t) (λ o u. got (end b o) u))
+read-end text = and-read (read-base text) (λ base after. and-read (read-offset after) (λ offset rest. got (end base offset) rest))
 
 -- A formula's text before its first part.
 pub data Token : Type 0 where
@@ -66,39 +66,39 @@ pub data Token : Type 0 where
 
 -- After "@": a name, ".", a digit.
 unfoldable pub flag-digit : List ℕ → List ℕ → Got Token
-flag-digit n s = and-read (one-digit s) (λ k t. got (flag-token n k) t)
+flag-digit name text = and-read (one-digit text) (λ digit rest. got (flag-token name digit) rest)
 
 unfoldable pub flag-point : List ℕ → List ℕ → Got Token
-flag-point n s = expect (46 ∷ []) s (flag-digit n)
+flag-point name text = expect (46 ∷ []) text (flag-digit name)
 
 unfoldable pub read-flag : List ℕ → Got Token
-read-flag s = and-read (read-name s) flag-point
+read-flag text = and-read (read-name text) flag-point
 
 -- After "forall ": a name, " in ", a bound, "..", a bound, " : ".
 unfoldable pub forall-colon : List ℕ → End → End → List ℕ → Got Token
-forall-colon n A B s = expect colon-sign s (λ t. got (forall-token n A B) t)
+forall-colon name first second text = expect colon-sign text (λ rest. got (forall-token name first second) rest)
 
 unfoldable pub forall-second : List ℕ → End → List ℕ → Got Token
-forall-second n A s = and-read (read-end s) (forall-colon n A)
+forall-second name first text = and-read (read-end text) (forall-colon name first)
 
 unfoldable pub forall-to : List ℕ → End → List ℕ → Got Token
-forall-to n A s = expect to-sign s (forall-second n A)
+forall-to name first text = expect to-sign text (forall-second name first)
 
 unfoldable pub forall-first : List ℕ → List ℕ → Got Token
-forall-first n s = and-read (read-end s) (forall-to n)
+forall-first name text = and-read (read-end text) (forall-to name)
 
 unfoldable pub forall-range : List ℕ → List ℕ → Got Token
-forall-range n s = expect in-sign s (forall-first n)
+forall-range name text = expect in-sign text (forall-first name)
 
 unfoldable pub read-forall : List ℕ → Got Token
-read-forall s = and-read (read-name s) forall-range
+read-forall text = and-read (read-name text) forall-range
 
 unfoldable pub read-token : List ℕ → Got Token
-read-token s =
-    cond (starts (64 ∷ []) s) (read-flag (drop 1 s))
-    (cond (starts (126 ∷ []) s) (got negate-token (drop 1 s))
-    (cond (starts (40 ∷ []) s) (got open-token (drop 1 s))
-    (expect forall-sign s read-forall)))
+read-token text =
+    cond (starts (64 ∷ []) text) (read-flag (drop 1 text))
+    (cond (starts (126 ∷ []) text) (got negate-token (drop 1 text))
+    (cond (starts (40 ∷ []) text) (got open-token (drop 1 text))
+    (expect forall-sign text read-forall)))
 
 -- The text between the parts in brackets.
 pub data Joint : Type 0 where
@@ -106,48 +106,48 @@ pub data Joint : Type 0 where
   beside-joint : Joint
 
 unfoldable pub joint : List ℕ → Got Joint
-joint s = cond (starts then-sign s) (got then-joint (drop 4 s)) (expect beside-sign s (λ t. got beside-joint t))
+joint text = cond (starts then-sign text) (got then-joint (drop 4 text)) (expect beside-sign text (λ rest. got beside-joint rest))
 
 unfoldable pub joined : Joint → Named → Named → Named
 joined then-joint F G = then F G
 joined beside-joint F G = beside F G
 
 unfoldable pub second : (List ℕ → Got Named) → Named → Joint → List ℕ → Got Named
-second part F j s = and-read (part s) (λ G t. expect (41 ∷ []) t (λ u. got (joined j F G) u))
+second part F connective text = and-read (part text) (λ G after. expect (41 ∷ []) after (λ rest. got (joined connective F G) rest))
 
 -- The parts, each read by `part`.
 unfoldable pub read-parts : (List ℕ → Got Named) → Token → List ℕ → Got Named
-read-parts part (flag-token n k) s = got (flag n k) s
-read-parts part negate-token s = and-read (part s) (λ F t. got (negate F) t)
-read-parts part open-token s = and-read (part s) (λ F t. and-read (joint t) (second part F))
-read-parts part (forall-token n A B) s = and-read (part s) (λ F t. got (forall n A B F) t)
+read-parts part (flag-token name digit) text = got (flag name digit) text
+read-parts part negate-token text = and-read (part text) (λ F rest. got (negate F) rest)
+read-parts part open-token text = and-read (part text) (λ F after. and-read (joint after) (second part F))
+read-parts part (forall-token name first second) text = and-read (part text) (λ F rest. got (forall name first second F) rest)
 
 -- The formula at the start of a text. The first number only makes the recursion end: it is above the text's length, so its 0 is never reached.
 unfoldable pub read-formula : ℕ → List ℕ → Got Named
-read-formula zero s = none
-read-formula (suc n) s = and-read (read-token s) (read-parts (read-formula n))
+read-formula zero text = none
+read-formula (suc fuel) text = and-read (read-token text) (read-parts (read-formula fuel))
 
 unfoldable pub formula-read : List ℕ → Got Named
-formula-read s = read-formula (suc (length s)) s
+formula-read text = read-formula (suc (length text)) text
 
 -- "monitor ", a name, " : ".
 unfoldable pub rule-colon : List ℕ → List ℕ → Got (List ℕ)
-rule-colon n s = expect colon-sign s (λ t. got n t)
+rule-colon name text = expect colon-sign text (λ rest. got name rest)
 
 unfoldable pub rule-name : List ℕ → Got (List ℕ)
-rule-name s = and-read (read-name s) rule-colon
+rule-name text = and-read (read-name text) rule-colon
 
 unfoldable pub rule-head : List ℕ → Got (List ℕ)
-rule-head s = expect monitor-sign s rule-name
+rule-head text = expect monitor-sign text rule-name
 
 unfoldable pub rule-at : List ℕ → Got Rule
-rule-at s = and-read (rule-head s) (λ n t. and-read (formula-read t) (λ F u. got (monitor n F) u))
+rule-at text = and-read (rule-head text) (λ name after. and-read (formula-read after) (λ F rest. got (monitor name F) rest))
 
 -- The whole text: "misspelt text, or text above 4,096 bytes, is 25".
 unfoldable pub whole-text : Got Rule → Answer Rule
 whole-text none = refused 25
-whole-text (got N []) = accepted N
-whole-text (got N (c ∷ s)) = refused 25
+whole-text (got rule []) = accepted rule
+whole-text (got rule (byte ∷ rest)) = refused 25
 
 unfoldable pub reading : List ℕ → Answer Rule
-reading s = cond (leb (length s) 4096) (whole-text (rule-at s)) (refused 25)
+reading text = cond (leb (length text) 4096) (whole-text (rule-at text)) (refused 25)
