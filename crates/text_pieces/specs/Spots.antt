@@ -10,29 +10,29 @@ use Rattle.text_pieces.specs.declared.pieces.Piece.the-variants.{Wrong, 
 
 -- Position 0 stands for nothing read.
 abbrev pub Found : {A : Type 0} → List ℕ → ℕ → Got A → Type 0
-Found s r none = r ≡ 0
-Found s r (got a t) = (1 ≤ r) × (r ≤ length s) × (t ≡ drop r s)
+Found text end none = end ≡ 0
+Found text end (got value rest) = (1 ≤ end) × (end ≤ length text) × (rest ≡ drop end text)
 
--- A flag whose name stands at a position, and a quantifier whose name stands there: x is what was read, and the text goes on at q.
-pub record FlagAt (s : List ℕ) (at q : ℕ) (x : Got Token) : Type 0 where
-  pub inside : q ≤ length s
+-- A flag whose name stands at a position, and a quantifier whose name stands there: `token` is what was read, and the text goes on at `end`.
+pub record FlagAt (text : List ℕ) (at end : ℕ) (token : Got Token) : Type 0 where
+  pub inside : end ≤ length text
   pub name : List ℕ
   pub digit : ℕ
-  pub is : x ≡ got (flag-token name digit) (drop q s)
-  pub named : read-flag (drop at s) ≡ got (flag-token name digit) (drop q s)
+  pub is : token ≡ got (flag-token name digit) (drop end text)
+  pub named : read-flag (drop at text) ≡ got (flag-token name digit) (drop end text)
 
-pub record ForallAt (s : List ℕ) (at q : ℕ) (x : Got Token) : Type 0 where
-  pub inside : q ≤ length s
+pub record ForallAt (text : List ℕ) (at end : ℕ) (token : Got Token) : Type 0 where
+  pub inside : end ≤ length text
   pub name : List ℕ
   pub first : End
   pub second : End
-  pub is : x ≡ got (forall-token name first second) (drop q s)
-  pub named : read-forall (drop at s) ≡ got (forall-token name first second) (drop q s)
+  pub is : token ≡ got (forall-token name first second) (drop end text)
+  pub named : read-forall (drop at text) ≡ got (forall-token name first second) (drop end text)
 
 -- The start of the formula at a position, and the position after it.
 abbrev pub Pieced : List ℕ → ℕ → Piece → Got Token → Type 0
-Pieced s at Wrong x = x ≡ none
-Pieced s at (Flag q) x = FlagAt s (at + 1) q x
-Pieced s at (Negate q) x = (q ≤ length s) × (x ≡ got negate-token (drop q s))
-Pieced s at (Open q) x = (q ≤ length s) × (x ≡ got open-token (drop q s))
-Pieced s at (Forall q) x = ForallAt s (at + 7) q x
+Pieced text at Wrong token = token ≡ none
+Pieced text at (Flag end) token = FlagAt text (at + 1) end token
+Pieced text at (Negate end) token = (end ≤ length text) × (token ≡ got negate-token (drop end text))
+Pieced text at (Open end) token = (end ≤ length text) × (token ≡ got open-token (drop end text))
+Pieced text at (Forall end) token = ForallAt text (at + 7) end token
