@@ -17,24 +17,24 @@ sign-text code = cond (eqb code 3) then-sign beside-sign
 
 -- What a quantifier has before its part.
 unfoldable pub range-text : List ℕ → End → End → List ℕ
-range-text n A B = forall-sign ++ (n ++ (in-sign ++ (end-text A [] ++ (to-sign ++ (end-text B [] ++ colon-sign)))))
+range-text name first second = forall-sign ++ (name ++ (in-sign ++ (end-text first [] ++ (to-sign ++ (end-text second [] ++ colon-sign)))))
 
--- .. of the quantifier at word i of the table, which binds variable v.
+-- .. of the quantifier at word `node` of the table, which binds `variable`.
 abbrev pub range-at : List ℕ → ℕ → ℕ → List ℕ
-range-at ns i v = range-text (variable-name v) (end-named (bound-at ns (i + 1))) (end-named (bound-at ns (i + 4)))
+range-at nodes node variable = range-text (variable-name variable) (end-named (bound-at nodes (node + 1))) (end-named (bound-at nodes (node + 4)))
 
 -- The formula at a place of the table.
 abbrev pub formula-there : List ℕ → Place → Formula
-formula-there ns p = formula-in (p .left) ns (p .depth) (p .node)
+formula-there nodes place = formula-in (place .left) nodes (place .depth) (place .node)
 
--- The place of a part of it: inside m quantifiers, at word i.
+-- The place of a part of it: inside `depth` quantifiers, at word `node`.
 abbrev pub part-place : Place → ℕ → ℕ → Place
-part-place p m i = record { left = p .left - 1; depth = m; node = i }
+part-place place depth node = record { left = place .left - 1; depth = depth; node = node }
 
 -- Its text is stored, if each of its flags has one digit.
-pub record Printed (ns : List ℕ) (p : Place) (old : List ℕ) (at : ℕ) (new : List ℕ) (next : ℕ) : Type 0 where
-  pub stored : FlagsFit (formula-there ns p) → Wrote (formula-text (named (p .depth) (formula-there ns p)) []) old at new next
+pub record Printed (nodes : List ℕ) (place : Place) (old : List ℕ) (at : ℕ) (new : List ℕ) (next : ℕ) : Type 0 where
+  pub stored : FlagsFit (formula-there nodes place) → Wrote (formula-text (named (place .depth) (formula-there nodes place)) []) old at new next
 
 -- The text of the rule whose table is filled.
 abbrev pub rule-text : List ℕ → List ℕ
-rule-text ns = text (rule-named (formula-in 64 ns 0 0))
+rule-text nodes = text (rule-named (formula-in 64 nodes 0 0))

@@ -7,11 +7,11 @@ use Rattle.notation.specs.Printing.{rule-named}
 
 -- Each flag has one digit: it is at most 7.
 unfoldable pub FlagsFit : Formula → Type 0
-FlagsFit (flag v k) = k ≤ 7
+FlagsFit (flag variable k) = k ≤ 7
 FlagsFit (negate F) = FlagsFit F
 FlagsFit (then F G) = FlagsFit F × FlagsFit G
 FlagsFit (beside F G) = FlagsFit F × FlagsFit G
-FlagsFit (forall B C F) = FlagsFit F
+FlagsFit (forall B₁ B₂ F) = FlagsFit F
 
 -- The text is no longer than a text may be, 4,096 bytes.
 pub record Writable (F : Formula) : Type 0 where
