@@ -7,16 +7,16 @@ use lib.Dec.{ltb}
 
 -- The decimal digits of a number that has at most so many, with no 0 in front.
 unfoldable pub numeral-within : ℕ → ℕ → List ℕ
-numeral-within zero n = []
-numeral-within (suc most) n = cond (ltb n 10) ((48 + n) ∷ []) (numeral-within most (n / 10) ++ ((48 + n % 10) ∷ []))
+numeral-within zero number = []
+numeral-within (suc most) number = cond (ltb number 10) ((48 + number) ∷ []) (numeral-within most (number / 10) ++ ((48 + number % 10) ∷ []))
 
 -- A number of 64 bits has at most 20.
 unfoldable pub decimal : ℕ → List ℕ
-decimal n = numeral-within 20 n
+decimal number = numeral-within 20 number
 
 -- A line with a word and a number added to it.
 unfoldable pub with-field : List ℕ → List ℕ → ℕ → List ℕ
-with-field line word n = (line ++ word) ++ decimal n
+with-field line word number = (line ++ word) ++ decimal number
 
 -- The words, in ASCII: the text in quotes.
 -- "refused "
