@@ -1,5 +1,6 @@
 // Which openings and steps are refused, and with which number: 17 to 21, in 01's order.
 ghost use mathlib.Core.Path.{_≡_};
+ghost use Prim.Native.Nat.{_-_, min};
 ghost use Rattle.refusal.specs.Answer.{and-then};
 ghost use Rattle.rule.specs.Figures.{body-figures};
 ghost use Rattle.figures.specs.Prepared.{figures-answer};
@@ -122,4 +123,12 @@ pub fn admit_step(
             fit
         }
     }
+}
+
+// How many of `count` flags can be taken from tick `tick` on before 20: before the tick numbers end.
+pub fn flags_left(count: usize, tick: u32) -> usize
+    ensures { λ r. ⌜ r ≡ min count (4294967295 - tick) ⌝ }
+{
+    let left = (LAST_TICK - tick) as usize;
+    if count < left { count } else { left }
 }

@@ -18,10 +18,11 @@ use Rattle.rule.specs.Steps.{false-at, is-open, passing}
 use Rattle.rule.specs.Started.{Before, Reach}
 use Rattle.rule.proofs.Passing.{passing-last}
 use Rattle.demand.proofs.Ring.{slots-differ}
+use Rattle.outcomes.specs.Asked.{open-count}
 use Rattle.cell_runs.specs.Tree.{Tree, formula-of, words}
 use Rattle.cell_runs.specs.Slots.{slot}
 use Rattle.cell_runs.specs.Calls.{FlagsAtHand}
-use Rattle.cell_runs.specs.Instances.{InstanceHolds, InstanceMoved, tick-if-false, open-count, InstancesHold, TicksMoved, Spared}
+use Rattle.cell_runs.specs.Instances.{InstanceHolds, InstanceMoved, tick-if-false, InstancesHold, TicksMoved, Spared}
 use Rattle.cell_runs.proofs.Slots.{slot-same, slot-below, slot-above, slot-before, drop-far}
 use Rattle.cell_runs.proofs.Reports.{count-one, report-more, keeps-more}
 

@@ -34,12 +34,9 @@ pub record InstanceMoved (F : Tree) (hist : List ℕ) (flag t p : ℕ) (cell : L
 
 -- ---- all instances that can be open: those of the last `count` ticks, tick p in slot p mod `count` of `size` words
 
--- Tick p where it is false at step t; one where it is open.
+-- Tick p where it is false at step t.
 unfoldable pub tick-if-false : Outcome → ℕ → ℕ → List ℕ
 tick-if-false outcome t p = cond (false-at t outcome) (p ∷ []) []
-
-unfoldable pub open-count : Outcome → ℕ
-open-count outcome = cond (is-open outcome) 1 0
 
 -- The cells are what the ticks before tick t leave. Before tick 0 that is anything.
 unfoldable pub InstancesHold : Tree → ℕ → ℕ → (ℕ → ℕ) → ℕ → List ℕ → Type 0

@@ -1,21 +1,18 @@
 // Many flag bytes of a rule, whose body is read and measured once.
 ghost use mathlib.Core.Path.{_≡_};
 ghost use mathlib.Core.List.{_++_};
-ghost use Prim.Native.Nat.{_*_, _-_, _≤_, min};
+ghost use Prim.Native.Nat.{_*_, _≤_};
 ghost use lib.ListN.{length, take, drop};
 ghost use Rattle.demand.specs.Contract.{paired};
 ghost use Rattle.instances.specs.Answers.{BatchOf};
 ghost use Rattle.cell_runs.specs.Batches.{BatchFit, FlagsTaken, PairsFit, PairsMoved};
 use crate::instances::Moved;
 use crate::instances::move_tick;
+use admission::flags_left;
 use figures::FigureAnswer;
 use nodes::TABLE_WORDS;
 use refusal::Refusal;
 use rule::Figures;
-use rule::LAST_TICK;
-
-// How many ticks a state can take: those below the last number.
-const TICKS: u32 = LAST_TICK;
 
 // The words that one step of any rule can report.
 const REPORT_WORDS: usize = 256;
@@ -31,14 +28,6 @@ pub(crate) struct BatchCounts {
     pub taken: usize,
     pub pairs: usize,
     pub live: usize,
-}
-
-// How many of `count` flags can be taken before the tick numbers end.
-fn flags_left(count: usize, tick: u32) -> usize
-    ensures { λ r. ⌜ r ≡ min count (4294967295 - tick) ⌝ }
-{
-    let left = (TICKS - tick) as usize;
-    if count < left { count } else { left }
 }
 
 // Puts the step after each of the first `count` ticks, from the last one down.

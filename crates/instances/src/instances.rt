@@ -6,13 +6,14 @@ ghost use Prim.Native.Nat.{_+_, _*_, _-_, _≤_, _<_};
 ghost use lib.Dec.{eqb};
 ghost use lib.ListN.{length, drop, take};
 ghost use Rattle.cell_runs.specs.Tree.{tree-at};
-ghost use Rattle.cell_runs.specs.Instances.{InstanceMoved, InstanceFit, tick-if-false, open-count, TicksFit, TicksMoved, Spared};
+ghost use Rattle.cell_runs.specs.Instances.{InstanceMoved, InstanceFit, tick-if-false, TicksFit, TicksMoved, Spared};
 ghost use Rattle.cell_runs.specs.Moves.{TickFit, TickMoved};
 use crate::advance::advance_position;
 use crate::marks::load_outcome;
 use cells::CELL_WORDS;
 use nodes::FORMULAS;
 use nodes::TABLE_WORDS;
+use outcomes::one_if_open;
 use ring::remember;
 use rule::Figures;
 use rule::Outcome;
@@ -47,16 +48,6 @@ fn move_instance(
     let pos = [0u64; 5];
     let byte = [0u8; 5];
     advance_position(nodes, left, 0, run, history, flag, 0, &pos, &byte, p, t, p)
-}
-
-// One for an open outcome.
-fn one_if_open(outcome: Outcome) -> usize
-    ensures { λ r. ⌜ (r ≡ open-count outcome) × (r ≤ 1) ⌝ }
-{
-    match outcome {
-        Outcome::Open => 1,
-        Outcome::Decided(_, _) => 0,
-    }
 }
 
 // Writes p into the report where the outcome is false at step t, and answers the next place.

@@ -1,7 +1,6 @@
-// An outcome loaded from a cell, and stored; the tick that its step counts from; whether an outcome is false; a byte that is saved in a cell.
+// An outcome loaded from a cell, and stored; the tick that its step counts from.
 ghost use mathlib.Core.Path.{_≡_};
-ghost use mathlib.Core.Bool.{true};
-ghost use Prim.Native.Nat.{ℕ, _+_, _≤_, _<_};
+ghost use Prim.Native.Nat.{_+_, _≤_, _<_};
 ghost use lib.ListN.{length, getD};
 ghost use Rattle.cells.specs.Cells.{held, mark};
 use cells::elapsed;
@@ -46,24 +45,4 @@ pub(crate) fn own_tick(pos: &[u64; 5]) -> u32
     ensures { λ r. ⌜ r ≡ getD (now (pos .entry)) 0 0 ⌝ }
 {
     pos[0] as u32
-}
-
-// Whether an outcome is false.
-pub(crate) fn is_false(outcome: Outcome) -> bool
-    ensures { λ r. ⌜ (r ≡ true → (step : ℕ) × (outcome ≡ Outcome.Decided Verdict.False step)) ⌝ }
-{
-    match outcome {
-        Outcome::Decided(verdict, _) => match verdict {
-            Verdict::True => false,
-            Verdict::False => true,
-        },
-        Outcome::Open => false,
-    }
-}
-
-// A byte as a word.
-pub(crate) fn wide(byte: u8) -> u32
-    ensures { λ r. ⌜ (r ≡ byte) × (r < 256) ⌝ }
-{
-    byte as u32
 }

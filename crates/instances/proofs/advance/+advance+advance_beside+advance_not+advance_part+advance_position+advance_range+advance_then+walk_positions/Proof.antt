@@ -10,6 +10,7 @@ use borrow.Author.Needs.{needs}
 use Rattle.nodes.specs.Table.{bound-at}
 use Rattle.nodes.proofs.Nodes.{word-in}
 use Rattle.nodes.proofs.Nots.{nots-less}
+use Rattle.outcomes.proofs.Falses.{false-step}
 use Rattle.cell_runs.specs.Tree.{Tree, then-node, beside-node, tree-at}
 use Rattle.cell_runs.specs.Calls.{variables-of, Fit, SlotFit, Advanced}
 use Rattle.cell_runs.proofs.Slots.{slot-before, slot-length}
@@ -21,7 +22,7 @@ use Rattle.cell_runs.proofs.Positions.{position-of}
 use Rattle.cell_runs.proofs.Thens.{then-open, then-false, then-true}
 use Rattle.cell_runs.proofs.Besides.{beside-of, beside-stopped}
 use Rattle.cell_runs.proofs.Foralls.{plan-here, range-of}
-use Rattle.cell_runs.proofs.Formulas.{flag-of, is-then, is-beside, is-range}
+use Rattle.cell_runs.proofs.Formulas.{flag-of, reads-flag, has-parts, is-then, is-beside, is-range}
 use Rattle.cell_runs.proofs.Nots.{fit-nots, nots-of}
 use Rattle.cell_runs.proofs.Fits.{window-length, fit-entered, fit-head, fit-short, fit-long, fit-walk, fit-store, fit-first, fit-second, fit-beside, fit-left, fit-right, fit-flag, fit-come}
 use borrow.Fn.Kinds.{In}
@@ -51,22 +52,22 @@ use Rattle.instances.proofs.advance.walk_positions.Reads as walk-positi
 use Rattle.instances.proofs.advance.walk_positions.Kinds as walk-positions-kinds
 use Rattle.instances.proofs.advance.+advance+advance_beside+advance_not+advance_part+advance_position+advance_range+advance_then+walk_positions.Lts-walk_positions as walk-positions-lts
 use Rattle.instances.proofs.flags.flag_in.Reads as flag-in-reads
-use Rattle.instances.proofs.marks.is_false.Reads as is-false-reads
-use Rattle.instances.proofs.flags.is_flag.Reads as is-flag-reads
-use Rattle.instances.proofs.marks.wide.Reads as wide-reads
 use Rattle.instances.proofs.marks.load_outcome.Reads as load-outcome-reads
 use Rattle.instances.proofs.marks.store_outcome.Reads as store-outcome-reads
 use Rattle.instances.proofs.marks.own_tick.Reads as own-tick-reads
 use Rattle.instances.proofs.head.load_head.Reads as load-head-reads
 use Rattle.instances.proofs.head.move_head.Reads as move-head-reads
 use Rattle.ring.proofs.byte_of.Reads as byte-of-reads
+use Rattle.nodes.proofs.is_flag.Reads as is-flag-reads
 use Rattle.nodes.proofs.node_word.Reads as node-word-reads
 use Rattle.nodes.proofs.skip_nots.Reads as skip-nots-reads
 use Rattle.outcomes.proofs.both.Reads as both-reads
+use Rattle.outcomes.proofs.is_false.Reads as is-false-reads
 use Rattle.outcomes.proofs.later.Reads as later-reads
 use Rattle.outcomes.proofs.opposite_if.Reads as opposite-if-reads
 use Rattle.ranges.proofs.plan_up_to.Reads as plan-up-to-reads
 use Rattle.ranges.proofs.range_at.Reads as range-at-reads
+use Rattle.words.proofs.wide.Reads as wide-reads
 use Rattle.instances.proofs.advance.+advance+advance_beside+advance_not+advance_part+advance_position+advance_range+advance_then+walk_positions.{
   statement,
 }
@@ -234,7 +235,7 @@ advance-flag-in-requires measure c κs =
     let t = s₀ .args .t in
     let at-is-flag = c .before .before .is-flag in
     let at-if1 = c .before .if1 in
-    let fit = subst (λ (G : Tree). Fit G env t (length run)) (at-is-flag .ensures .0 (at-if1 .taken)) (s₀ .pre .1) in
+    let fit = subst (λ (G : Tree). Fit G env t (length run)) (reads-flag nodes node left (sym (at-is-flag .ensures) ∙ at-if1 .taken)) (s₀ .pre .1) in
     omega (arith, fit-flag fit, s₀ .pre .1 .bound)
 
 advance-returns : (t : ℕ) → advance-lts.Need-returns (advance-claims t) (advance-at t) advance.Post
@@ -252,7 +253,7 @@ advance-returns measure c =
     let at-is-flag = c .before .before .before .is-flag in
     let at-if1 = c .before .before .if1 in
     let at-flag-in = c .flag-in in
-    let is = at-is-flag .ensures .0 (at-if1 .taken) in
+    let is = reads-flag nodes node left (sym (at-is-flag .ensures) ∙ at-if1 .taken) in
     let fit = subst (λ (G : Tree). Fit G env t (length run)) is (s₀ .pre .1) in
     subst (λ (G : Tree). Advanced G hist b env s t run (at-flag-in .result) run) (sym is)
     (flag-of (getD nodes (node + 1) 0) (getD nodes (node + 2) 0) (at-flag-in .result) (fit-flag fit) (at-flag-in .ensures))
@@ -267,7 +268,7 @@ advance-advance-not-requires measure c κs =
     let at-if1 = c .before .before .before .before .if1 in
     let at-node-word = c .before .before .node-word in
     let at-if2 = c .before .if2 in
-    (omega (arith, s₀ .pre .0), (at-is-flag .ensures .1 (at-if1 .left) .0, (sym (at-node-word .ensures) ∙ at-if2 .taken, s₀ .pre .1)))
+    (omega (arith, s₀ .pre .0), (has-parts (s₀ .args .nodes .now) (s₀ .args .node) (s₀ .args .left) (sym (at-is-flag .ensures) ∙ at-if1 .left) .0, (sym (at-node-word .ensures) ∙ at-if2 .taken, s₀ .pre .1)))
 
 advance-same-length : (t : ℕ) → advance-lts.Need-same-length (advance-claims t) (advance-at t) advance.Post
 advance-same-length t c = search needs
@@ -279,9 +280,10 @@ advance-returns-2 measure c =
 
 advance-sub-advance-then : (t : ℕ) → advance-lts.Need-sub-advance-then (advance-claims t) (advance-at t) advance.Post
 advance-sub-advance-then measure c =
+    let s₀ = c .before .before .before .before .before .before .before .before .before in
     let at-is-flag = c .before .before .before .before .before .is-flag in
     let at-if1 = c .before .before .before .before .if1 in
-    omega (arith, at-is-flag .ensures .1 (at-if1 .left) .0)
+    omega (arith, has-parts (s₀ .args .nodes .now) (s₀ .args .node) (s₀ .args .left) (sym (at-is-flag .ensures) ∙ at-if1 .left) .0)
 
 advance-advance-then-requires : (t : ℕ) → advance-lts.Need-advance-then-requires (advance-claims t) (advance-at t) advance.Post
 advance-advance-then-requires measure c κs =
@@ -298,7 +300,7 @@ advance-advance-then-requires measure c κs =
     let at-node-word = c .before .before .before .node-word in
     let at-if2 = c .before .before .if2 in
     let at-if3 = c .before .if3 in
-    let parts = at-is-flag .ensures .1 (at-if1 .left) in
+    let parts = has-parts nodes node left (sym (at-is-flag .ensures) ∙ at-if1 .left) in
     let is = is-then nodes node left (parts .0) (λ x. at-if2 .left (at-node-word .ensures ∙ x)) (sym (at-node-word .ensures) ∙ at-if3 .taken) in (
       omega (arith, s₀ .pre .0, parts .0),
       (omega (arith, word-in nodes node 2 (sym (at-node-word .ensures) ∙ at-if3 .taken), at-node-word-arg .given), subst (λ (G : Tree). Fit G env t (length run)) is (s₀ .pre .1)),
@@ -325,15 +327,16 @@ advance-returns-3 measure c =
     let at-if2 = c .before .before .before .before .before .if2 in
     let at-if3 = c .before .before .before .before .if3 in
     let at-advance-then = c .before .before .advance-then in
-    let parts = at-is-flag .ensures .1 (at-if1 .left) in
+    let parts = has-parts nodes node left (sym (at-is-flag .ensures) ∙ at-if1 .left) in
     let is = is-then nodes node left (parts .0) (λ x. at-if2 .left (at-node-word .ensures ∙ x)) (sym (at-node-word .ensures) ∙ at-if3 .taken) in
     subst (λ (G : Tree). Advanced G hist b env s t run (at-advance-then .result) (at-advance-then .last .1 .1 .1 .0)) (sym is) (at-advance-then .ensures)
 
 advance-sub-advance-beside : (t : ℕ) → advance-lts.Need-sub-advance-beside (advance-claims t) (advance-at t) advance.Post
 advance-sub-advance-beside measure c =
+    let s₀ = c .before .before .before .before .before .before .before .before .before .before in
     let at-is-flag = c .before .before .before .before .before .before .is-flag in
     let at-if1 = c .before .before .before .before .before .if1 in
-    omega (arith, at-is-flag .ensures .1 (at-if1 .left) .0)
+    omega (arith, has-parts (s₀ .args .nodes .now) (s₀ .args .node) (s₀ .args .left) (sym (at-is-flag .ensures) ∙ at-if1 .left) .0)
 
 advance-advance-beside-requires : (t : ℕ) → advance-lts.Need-advance-beside-requires (advance-claims t) (advance-at t) advance.Post
 advance-advance-beside-requires measure c κs =
@@ -351,7 +354,7 @@ advance-advance-beside-requires measure c κs =
     let at-if2 = c .before .before .before .if2 in
     let at-if3 = c .before .before .if3 in
     let at-if4 = c .before .if4 in
-    let parts = at-is-flag .ensures .1 (at-if1 .left) in
+    let parts = has-parts nodes node left (sym (at-is-flag .ensures) ∙ at-if1 .left) in
     let is = is-beside nodes node left (parts .0) (λ x. at-if2 .left (at-node-word .ensures ∙ x)) (λ x. at-if3 .left (at-node-word .ensures ∙ x)) (sym (at-node-word .ensures) ∙ at-if4 .taken) in (
       omega (arith, s₀ .pre .0, parts .0),
       (omega (arith, word-in nodes node 3 (sym (at-node-word .ensures) ∙ at-if4 .taken), at-node-word-arg .given), subst (λ (G : Tree). Fit G env t (length run)) is (s₀ .pre .1)),
@@ -379,15 +382,16 @@ advance-returns-4 measure c =
     let at-if3 = c .before .before .before .before .before .if3 in
     let at-if4 = c .before .before .before .before .if4 in
     let at-advance-beside = c .before .before .advance-beside in
-    let parts = at-is-flag .ensures .1 (at-if1 .left) in
+    let parts = has-parts nodes node left (sym (at-is-flag .ensures) ∙ at-if1 .left) in
     let is = is-beside nodes node left (parts .0) (λ x. at-if2 .left (at-node-word .ensures ∙ x)) (λ x. at-if3 .left (at-node-word .ensures ∙ x)) (sym (at-node-word .ensures) ∙ at-if4 .taken) in
     subst (λ (G : Tree). Advanced G hist b env s t run (at-advance-beside .result) (at-advance-beside .last .1 .1 .1 .0)) (sym is) (at-advance-beside .ensures)
 
 advance-sub-advance-range : (t : ℕ) → advance-lts.Need-sub-advance-range (advance-claims t) (advance-at t) advance.Post
 advance-sub-advance-range measure c =
+    let s₀ = c .before .before .before .before .before .before .before .before .before .before in
     let at-is-flag = c .before .before .before .before .before .before .is-flag in
     let at-if1 = c .before .before .before .before .before .if1 in
-    omega (arith, at-is-flag .ensures .1 (at-if1 .left) .0)
+    omega (arith, has-parts (s₀ .args .nodes .now) (s₀ .args .node) (s₀ .args .left) (sym (at-is-flag .ensures) ∙ at-if1 .left) .0)
 
 advance-advance-range-requires : (t : ℕ) → advance-lts.Need-advance-range-requires (advance-claims t) (advance-at t) advance.Post
 advance-advance-range-requires measure c κs =
@@ -405,7 +409,7 @@ advance-advance-range-requires measure c κs =
     let at-if2 = c .before .before .before .if2 in
     let at-if3 = c .before .before .if3 in
     let at-if4 = c .before .if4 in
-    let parts = at-is-flag .ensures .1 (at-if1 .left) in
+    let parts = has-parts nodes node left (sym (at-is-flag .ensures) ∙ at-if1 .left) in
     let five : getD nodes (node + 0) 0 ≡ 5 = omega (arith, parts .1 .0, parts .1 .1, at-node-word .ensures, at-if2 .left, at-if3 .left, at-if4 .left) in
     let is = is-range nodes node left (parts .0) (λ x. at-if2 .left (at-node-word .ensures ∙ x)) (λ x. at-if3 .left (at-node-word .ensures ∙ x)) (λ x. at-if4 .left (at-node-word .ensures ∙ x)) five in (
       omega (arith, s₀ .pre .0, parts .0),
@@ -434,7 +438,7 @@ advance-returns-5 measure c =
     let at-if3 = c .before .before .before .before .before .if3 in
     let at-if4 = c .before .before .before .before .if4 in
     let at-advance-range = c .before .before .advance-range in
-    let parts = at-is-flag .ensures .1 (at-if1 .left) in
+    let parts = has-parts nodes node left (sym (at-is-flag .ensures) ∙ at-if1 .left) in
     let five : getD nodes (node + 0) 0 ≡ 5 = omega (arith, parts .1 .0, parts .1 .1, at-node-word .ensures, at-if2 .left, at-if3 .left, at-if4 .left) in
     let is = is-range nodes node left (parts .0) (λ x. at-if2 .left (at-node-word .ensures ∙ x)) (λ x. at-if3 .left (at-node-word .ensures ∙ x)) (λ x. at-if4 .left (at-node-word .ensures ∙ x)) five in
     subst (λ (G : Tree). Advanced G hist b env s t run (at-advance-range .result) (at-advance-range .last .1 .1 .1 .0)) (sym is) (at-advance-range .ensures)
@@ -491,7 +495,7 @@ advance-beside-returns measure c =
     let at-advance-part = c .before .before .before .before .advance-part in
     let at-is-false = c .before .is-false in
     let at-if1 = c .if1 in
-    let x-false = at-is-false .ensures (at-if1 .taken) in
+    let x-false = false-step (at-advance-part .result) (sym (at-is-false .ensures) ∙ at-if1 .taken) in
     subst (λ (n : ℕ). Advanced (beside-node n (tree-at left nodes (node + 12)) (tree-at left nodes (getD nodes (node + 7) 0))) hist b env s t run (at-advance-part .result) (at-advance-part .last .1 .1 .1 .0)) (at-node-word .ensures)
     (beside-stopped (at-advance-part .last .1 .1 .1 .0) (at-advance-part .result) (x-false .0) (at-advance-part .ensures) (x-false .1))
 
@@ -1097,7 +1101,7 @@ walk-positions-returns measure c =
     let at-both = c .before .before .both in
     let at-is-false = c .before .is-false in
     let at-if1 = c .if1 in
-    let o-false = at-is-false .ensures (at-if1 .taken) in
+    let o-false = false-step (at-advance-position .result) (sym (at-is-false .ensures) ∙ at-if1 .taken) in
     walk-stopped (at-loop .acc) (at-both .result) (at-loop .run) (at-advance-position .last .1 .1 .1 .0) (at-advance-position .result) (at-loop .count) (at-loop-test .taken) (at-loop .inv .0) (omega (arith, at-loop .inv .1 .1 .0, s₀ .pre .1 .room))
     (s₀ .pre .1 .slots (at-loop .count - 1) (omega (arith, at-loop-test .taken, at-loop .inv .0)) .come) (at-advance-position .kept .1 .1 .1 .0) (at-advance-position .ensures) (o-false .0) (o-false .1) (at-both .ensures) (at-loop .inv .1 .1 .1)
 

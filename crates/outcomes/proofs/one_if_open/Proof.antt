@@ -1,11 +1,11 @@
--- `instances::one_if_open` meets its contract.
+-- `outcomes::one_if_open` meets its contract.
 use mathlib.Core.Path.{refl}
 use native.Mathlib.Omega.{arith}
 use Rattle.rule.specs.Steps.{is-open}
-use Rattle.cell_runs.specs.Instances.{open-count}
+use Rattle.outcomes.specs.Asked.{open-count}
 use borrow.Author.Needs.{needs}
-use Rattle.instances.proofs.instances.one_if_open.Statement.{statement}
-use Rattle.instances.proofs.instances.one_if_open.Tie as tie
+use Rattle.outcomes.proofs.one_if_open.Statement.{statement}
+use Rattle.outcomes.proofs.one_if_open.Tie as tie
 
 enum-told : tie.Need-enum-told
 enum-told c = search needs
