@@ -16,9 +16,10 @@ use Rattle.rule.specs.Body.{body}
 use Rattle.rule.specs.Figures.{figures, body-figures}
 use Rattle.rule.proofs.Limits.{within-limits}
 use Rattle.nodes.specs.Table.{Cleared}
-use Rattle.figures.specs.declared.answer.FigureAnswer.{FigureAnswer}
-use Rattle.figures.specs.declared.answer.FigureAnswer.the-variants.{Sized, Refused}
-use Rattle.figures.specs.Prepared.{figures-answer, Leaves, Prepared, KeptOrCleared}
+use Rattle.figure_limits.specs.declared.FigureAnswer.{FigureAnswer}
+use Rattle.figure_limits.specs.declared.FigureAnswer.the-variants.{Sized, Refused}
+use Rattle.figure_limits.specs.Answers.{figures-answer, KeptOrCleared}
+use Rattle.figures.specs.Prepared.{Leaves, Prepared}
 use Rattle.figures.proofs.Bodies.{kept-leaves}
 use Rattle.demand.specs.Contract.{must, room, as-21, fit-opened, admit-lengths}
 use Rattle.admission.specs.Admitted.{Small, Admitted}

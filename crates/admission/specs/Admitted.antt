@@ -3,8 +3,9 @@ use Prim.Native.Nat.{ℕ, _≤_}
 use mathlib.Core.Path.{_≡_}
 use mathlib.Core.List.{List}
 use Rattle.rule.specs.declared.Figures.{Figures}
-use Rattle.figures.specs.declared.answer.FigureAnswer.{FigureAnswer}
-use Rattle.figures.specs.Prepared.{figures-answer, Leaves}
+use Rattle.figure_limits.specs.declared.FigureAnswer.{FigureAnswer}
+use Rattle.figure_limits.specs.Answers.{figures-answer}
+use Rattle.figures.specs.Prepared.{Leaves}
 use Rattle.demand.specs.Contract.{admit-lengths}
 
 -- Figures within the limits.

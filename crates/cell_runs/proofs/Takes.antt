@@ -10,10 +10,11 @@ use Rattle.rule.specs.declared.Figures.{Figures}
 use Rattle.rule.specs.Body.{body}
 use Rattle.rule.specs.Figures.{at-tick}
 use Rattle.reader.specs.Decoded as decoded
-use Rattle.figures.specs.declared.answer.FigureAnswer.{FigureAnswer}
-use Rattle.figures.specs.declared.answer.FigureAnswer.the-variants.{Sized, Refused}
+use Rattle.figure_limits.specs.declared.FigureAnswer.{FigureAnswer}
+use Rattle.figure_limits.specs.declared.FigureAnswer.the-variants.{Sized, Refused}
+use Rattle.figure_limits.specs.Answers.{figures-answer}
 use Rattle.figures.specs.Measured.{SizesAt}
-use Rattle.figures.specs.Prepared.{figures-answer, SizedTable, Leaves}
+use Rattle.figures.specs.Prepared.{SizedTable, Leaves}
 use Rattle.demand.specs.Contract.{state-at, admit-lengths}
 use Rattle.demand.proofs.Admission.{StepAdmitted, step-admitted}
 use Rattle.admission.specs.Admitted.{Admitted}

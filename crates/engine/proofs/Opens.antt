@@ -14,9 +14,9 @@ use Rattle.sheet.proofs.Entries.{place-inside, body-at}
 use Rattle.sheet.proofs.Bodies.{body-size}
 use Rattle.rule.specs.declared.Figures.{Figures}
 use Rattle.rule.specs.Figures.{body-figures}
-use Rattle.figures.specs.declared.answer.FigureAnswer.{FigureAnswer}
-use Rattle.figures.specs.declared.answer.FigureAnswer.the-variants as sized
-use Rattle.figures.specs.Prepared.{figures-answer}
+use Rattle.figure_limits.specs.declared.FigureAnswer.{FigureAnswer}
+use Rattle.figure_limits.specs.declared.FigureAnswer.the-variants as sized
+use Rattle.figure_limits.specs.Answers.{figures-answer}
 use Rattle.demand.specs.Contract.{room, fresh-state, opening-of, OpenPromise}
 use Rattle.cell_runs.specs.Moves.{Stands}
 use Rattle.cell_runs.proofs.Rules.{stands-at-start}

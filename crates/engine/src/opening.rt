@@ -9,7 +9,7 @@ ghost use Rattle.engine.specs.Promises.{open-answer, BodyOpened};
 use crate::state::State;
 use crate::state::blank;
 use crate::state::fresh;
-use figures::FigureAnswer;
+use figure_limits::FigureAnswer;
 use refusal::Refusal;
 use sheet::Found;
 

@@ -4,7 +4,7 @@ ghost use Rattle.refusal.specs.Answer.{or-kept};
 ghost use Rattle.rule.specs.Figures.{body-figures};
 ghost use Rattle.rule.specs.Recording.{recording-outcome};
 ghost use Rattle.exports.specs.Answers.{number, verdict-number, step-number};
-use figures::FigureAnswer;
+use figure_limits::FigureAnswer;
 use recording::Evaluated;
 use rule::Outcome;
 use rule::Verdict;

@@ -15,16 +15,17 @@ use Rattle.nodes.proofs.Nodes.{tabled}
 use Rattle.reader.specs.declared.Reading.{Reading}
 use Rattle.reader.specs.declared.Reading.the-variants as reading
 use Rattle.refusal.specs.declared.Refusal.{Refusal}
-use Rattle.figures.specs.declared.answer.FigureAnswer.the-variants.{Refused}
 use Rattle.reader.specs.Decoded.{TableHolds, Decoded}
 use Rattle.reader.proofs.Told.{refused-body, refused-table, read-formula}
+use Rattle.figure_limits.specs.declared.FigureAnswer.{FigureAnswer}
+use Rattle.figure_limits.specs.declared.FigureAnswer.the-variants.{Refused}
+use Rattle.figure_limits.specs.Answers.{figures-answer, KeptOrCleared, capped-needed}
+use Rattle.figure_limits.proofs.CountedLimits.{capped-limits}
 use Rattle.figures.specs.declared.measure.Figure.{Figure}
-use Rattle.figures.specs.declared.answer.FigureAnswer.{FigureAnswer}
 use Rattle.figures.specs.Distances.{AllNear}
-use Rattle.figures.specs.Parts.{capped-needed, FigureOf}
+use Rattle.figures.specs.Parts.{FigureOf}
 use Rattle.figures.specs.Measured.{Measured, Promise}
-use Rattle.figures.specs.Prepared.{figures-answer, SizedTable, Leaves, Prepared, KeptOrCleared}
-use Rattle.figures.proofs.CountedLimits.{capped-limits}
+use Rattle.figures.specs.Prepared.{SizedTable, Leaves, Prepared}
 
 -- at the start, only variable 0 is there, at the tick
 pub first-within : (ps : List Pair) → ps ≡ at-tick ∷ [] → AllNear 0 ps

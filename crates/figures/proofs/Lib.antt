@@ -1,5 +1,4 @@
 mod Numbers
-mod CountedLimits
 mod Distances
 mod Parts
 mod Arms

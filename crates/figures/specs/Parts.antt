@@ -1,13 +1,12 @@
 -- A formula's figures from its parts', as the code computes them: with cells that are counted up to 4,097.
-use Prim.Native.Nat.{ℕ}
 use mathlib.Core.Path.{_≡_}
 use mathlib.Core.List.{List}
 use Rattle.rule.specs.Formula.{Formula}
 use Rattle.rule.specs.Figures.{larger, N, N-back, width, delay, history, cells}
 use Rattle.rule.specs.declared.Size.{Size}
-use Rattle.rule.specs.declared.Size.the-variants.{Finite, Unbounded}
+use Rattle.rule.specs.declared.Size.the-variants.{Finite}
 use Rattle.rule.specs.declared.Pair.{Pair}
-use Rattle.cell_count.specs.Counts.{cap, then-cells, beside-cells, range-cells, rule-cells}
+use Rattle.cell_count.specs.Counts.{cap, then-cells, beside-cells, range-cells}
 use Rattle.figures.specs.declared.measure.Figure.{Figure}
 
 unfoldable pub flag-figure : Figure
@@ -42,8 +41,3 @@ pub record FigureOf (F : Formula) (ps : List Pair) (start : Size) (r : Figure) :
   pub delay-is : r .delay ≡ delay F ps
   pub history-is : r .history ≡ history F ps start
   pub cells-is : r .cells ≡ cap (cells F ps)
-
--- A rule's cells from its delay and its formula's cells.
-abbrev pub capped-needed : Size → ℕ → Size
-capped-needed (Finite d) c = Finite (rule-cells d c)
-capped-needed Unbounded c = Unbounded

@@ -3,21 +3,15 @@ use Prim.Native.Nat.{ℕ}
 use mathlib.Core.Path.{_≡_}
 use mathlib.Core.List.{List, [], _∷_}
 use Rattle.refusal.specs.Answer.{Answer, refused, accepted}
-use Rattle.refusal.specs.Numbers.{number-of}
 use Rattle.rule.specs.Formula.{Formula}
 use Rattle.rule.specs.Body.{body}
 use Rattle.rule.specs.Figures.{at-tick, body-figures}
 use Rattle.rule.specs.declared.Figures.{Figures}
 use Rattle.nodes.specs.Table.{Cleared}
 use Rattle.reader.specs.Decoded.{TableHolds}
-use Rattle.figures.specs.declared.answer.FigureAnswer.{FigureAnswer}
-use Rattle.figures.specs.declared.answer.FigureAnswer.the-variants.{Sized, Refused}
+use Rattle.figure_limits.specs.declared.FigureAnswer.{FigureAnswer}
+use Rattle.figure_limits.specs.Answers.{figures-answer}
 use Rattle.figures.specs.Measured.{SizesAt}
-
--- What each case of the code's answer stands for.
-abbrev pub figures-answer : FigureAnswer → Answer Figures
-figures-answer (Sized f) = accepted f
-figures-answer (Refused x) = refused (number-of x)
 
 -- The body has a formula, and the table holds it with its sizes.
 abbrev pub SizedTable : List ℕ → Answer Formula → Type 0
@@ -32,8 +26,3 @@ Leaves s ns (accepted f) = SizedTable ns (body s)
 pub record Prepared (s : List ℕ) (r : FigureAnswer) (ns : List ℕ) : Type 0 where
   pub answer : figures-answer r ≡ body-figures s
   pub leaves : Leaves s ns (figures-answer r)
-
--- A refusal clears the table, and an accepted answer keeps it.
-abbrev pub KeptOrCleared : Answer Figures → List ℕ → List ℕ → Type 0
-KeptOrCleared (refused n) old new = Cleared new
-KeptOrCleared (accepted f) old new = new ≡ old

@@ -1,15 +1,15 @@
 // A body's figures: history, delay and cells, or a refusal (4 to 15, 23, 24); and the sizes that the engine needs, written into the node table.
-mod answer;
 mod limits;
 mod measure;
 mod scope;
 
 ghost use mathlib.Core.Path.{_≡_};
 ghost use Rattle.rule.specs.Figures.{body-figures};
-ghost use Rattle.figures.specs.Prepared.{figures-answer, Prepared};
-pub use answer::FigureAnswer;
-pub use answer::clear_if_refused;
-use answer::limit_delay;
+ghost use Rattle.figure_limits.specs.Answers.{figures-answer};
+ghost use Rattle.figures.specs.Prepared.{Prepared};
+use figure_limits::FigureAnswer;
+use figure_limits::clear_if_refused;
+use figure_limits::limit_delay;
 use measure::measure_rule;
 use nodes::TABLE_WORDS;
 use reader::Reading;

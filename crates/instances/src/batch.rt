@@ -9,7 +9,7 @@ ghost use Rattle.cell_runs.specs.Batches.{BatchFit, FlagsTaken, PairsFit, Pairs
 use crate::instances::Moved;
 use crate::instances::move_tick;
 use admission::flags_left;
-use figures::FigureAnswer;
+use figure_limits::FigureAnswer;
 use nodes::TABLE_WORDS;
 use refusal::Refusal;
 use rule::Figures;

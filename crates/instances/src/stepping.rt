@@ -1,7 +1,7 @@
 // One step of a rule: refused, or its tick taken.
 ghost use Rattle.instances.specs.Answers.{StepOf};
 use crate::instances::move_tick;
-use figures::FigureAnswer;
+use figure_limits::FigureAnswer;
 use nodes::TABLE_WORDS;
 use refusal::Refusal;
 

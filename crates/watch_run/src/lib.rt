@@ -13,7 +13,7 @@ mod writing;
 ghost use mathlib.Core.Path.{_≡_};
 ghost use lib.ListN.{length};
 use engine::OpenAnswer;
-use figures::FigureAnswer;
+use figure_limits::FigureAnswer;
 use output::close_output;
 use output::print_figures;
 use output::print_refusal;

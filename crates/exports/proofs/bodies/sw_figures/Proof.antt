@@ -4,7 +4,7 @@ use mathlib.Core.Path.{sym, ap, _∙_}
 use denote.Ref.{now}
 use Rattle.refusal.specs.Answer.{Answer, or-kept}
 use Rattle.rule.specs.declared.Figures.{Figures}
-use Rattle.figures.specs.Prepared.{figures-answer}
+use Rattle.figure_limits.specs.Answers.{figures-answer}
 use Rattle.exports.specs.Answers.{number}
 use borrow.Author.Needs.{needs}
 use Rattle.exports.proofs.bodies.sw_figures.Statement.{statement}

@@ -1,9 +1,9 @@
--- `figures::answer::limit_cells` meets its contract.
+-- `figure_limits::limit_cells` meets its contract.
 use borrow.Author.Needs.{needs}
 use borrow.Author.Tests.{not-true, not-false}
 use Rattle.rule.specs.Figures.{limit-cells}
-use Rattle.figures.proofs.answer.limit_cells.Statement.{statement}
-use Rattle.figures.proofs.answer.limit_cells.Tie as tie
+use Rattle.figure_limits.proofs.limit_cells.Statement.{statement}
+use Rattle.figure_limits.proofs.limit_cells.Tie as tie
 
 within-limit-requires : tie.Need-within-limit-requires
 within-limit-requires c κs = search needs

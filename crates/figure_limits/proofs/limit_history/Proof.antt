@@ -1,9 +1,9 @@
--- `figures::answer::limit_history` meets its contract.
+-- `figure_limits::limit_history` meets its contract.
 use borrow.Author.Needs.{needs}
 use borrow.Author.Tests.{le-leb, lt-leb}
 use Rattle.rule.specs.Figures.{limit-history}
-use Rattle.figures.proofs.answer.limit_history.Statement.{statement}
-use Rattle.figures.proofs.answer.limit_history.Tie as tie
+use Rattle.figure_limits.proofs.limit_history.Statement.{statement}
+use Rattle.figure_limits.proofs.limit_history.Tie as tie
 
 enum-told : tie.Need-enum-told
 enum-told c = search needs

@@ -1,9 +1,9 @@
--- `figures::answer::limit_delay` meets its contract.
+-- `figure_limits::limit_delay` meets its contract.
 use borrow.Author.Needs.{needs}
 use borrow.Author.Tests.{le-leb, lt-leb}
 use Rattle.rule.specs.Figures.{limit-delay}
-use Rattle.figures.proofs.answer.limit_delay.Statement.{statement}
-use Rattle.figures.proofs.answer.limit_delay.Tie as tie
+use Rattle.figure_limits.proofs.limit_delay.Statement.{statement}
+use Rattle.figure_limits.proofs.limit_delay.Tie as tie
 
 enum-told : tie.Need-enum-told
 enum-told c = search needs

@@ -1,8 +1,8 @@
--- `figures::answer::clear_if_refused` meets its contract.
+-- `figure_limits::clear_if_refused` meets its contract.
 use mathlib.Core.Path.{refl}
 use borrow.Author.Needs.{needs}
-use Rattle.figures.proofs.answer.clear_if_refused.Statement.{statement}
-use Rattle.figures.proofs.answer.clear_if_refused.Tie as tie
+use Rattle.figure_limits.proofs.clear_if_refused.Statement.{statement}
+use Rattle.figure_limits.proofs.clear_if_refused.Tie as tie
 
 enum-told : tie.Need-enum-told
 enum-told c = search needs

@@ -14,7 +14,7 @@ use Rattle.rule.specs.declared.Figures.{Figures}
 use Rattle.rule.proofs.Order.{by-order}
 use Rattle.cell_count.specs.Counts.{cap}
 use Rattle.cell_count.proofs.Saturation.{cap-rule}
-use Rattle.figures.specs.Parts.{capped-needed}
+use Rattle.figure_limits.specs.Answers.{capped-needed}
 
 cells-limited : (h d : ℕ) (x : Size) → limit-cells h d (Finite (cap x)) ≡ limit-cells h d x
 unfolding limit-cells

@@ -1,11 +1,10 @@
-// The limits of a rule's figures, in 01's order: "11: delay infinite. 12: above 255. 13: history infinite. 14: above 4,096. 15: cells above
+// A rule's figures against 01's limits, in 01's order: "11: delay infinite. 12: above 255. 13: history infinite. 14: above 4,096. 15: cells above
 // 4,096." Cells are counted up to 4,097 (crate `cell_count`).
 ghost use mathlib.Core.Path.{_≡_};
 ghost use Rattle.rule.specs.Figures.{limit-cells, limit-history, limit-delay};
 ghost use Rattle.rule.specs.declared.Size.the-variants.{Finite};
 ghost use Rattle.cell_count.specs.Counts.{rule-cells};
-ghost use Rattle.figures.specs.Parts.{capped-needed};
-ghost use Rattle.figures.specs.Prepared.{figures-answer, KeptOrCleared};
+ghost use Rattle.figure_limits.specs.Answers.{figures-answer, KeptOrCleared, capped-needed};
 use cell_count::rule_cells;
 use cell_count::within_limit;
 use nodes::TABLE_WORDS;
@@ -62,7 +61,7 @@ fn limit_history(history: Size, delay: u16, cells: u16) -> FigureAnswer
 }
 
 // The rule's formula needs `cells` cells.
-pub(crate) fn limit_delay(history: Size, delay: Size, cells: u16) -> FigureAnswer
+pub fn limit_delay(history: Size, delay: Size, cells: u16) -> FigureAnswer
     ensures { λ r. ⌜ figures-answer r ≡ limit-delay history delay (capped-needed delay cells) ⌝ }
 {
     match delay {
