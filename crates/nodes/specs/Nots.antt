@@ -6,7 +6,8 @@ use lib.Dec.{eqb}
 use lib.ListN.{getD}
 use Rattle.nodes.specs.declared.operand.Operand.{Operand}
 
--- The formula under the nots at word i, with `left` formulas left; `odd` says whether those that were passed so far are odd in number.
+-- The formula under the nots at word `node`, with `left` formulas left; `odd` says whether those that were passed so far are odd in number.
 unfoldable pub past-nots : ℕ → List ℕ → ℕ → Bool → Operand
-past-nots zero ns i odd = record { left = zero; node = i; odd = odd }
-past-nots (suc left) ns i odd = cond (eqb (getD ns (i + 0) 0) 2) (past-nots left ns (i + 12) (not odd)) (record { left = suc left; node = i; odd = odd })
+past-nots zero ns node odd = record { left = zero; node = node; odd = odd }
+past-nots (suc left) ns node odd =
+    cond (eqb (getD ns (node + 0) 0) 2) (past-nots left ns (node + 12) (not odd)) (record { left = suc left; node = node; odd = odd })
