@@ -18,16 +18,16 @@ product a b = min (a * b) 4097
 
 -- "then, 1 + the larger"
 abbrev pub then-cells : ℕ → ℕ → ℕ
-then-cells f g = sum 1 (max f g)
+then-cells first second = sum 1 (max first second)
 
 -- "beside, 1 + the sum"
 abbrev pub beside-cells : ℕ → ℕ → ℕ
-beside-cells f g = sum 1 (sum f g)
+beside-cells first second = sum 1 (sum first second)
 
 -- "for all, 1 + W times (1 + the body's)"
 abbrev pub range-cells : ℕ → ℕ → ℕ
-range-cells w c = sum 1 (product w (sum 1 c))
+range-cells W cells = sum 1 (product W (sum 1 cells))
 
 -- "The rule needs (delay + 1) times (1 + its cells)."
 abbrev pub rule-cells : ℕ → ℕ → ℕ
-rule-cells d c = product (sum d 1) (sum 1 c)
+rule-cells delay cells = product (sum delay 1) (sum 1 cells)
