@@ -7,11 +7,11 @@ use Rattle.formula_bytes.specs.declared.checks.Check.the-variants.{Fine,
 
 abbrev pub check-number : Check → ℕ
 check-number Fine = 0
-check-number (Refused x) = number-of x
+check-number (Refused refusal) = number-of refusal
 
 abbrev pub head-number : Head → ℕ
-head-number (refuse n) = n
-head-number (flag-head v k) = 0
+head-number (refuse number) = number
+head-number (flag-head variable k) = 0
 head-number negate-head = 0
 head-number then-head = 0
 head-number beside-head = 0
