@@ -14,15 +14,15 @@ use Rattle.figure_limits.specs.declared.FigureAnswer.the-variants.{Sized
 
 -- What each case of the code's answer stands for.
 abbrev pub figures-answer : FigureAnswer → Answer Figures
-figures-answer (Sized f) = accepted f
-figures-answer (Refused x) = refused (number-of x)
+figures-answer (Sized figures) = accepted figures
+figures-answer (Refused refusal) = refused (number-of refusal)
 
 -- A refusal clears the table, and an accepted answer keeps it.
 abbrev pub KeptOrCleared : Answer Figures → List ℕ → List ℕ → Type 0
-KeptOrCleared (refused n) old new = Cleared new
-KeptOrCleared (accepted f) old new = new ≡ old
+KeptOrCleared (refused number) old new = Cleared new
+KeptOrCleared (accepted figures) old new = new ≡ old
 
 -- A rule's cells from its delay and its formula's cells.
 abbrev pub capped-needed : Size → ℕ → Size
-capped-needed (Finite d) c = Finite (rule-cells d c)
-capped-needed Unbounded c = Unbounded
+capped-needed (Finite delay) cells = Finite (rule-cells delay cells)
+capped-needed Unbounded cells = Unbounded
