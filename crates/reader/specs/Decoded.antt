@@ -13,7 +13,7 @@ use Rattle.reader.specs.declared.Reading.the-variants.{Stored, Refused}
 -- What each case of the code's answer stands for, with the table that was read into.
 abbrev pub reading-answer : Reading → List ℕ → Answer Formula
 reading-answer Stored ns = accepted (formula-in 64 ns 0 0)
-reading-answer (Refused x) ns = refused (number-of x)
+reading-answer (Refused refusal) ns = refused (number-of refusal)
 
 -- The table holds F from its first word on, 12 words a formula; so F is what is read off it.
 pub record TableHolds (F : Formula) (ns : List ℕ) : Type 0 where
@@ -23,9 +23,9 @@ pub record TableHolds (F : Formula) (ns : List ℕ) : Type 0 where
 
 -- The table holds the formula that was read. After a refusal it is all 0.
 abbrev pub Tabled : List ℕ → Answer Formula → Type 0
-Tabled ns (refused n) = Cleared ns
+Tabled ns (refused number) = Cleared ns
 Tabled ns (accepted F) = TableHolds F ns
 
-pub record Decoded (s : List ℕ) (r : Reading) (ns : List ℕ) : Type 0 where
-  pub answer : reading-answer r ns ≡ body s
-  pub tabled : Tabled ns (body s)
+pub record Decoded (bytes : List ℕ) (reading : Reading) (ns : List ℕ) : Type 0 where
+  pub answer : reading-answer reading ns ≡ body bytes
+  pub tabled : Tabled ns (body bytes)

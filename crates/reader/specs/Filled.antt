@@ -17,21 +17,21 @@ pub data FormulaEnd : Type 0 where
 
 -- Where the definition's formula ends, or its refusal.
 abbrev pub formula-end : Read → Answer FormulaEnd
-formula-end (stop n) = refused n
+formula-end (stop number) = refused number
 formula-end (read F next left) = accepted (ending next left)
 
 -- What each case of the code's answer stands for.
 abbrev pub ended : Part → Answer FormulaEnd
-ended (Refused x) = refused (number-of x)
+ended (Refused refusal) = refused (number-of refusal)
 ended (Ended next left) = accepted (ending next left)
 
 -- The table holds what was read.
 abbrev pub Placed : List ℕ → ℕ → ℕ → Read → Type 0
-Placed ns m left (stop n) = Unit {0}
-Placed ns m left (read F next rest) = Holds F ns m (node-start left) (node-start rest)
+Placed ns depth left (stop number) = Unit {0}
+Placed ns depth left (read F next rest) = Holds F ns depth (node-start left) (node-start rest)
 
--- The formula at a position, inside m quantifiers and with `left` formulas left: its end or refusal; no word before its node changed.
-pub record Filled (s : List ℕ) (at m left : ℕ) (old : List ℕ) (r : Part) (new : List ℕ) : Type 0 where
-  pub answer : ended r ≡ formula-end (formula-at s at m left)
-  pub below : (k : ℕ) → k < node-start left → getD new k 0 ≡ getD old k 0
-  pub placed : Placed new m left (formula-at s at m left)
+-- The formula at a position, inside `depth` quantifiers and with `left` formulas left: its end or refusal; no word before its node changed.
+pub record Filled (bytes : List ℕ) (at depth left : ℕ) (old : List ℕ) (part : Part) (new : List ℕ) : Type 0 where
+  pub answer : ended part ≡ formula-end (formula-at bytes at depth left)
+  pub below : (index : ℕ) → index < node-start left → getD new index 0 ≡ getD old index 0
+  pub placed : Placed new depth left (formula-at bytes at depth left)

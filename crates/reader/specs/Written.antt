@@ -11,14 +11,14 @@ use Rattle.words.specs.Words.{byte, word}
 abbrev pub node-start : ℕ → ℕ
 node-start left = 12 * (64 - left)
 
--- Word k (0 to 6) of the node of the formula whose bytes start at a position: code, variable and flag; or code and the two bounds.
+-- Word `index` (0 to 6) of the node of the formula whose bytes start at a position: code, variable and flag; or code and the two bounds.
 unfoldable pub head-word : List ℕ → ℕ → ℕ → ℕ
-head-word s at k =
-    cond (ltb k 3) (byte s (at + k))
-    (cond (eqb k 3) (word s (at + 3))
-    (cond (eqb k 6) (word s (at + 7)) (byte s (at + (k + 1)))))
+head-word bytes at index =
+    cond (ltb index 3) (byte bytes (at + index))
+    (cond (eqb index 3) (word bytes (at + 3))
+    (cond (eqb index 6) (word bytes (at + 7)) (byte bytes (at + (index + 1)))))
 
--- The node at word i has these words, and no word before it changed.
-pub record Headed (s : List ℕ) (at i : ℕ) (old new : List ℕ) : Type 0 where
-  pub words : (k : ℕ) → k < 7 → getD new (i + k) 0 ≡ head-word s at k
-  pub below : (k : ℕ) → k < i → getD new k 0 ≡ getD old k 0
+-- The node that starts at word `node` has these words, and no word before it changed.
+pub record Headed (bytes : List ℕ) (at node : ℕ) (old new : List ℕ) : Type 0 where
+  pub words : (index : ℕ) → index < 7 → getD new (node + index) 0 ≡ head-word bytes at index
+  pub below : (index : ℕ) → index < node → getD new index 0 ≡ getD old index 0
