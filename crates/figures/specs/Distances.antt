@@ -11,21 +11,21 @@ use Rattle.rule.specs.declared.Size.the-variants.{Finite, Unbounded}
 use Rattle.rule.specs.declared.Pair.{Pair}
 use Rattle.figures.specs.declared.scope.Scope.{Scope}
 
--- The pairs of the variables, inside m quantifiers.
+-- The pairs of the variables, inside `depth` quantifiers.
 abbrev pub inside : Scope → ℕ → List Pair
-inside sc m = take (m + 1) (sc .pairs)
+inside scope depth = take (depth + 1) (scope .pairs)
 
 abbrev pub shift-pair : ℤ → Pair → Pair
-shift-pair n p = record { lower = shift n (p .lower); upper = shift n (p .upper) }
+shift-pair n pair = record { lower = shift n (pair .lower); upper = shift n (pair .upper) }
 
--- A limit that lies within b of the tick, or is infinite.
+-- A limit that lies within `reach` of the tick, or is infinite.
 abbrev pub Near : ℕ → Limit → Type 0
-Near b Lowest = Unit {0}
-Near b (At z) = natAbs z ≤ b
-Near b Highest = Unit {0}
+Near reach Lowest = Unit {0}
+Near reach (At distance) = natAbs distance ≤ reach
+Near reach Highest = Unit {0}
 
 abbrev pub AllNear : ℕ → List Pair → Type 0
-AllNear b ps = (v : ℕ) → Near b ((getD ps v anywhere) .lower) × Near b ((getD ps v anywhere) .upper)
+AllNear reach ps = (variable : ℕ) → Near reach ((getD ps variable anywhere) .lower) × Near reach ((getD ps variable anywhere) .upper)
 
 -- The farthest that 4 quantifiers reach, whose offsets have 16 bits: 4 times 32,768.
 abbrev pub farthest : ℕ
@@ -33,11 +33,11 @@ farthest = 131072
 
 -- A size that is no farther, or infinite.
 abbrev pub Modest : Size → Type 0
-Modest (Finite n) = n ≤ farthest
+Modest (Finite size) = size ≤ farthest
 Modest Unbounded = Unit {0}
 
 -- What measuring a formula asks.
-pub record Measurable (m : ℕ) (sc : Scope) (start : Size) : Type 0 where
-  pub nested : m ≤ 4
-  pub within : AllNear (32768 * m) (inside sc m)
+pub record Measurable (depth : ℕ) (scope : Scope) (start : Size) : Type 0 where
+  pub nested : depth ≤ 4
+  pub within : AllNear (32768 * depth) (inside scope depth)
   pub begun : Modest start

@@ -18,28 +18,28 @@ use Rattle.figures.specs.Parts.{FigureOf}
 -- Beside: word 9 is the words of the first part's run. For all: word 8 is the words of one position's slot. Both are made of cells that are
 -- counted up to 4,097: within the limits these are 01's figures.
 unfoldable pub SizesAt : Formula → List ℕ → List Pair → ℕ → Type 0
-SizesAt (flag v k) ns ps i = Unit {0}
-SizesAt (negate F) ns ps i = SizesAt F ns ps (i + 12)
-SizesAt (then F G) ns ps i = SizesAt F ns ps (i + 12) × SizesAt G ns ps (getD ns (i + 7) 0)
-SizesAt (beside F G) ns ps i =
-    (getD ns (i + 9) 0 ≡ 4 * cap (cells F ps)) × (SizesAt F ns ps (i + 12) × SizesAt G ns ps (getD ns (i + 7) 0))
-SizesAt (forall B C F) ns ps i =
-    (getD ns (i + 8) 0 ≡ 4 * (1 + cap (cells F (ps ++ (range-pair B C ps ∷ [])))))
-    × SizesAt F ns (ps ++ (range-pair B C ps ∷ [])) (i + 12)
+SizesAt (flag variable k) ns ps node = Unit {0}
+SizesAt (negate F) ns ps node = SizesAt F ns ps (node + 12)
+SizesAt (then F G) ns ps node = SizesAt F ns ps (node + 12) × SizesAt G ns ps (getD ns (node + 7) 0)
+SizesAt (beside F G) ns ps node =
+    (getD ns (node + 9) 0 ≡ 4 * cap (cells F ps)) × (SizesAt F ns ps (node + 12) × SizesAt G ns ps (getD ns (node + 7) 0))
+SizesAt (forall B₁ B₂ F) ns ps node =
+    (getD ns (node + 8) 0 ≡ 4 * (1 + cap (cells F (ps ++ (range-pair B₁ B₂ ps ∷ [])))))
+    × SizesAt F ns (ps ++ (range-pair B₁ B₂ ps ∷ [])) (node + 12)
 
--- What measuring the formula F in the words from i to e answers and writes.
-pub record Measured (F : Formula) (ps : List Pair) (start : Size) (m i e : ℕ) (old new : List ℕ) (r : Figure) : Type 0 where
-  pub figure : FigureOf F ps start r
-  pub holds : Holds F new m i e
-  pub sizes : SizesAt F new ps i
-  pub outside : (k : ℕ) → (k < i) ⊎ (e ≤ k) → getD new k 0 ≡ getD old k 0
+-- What measuring the formula F in the words from `node` to `end` answers and writes.
+pub record Measured (F : Formula) (ps : List Pair) (start : Size) (depth node end : ℕ) (old new : List ℕ) (result : Figure) : Type 0 where
+  pub figure : FigureOf F ps start result
+  pub holds : Holds F new depth node end
+  pub sizes : SizesAt F new ps node
+  pub outside : (index : ℕ) → (index < node) ⊎ (end ≤ index) → getD new index 0 ≡ getD old index 0
 
 abbrev pub Promise : ℕ → ℕ → ℕ → List Pair → Size → List ℕ → List ℕ → Figure → Type 0
-Promise left m i ps start old new r =
-    (F : Formula) (e : ℕ) → Holds F old m i e → e ≤ i + 12 * left → e ≤ length old → Measured F ps start m i e old new r
+Promise left depth node ps start old new result =
+    (F : Formula) (end : ℕ) → Holds F old depth node end → end ≤ node + 12 * left → end ≤ length old → Measured F ps start depth node end old new result
 
 -- Of any table: the figures are small enough to go on with. Of a table that holds a formula: they are its figures.
-pub record Measures (left m i : ℕ) (sc : Scope) (start : Size) (old new : List ℕ) (r : Figure) : Type 0 where
-  pub small : r .cells ≤ 4097
-  pub modest : Modest (r .delay)
-  pub promise : Promise left m i (inside sc m) start old new r
+pub record Measures (left depth node : ℕ) (scope : Scope) (start : Size) (old new : List ℕ) (result : Figure) : Type 0 where
+  pub small : result .cells ≤ 4097
+  pub modest : Modest (result .delay)
+  pub promise : Promise left depth node (inside scope depth) start old new result

@@ -13,31 +13,31 @@ unfoldable pub flag-figure : Figure
 flag-figure = record { delay = Finite 0; history = Finite 0; cells = 0 }
 
 unfoldable pub then-figure : Figure → Figure → Figure
-then-figure f g =
+then-figure first second =
     record {
-      delay = larger (f .delay) (g .delay);
-      history = larger (f .history) (g .history);
-      cells = then-cells (f .cells) (g .cells);
+      delay = larger (first .delay) (second .delay);
+      history = larger (first .history) (second .history);
+      cells = then-cells (first .cells) (second .cells);
     }
 
 unfoldable pub beside-figure : Figure → Figure → Figure
-beside-figure f g =
+beside-figure first second =
     record {
-      delay = larger (f .delay) (g .delay);
-      history = larger (f .history) (g .history);
-      cells = beside-cells (f .cells) (g .cells);
+      delay = larger (first .delay) (second .delay);
+      history = larger (first .history) (second .history);
+      cells = beside-cells (first .cells) (second .cells);
     }
 
 unfoldable pub range-figure : Pair → Size → Figure → Figure
-range-figure r k f =
+range-figure pair k figure =
     record {
-      delay = larger (f .delay) (N (r .upper));
-      history = larger (N-back k (r .lower)) (f .history);
-      cells = range-cells (cap (width r)) (f .cells);
+      delay = larger (figure .delay) (N (pair .upper));
+      history = larger (N-back k (pair .lower)) (figure .history);
+      cells = range-cells (cap (width pair)) (figure .cells);
     }
 
 -- The figures of a formula whose variables have the pairs `ps`, started at `start` at the latest.
-pub record FigureOf (F : Formula) (ps : List Pair) (start : Size) (r : Figure) : Type 0 where
-  pub delay-is : r .delay ≡ delay F ps
-  pub history-is : r .history ≡ history F ps start
-  pub cells-is : r .cells ≡ cap (cells F ps)
+pub record FigureOf (F : Formula) (ps : List Pair) (start : Size) (figure : Figure) : Type 0 where
+  pub delay-is : figure .delay ≡ delay F ps
+  pub history-is : figure .history ≡ history F ps start
+  pub cells-is : figure .cells ≡ cap (cells F ps)

@@ -15,14 +15,14 @@ use Rattle.figures.specs.Measured.{SizesAt}
 
 -- The body has a formula, and the table holds it with its sizes.
 abbrev pub SizedTable : List ℕ → Answer Formula → Type 0
-SizedTable ns (refused n) = ⊥
+SizedTable ns (refused number) = ⊥
 SizedTable ns (accepted F) = TableHolds F ns × SizesAt F ns (at-tick ∷ []) 0
 
 -- What an answer leaves in the table: the body's formula, and 0 in all words after a refusal.
 abbrev pub Leaves : List ℕ → List ℕ → Answer Figures → Type 0
-Leaves s ns (refused n) = Cleared ns
-Leaves s ns (accepted f) = SizedTable ns (body s)
+Leaves bytes ns (refused number) = Cleared ns
+Leaves bytes ns (accepted figures) = SizedTable ns (body bytes)
 
-pub record Prepared (s : List ℕ) (r : FigureAnswer) (ns : List ℕ) : Type 0 where
-  pub answer : figures-answer r ≡ body-figures s
-  pub leaves : Leaves s ns (figures-answer r)
+pub record Prepared (bytes : List ℕ) (result : FigureAnswer) (ns : List ℕ) : Type 0 where
+  pub answer : figures-answer result ≡ body-figures bytes
+  pub leaves : Leaves bytes ns (figures-answer result)
