@@ -58,7 +58,7 @@ module _ (Stands : Invariant) (d : ℕ) (flags report : List ℕ) (s : State) (h
   pub chain-cells : {n : ℕ} {s′ : State} {history′ cells′ words : List ℕ} → Chain Stands d flags report s history cells n s′ history′ cells′ words
       → length cells′ ≡ length cells
   chain-cells none = refl
-  chain-cells (more {cells₁ = cells₁} {a = a} k c below room flag-is own lent report-is e w) =
+  chain-cells (more {cells₁ = cells₁} {taken = a} k c below room flag-is own lent report-is e w) =
       let v : Stepped Stands _ k (accepted a) = subst (Stepped Stands _ k) e w in
       v .2 .cells-length ∙ ap length lent ∙ chain-cells c
 
@@ -66,7 +66,7 @@ module _ (Stands : Invariant) (d : ℕ) (flags report : List ℕ) (s : State) (h
   pub chain-low : {n : ℕ} {s′ : State} {history′ cells′ words : List ℕ} → s .next ≤ 4294967295
       → Chain Stands d flags report s history cells n s′ history′ cells′ words → s′ .next ≤ 4294967295
   chain-low i none = i
-  chain-low i (more {s₁ = s₁} {a = a} k c below room flag-is own lent report-is e w) =
+  chain-low i (more {state₁ = s₁} {taken = a} k c below room flag-is own lent report-is e w) =
       let v : Stepped Stands s₁ k (accepted a) = subst (Stepped Stands s₁ k) e w in
       let known = step-admitted (s₁ .body-bytes) (s₁ .opened) (s₁ .next) (length (k .history)) (length (k .cells)) (length (k .report)) (v .0) (v .1) in
       let next : (a .state) .next ≡ suc (s₁ .next) = ap (λ (x : State). x .next) (v .2 .state) in
@@ -83,7 +83,7 @@ module _ (Stands : Invariant) (h L : ℕ) where
         → Line Stands h L s′ (cells′ ++ drop n table) history′ (m + t) calls
         → Line Stands h L s table history t (with-steps c calls)
     chain-line none r = moved refl (ap (λ (l : List ℕ). l ++ drop n table) lent ∙ take-append-drop n table) refl (omega arith) r
-    chain-line (more {n = m} {s₁ = s₁} {history₁ = history₁} {cells₁ = cells₁} {a = a} k c below room flag-is own lent₁ report-is e w) {calls} r =
+    chain-line (more {count = m} {state₁ = s₁} {history₁ = history₁} {cells₁ = cells₁} {taken = a} k c below room flag-is own lent₁ report-is e w) {calls} r =
         let same : length cells₁ ≡ length (take n table) = chain-cells Stands d flags report s history cells c ∙ ap length lent in
         let one-more : suc m + t ≡ ticks-after (m + t) (k .answer) = let q : suc m + t ≡ suc (m + t) = omega arith in q ∙ sym (ap (ticks-after (m + t)) e) in
         let after : a .state ≡ state-after s₁ (k .answer) = sym (ap (state-after s₁) e) in
@@ -108,8 +108,8 @@ module _ (Stands : Invariant) (C : Carrier) (h L : ℕ) where
   as-line done = end
   as-line (stepped n own lent p r) = own-history n own lent (p .keeps) (moved Stands h L (p .goes-on) refl refl refl (as-line r))
   as-line (with-other-history n other lent p r) = other-history n other lent (p .keeps) (moved Stands h L (p .goes-on) refl refl refl (as-line r))
-  as-line (batched {b = b} n own lent p r) =
+  as-line (batched {batch = b} n own lent p r) =
       batch-line Stands h L b n own lent (b .answer) refl (p .keeps) (moved Stands h L (p .goes-on) refl refl refl (as-line r))
-  as-line (batch-with-other-history {x = x} {b = b} m e p r) =
+  as-line (batch-with-other-history {carried = x} {batch = b} m e p r) =
       turned-away m e (subst (Batched Stands (C .holds x) b) e (p .keeps)) (moved Stands h L (p .goes-on ∙ ap (state-after-batch (C .holds x)) e) refl refl refl (as-line r))
   as-line (wrote long same r) = written long same (as-line r)
