@@ -16,17 +16,17 @@ use Rattle.engine.specs.declared.opening.OpenResult.{OpenResult}
 use Rattle.engine.specs.States.{fresh-code, blank-code}
 
 abbrev pub open-answer : OpenAnswer → State → Answer State
-open-answer opens.the-variants.Opened s = accepted s
-open-answer (opens.the-variants.Refused x) s = refused (number-of x)
+open-answer opens.the-variants.Opened state = accepted state
+open-answer (opens.the-variants.Refused refusal) state = refused (number-of refusal)
 
 -- ---- inside the crate: opening the rule with this body
 
 abbrev pub BodyOpenedBy : List ℕ → List ℕ → ℕ → OpenAnswer → code.State → List ℕ → Type 0
-BodyOpenedBy b history table opens.the-variants.Opened s history′ =
-    ((f : Figures) × (and-then (body-figures b) (room (length history) table) ≡ accepted f))
-    × ((s ≡ fresh-code b (length history)) × (history′ ≡ replicate (length history) 0))
-BodyOpenedBy b history table (opens.the-variants.Refused x) s history′ =
-    (and-then (body-figures b) (room (length history) table) ≡ refused (number-of x)) × ((s ≡ blank-code) × (history′ ≡ history))
+BodyOpenedBy body history table opens.the-variants.Opened state history′ =
+    ((figures : Figures) × (and-then (body-figures body) (room (length history) table) ≡ accepted figures))
+    × ((state ≡ fresh-code body (length history)) × (history′ ≡ replicate (length history) 0))
+BodyOpenedBy body history table (opens.the-variants.Refused refusal) state history′ =
+    (and-then (body-figures body) (room (length history) table) ≡ refused (number-of refusal)) × ((state ≡ blank-code) × (history′ ≡ history))
 
 abbrev pub BodyOpened : List ℕ → List ℕ → ℕ → OpenResult → List ℕ → Type 0
-BodyOpened b history table r history′ = BodyOpenedBy b history table (r .answer) (r .state) history′
+BodyOpened body history table result history′ = BodyOpenedBy body history table (result .answer) (result .state) history′

@@ -9,28 +9,28 @@ use Rattle.engine.specs.declared.state.State as code
 
 -- Its rule's body is the first `size` bytes; a size above 512, which no opening gives, stands for an empty body, and so for no rule.
 unfoldable pub state-of : code.State → State
-state-of s =
+state-of state =
     record {
-      body-bytes = cond (leb (s .size) 512) (take (s .size) (s .body)) [];
-      opened = s .opened;
-      next = s .next;
-      live-count = s .live;
+      body-bytes = cond (leb (state .size) 512) (take (state .size) (state .body)) [];
+      opened = state .opened;
+      next = state .next;
+      live-count = state .live;
     }
 
 -- A rule's body in the 512 bytes that a state has for it, with 0 in the rest.
 unfoldable pub padded : List ℕ → List ℕ
-padded b = b ++ replicate (512 - length b) 0
+padded body = body ++ replicate (512 - length body) 0
 
 -- The state of an accepted opening; the one beside a refused one, with an empty body, which every step refuses by 21; and one that has come to another
 -- next tick and live count.
 abbrev pub fresh-code : List ℕ → ℕ → code.State
-fresh-code b L = record { body = padded b; size = length b; opened = L; next = 0; live = 0 }
+fresh-code body L = record { body = padded body; size = length body; opened = L; next = 0; live = 0 }
 
 abbrev pub blank-code : code.State
 blank-code = record { body = padded []; size = 0; opened = 0; next = 0; live = 0 }
 
 abbrev pub moved-code : code.State → ℕ → ℕ → code.State
-moved-code s next live = record { body = s .body; size = s .size; opened = s .opened; next = next; live = live }
+moved-code state next live = record { body = state .body; size = state .size; opened = state .opened; next = next; live = live }
 
 -- A state that is carried as a value.
 abbrev pub by-value : Carrier
