@@ -6,13 +6,13 @@ use lib.ListN.{take, drop}
 -- The number that bytes stand for, low byte first.
 unfoldable pub value : List ℕ → ℕ
 value [] = 0
-value (b ∷ bs) = b + 256 * value bs
+value (byte ∷ bytes) = byte + 256 * value bytes
 
--- The n low bytes of a number, low byte first.
+-- So many low bytes of a number, low byte first.
 unfoldable pub low-bytes : ℕ → ℕ → List ℕ
-low-bytes zero x = []
-low-bytes (suc n) x = x % 256 ∷ low-bytes n (x / 256)
+low-bytes zero number = []
+low-bytes (suc count) number = number % 256 ∷ low-bytes count (number / 256)
 
 -- The 64-bit number at a position.
 unfoldable pub number-at : List ℕ → ℕ → ℕ
-number-at s at = value (take 8 (drop at s))
+number-at bytes at = value (take 8 (drop at bytes))
