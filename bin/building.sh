@@ -32,9 +32,9 @@ not_built() { # WHO WHY
     return 1
 }
 
-# How many crates CRATE is made of, itself among them.
-crates_of() { # CRATE
-    awk -v crate="$1" '
+# How many crates these are made of, themselves among them.
+crates_of() { # "CRATE.."
+    awk -v crates="$1" '
         function visit(name,    below, n, i) {
             if (!(name in line) || name in seen) return
             seen[name]; count++
@@ -43,30 +43,34 @@ crates_of() { # CRATE
         }
         { sub(/#.*/, ""); colon = index($0, ":") }
         colon { line[substr($0, 1, colon - 1)] = substr($0, colon + 1) }
-        END { visit(crate); print count + 0 }' "$root/crates.txt"
+        END {
+            n = split(crates, wanted, " ")
+            for (i = 1; i <= n; i++) visit(wanted[i])
+            print count + 0
+        }' "$root/crates.txt"
 }
 
-# Of what rt says, a line for each crate that was proved now.
+# Of what rt says, a line for each crate that was proved now. Where rt is called more than once, a crate counts once.
 count_crates() { # WHO HOW-MANY
-    local line n=0
+    local line
+    local -A proved=()
     while IFS= read -r line; do
+        case $line in 'rt: '*' proved ('*) ;; *) continue ;; esac
+        line=${line#rt: }
+        proved[${line%% *}]=yes
         case $line in
-        'rt: '*' proved (unchanged '*) n=$((n + 1)) ;;
-        'rt: '*' proved ('*' s)')
-            n=$((n + 1)) line=${line#rt: }
-            echo "$1: building: $n of $2 crates proved (${line%% *}, ${line##*(}" >&2 || :
-            ;;
+        *' proved ('*' s)') echo "$1: building: ${#proved[@]} of $2 crates proved (${line%% *}, ${line##*(}" >&2 || : ;;
         esac
     done
 }
 
-# Runs an rt command that proves CRATE and what it stands on. All that rt says goes to target/WHO-build.log.
-prove() { # WHO CRATE COMMAND..
-    local who=$1 crate=$2 log=target/$1-build.log
+# Runs a command by which rt proves these crates and what they stand on. All that rt says goes to target/WHO-build.log.
+prove() { # WHO "CRATE.." COMMAND..
+    local who=$1 crates=$2 log=target/$1-build.log
     shift 2
     command -v rt > /dev/null || not_built "$who" "the Rattle kit's command rt is not on PATH (it lies in /opt/rattle/bin)" || return 1
     echo "$who: building: proving what changed; all of it takes 4 to 6 minutes on two cores" >&2 || :
-    if ! (cd "$root" && "$@") 2>&1 < /dev/null | tee "$root/$log" | count_crates "$who" "$(crates_of "$crate")"; then
+    if ! (cd "$root" && "$@") 2>&1 < /dev/null | tee "$root/$log" | count_crates "$who" "$(crates_of "$crates")"; then
         tail -n 15 "$root/$log" >&2
         not_built "$who" "the last lines of $root/$log stand above"
     fi

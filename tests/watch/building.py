@@ -1,4 +1,5 @@
-"""Building by bin/watch, in a small repository with an rt of its own that proves nothing: what is said, when it is built, and what when it fails."""
+"""Building by bin/watch and bin/library, in a small repository with an rt of its own that proves nothing: what is said, when it is built, and what when it
+fails."""
 import os
 import shutil
 import subprocess
@@ -26,17 +27,20 @@ BEGIN = "watch: building: proving what changed; all of it takes 4 to 6 minutes o
 PROVED = "watch: building: 2 of 3 crates proved (sheet, 2 s)\nwatch: building: 3 of 3 crates proved (watch, 31 s)\n"
 
 
-class Building(unittest.TestCase):
+class Repository(unittest.TestCase):
+    """A folder with one of the commands, crates.txt, an empty crate and an rt."""
+    command, crates, rt = "watch", CRATES, RT
+
     def setUp(self):
         folder = tempfile.TemporaryDirectory()
         self.addCleanup(folder.cleanup)
         self.root = folder.name
-        for name in ("watch", "building.sh"):
+        for name in (self.command, "building.sh"):
             os.makedirs(self.path("bin"), exist_ok=True)
             shutil.copy(os.path.join(ROOT, "bin", name), self.path("bin", name))
-        self.write(CRATES, "crates.txt")
+        self.write(self.crates, "crates.txt")
         self.write("", "crates", "words", "src", "lib.rt")
-        self.write(RT, "kit", "rt")
+        self.write(self.rt, "kit", "rt")
         os.chmod(self.path("kit", "rt"), 0o755)
 
     def path(self, *names):
@@ -55,13 +59,15 @@ class Building(unittest.TestCase):
     def start(self, **settings):
         environment = {**os.environ, "PATH": self.path("kit") + ":/usr/bin:/bin", "RECORD": self.path("record"), **settings}
         pipe = subprocess.PIPE
-        return subprocess.Popen([self.path("bin", "watch")], env=environment, stdin=pipe, stdout=pipe, stderr=pipe, text=True)
+        return subprocess.Popen([self.path("bin", self.command)], env=environment, stdin=pipe, stdout=pipe, stderr=pipe, text=True)
 
     def ends(self, status, printed, said, **settings):
         run = self.start(**settings)
         out, err = run.communicate("input\n", timeout=60)
         self.assertEqual((run.returncode, out, err), (status, printed, said))
 
+
+class Building(Repository):
     def test_built_where_something_changed(self):
         """The input is left to the program."""
         self.ends(0, "ran\ninput\n", BEGIN + PROVED)
@@ -99,3 +105,61 @@ class Building(unittest.TestCase):
             said.append(err)
         self.assertEqual(sorted(said), ["watch: another command is building; waiting for it\n", BEGIN + PROVED])
         self.assertEqual(self.calls(), ["rt check watch"])
+
+
+LIBRARY_CRATES = "words:\nexports_rules: words\nexports_watch: words\n"
+
+# Each part has a function of its own and one that is local to it and called the same in both.
+LIBRARY_RT = """#!/bin/sh
+echo "rt $*" >> "$RECORD"
+echo "rt: words proved (2 s)"
+[ "$2" != "$FAILS" ] || { echo "$2.rt:1: error: no"; exit 1; }
+mkdir -p target/staticlib && cd target/staticlib
+echo "static int own(int x) { return x ? own(x - 1) : 7; } int sw_$2(int x) { return own(x); }" | gcc -x c -O0 -fPIC -c -o "$2.o" -
+ar rcs "lib$2.a" "$2.o"
+rm "$2.o"
+"""
+
+LIBRARY_BEGIN = BEGIN.replace("watch", "library") + "library: building: 1 of 3 crates proved (words, 2 s)\n"
+LIBRARY_BUILT = "library: built target/lib/libstation_watch.a and target/lib/libstation_watch.so\n"
+
+
+class Library(Repository):
+    command, crates, rt = "library", LIBRARY_CRATES, LIBRARY_RT
+
+    def setUp(self):
+        super().setUp()
+        self.write('#define SW_VERSION "0.4.3"\n', "include", "station_watch.h")
+        self.archive = self.path("target", "lib", "libstation_watch.a")
+
+    def functions(self, *words):
+        said = subprocess.run(["nm", "--defined-only", *words], check=True, text=True, stdout=subprocess.PIPE).stdout
+        return sorted(line.split()[2] for line in said.splitlines() if len(line.split()) == 3)
+
+    def bytes(self):
+        with open(self.archive, "rb") as archive:
+            return archive.read()
+
+    def test_the_parts_are_one_library(self):
+        """And the archive is the same from build to build."""
+        twice = LIBRARY_BEGIN + LIBRARY_BEGIN.splitlines(True)[1] + LIBRARY_BUILT
+        self.ends(0, "", twice)
+        self.assertEqual(self.calls(), ["rt staticlib exports_rules", "rt staticlib exports_watch"])
+        parts = ["sw_exports_rules", "sw_exports_watch"]
+        self.assertEqual(self.functions("--extern-only", self.archive), parts)
+        self.assertEqual(self.functions("--dynamic", self.path("target", "lib", "libstation_watch.so")), parts)
+        built = self.bytes()
+        self.ends(0, "", "")
+        self.write("// changed", "crates", "words", "src", "lib.rt")
+        self.ends(0, "", twice)
+        self.assertEqual(self.bytes(), built)
+
+    def test_a_part_that_is_not_proved(self):
+        """Nothing is built, whichever it is."""
+        log = self.path("target", "library-build.log")
+        named = "library: not built: the last lines of %s stand above\n" % log
+        first = "rt: words proved (2 s)\n"
+        self.ends(1, "", LIBRARY_BEGIN + first + "exports_rules.rt:1: error: no\n" + named, FAILS="exports_rules")
+        said = LIBRARY_BEGIN + LIBRARY_BEGIN.splitlines(True)[1] + first + first + "exports_watch.rt:1: error: no\n" + named
+        self.ends(1, "", said, FAILS="exports_watch")
+        self.assertEqual(os.listdir(self.path("target", "lib")), ["built.new"])

@@ -15,7 +15,7 @@ use Rattle.notation.proofs.Answered as answered
 use Rattle.notation.proofs.RoundTrip as printed
 use Rattle.engine.proofs.States.{fresh-is}
 use Rattle.engine.proofs.Demand3 as values
-use Rattle.exports.proofs.Demand3 as bytes
+use Rattle.exports_watch.proofs.Demand3 as bytes
 use Rattle.state_bytes.proofs.States.{load-stored, load-moved, moved-own, store-loaded}
 use Rattle.claims.specs.Claims.{Claims}
 

@@ -1,6 +1,6 @@
 -- The main claims that are proved of the library as a whole, as one proposition. What each call does is its contract; this says what follows for whoever uses them.
 -- The link between the two is the text of six contracts, which a reader should look at: the `ensures` of `open`, `step` and `steps` (crates/engine/src) and of
--- sw_open, sw_step and sw_steps (crates/exports/src/watching.rt) are `OpenPromise`, `StepPromise` and `BatchPromise` of their own arguments and results, and these are
+-- sw_open, sw_step and sw_steps (crates/exports_watch/src/watching.rt) are `OpenPromise`, `StepPromise` and `BatchPromise` of their own arguments and results, and these are
 -- what the list of calls asks of each call. docs/DEMAND-3.md reads the first part slowly.
 use Prim.Native.Nat.{ℕ, _+_, _≤_, _<_, max}
 use mathlib.Core.Path.{_≡_}

@@ -1,4 +1,0 @@
-mod Texts
-mod Kept
-pub mod Demand3
-mod Sizes

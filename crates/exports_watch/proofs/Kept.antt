@@ -1,0 +1,174 @@
+-- Opening, step and batch keep their promises of state bytes, by what the engine promises of the state that they hold.
+-- Assumes nothing.
+use Prim.Native.Nat.{ℕ, suc, _+_, _≤_, _<_}
+use mathlib.Core.Path.{_≡_, refl, sym, ap, subst, _∙_}
+use mathlib.Core.Bool.{Bool, true, false}
+use mathlib.Core.List.{List}
+use native.Mathlib.Numerals.{add-one}
+use native.Mathlib.Omega.{arith}
+use lib.Dec.{leb}
+use lib.ListN.{length}
+use borrow.Author.Tests.{lt-leb}
+use Rattle.refusal.specs.declared.Refusal.{Refusal}
+use Rattle.refusal.specs.declared.Refusal.the-variants.{StateNotOpened}
+use Rattle.refusal.specs.Answer.{Answer, refused, accepted, answered, KeptIfRefused}
+use Rattle.refusal.specs.Numbers.{number-of}
+use Rattle.refusal.proofs.Positive.{positive}
+use Rattle.sheet.specs.Sheet.{body-part, rule-body}
+use Rattle.sheet.proofs.Bodies.{body-size}
+use Rattle.rule.specs.declared.Figures.{Figures}
+use Rattle.demand.specs.Contract.{State, Taken, Counts, opening-of, step-of, batch-of, must, admit-lengths, Opened, Stepped, Batched, OpenPromise, StepPromise, BatchPromise}
+use Rattle.demand.proofs.Lines.{chain-low}
+use Rattle.instances.specs.declared.stepping.StepAnswer.{StepAnswer}
+use Rattle.instances.specs.declared.stepping.StepAnswer.the-variants as steps
+use Rattle.instances.specs.declared.batch.BatchAnswer.{BatchAnswer}
+use Rattle.instances.specs.declared.batch.BatchAnswer.the-variants as batches
+use Rattle.cell_runs.specs.States.{taken-from, counts-from}
+use Rattle.instances.specs.Answers.{step-answer, batch-answer}
+use Rattle.cell_runs.specs.Moves.{Stands}
+use Rattle.engine.specs.declared.opening.OpenAnswer.{OpenAnswer}
+use Rattle.engine.specs.declared.opening.OpenAnswer.the-variants as opens
+use Rattle.engine.specs.declared.state.State as code
+use Rattle.engine.specs.States.{state-of, fresh-code, blank-code, moved-code, by-value}
+use Rattle.engine.specs.Promises.{open-answer}
+use Rattle.engine.proofs.States.{length-padded}
+use Rattle.state_bytes.specs.Numbers.{number-at}
+use Rattle.state_bytes.specs.States.{loaded, stored, state-in, Storable, moved-bytes, in-bytes}
+use Rattle.state_bytes.proofs.States.{load-stored, load-moved}
+
+-- A lent number that a refused call did not write.
+pub kept-if-refused : (x : Refusal) (n old : ℕ) → n ≡ number-of x → KeptIfRefused n old old
+kept-if-refused x n old e = let z = positive x in rw (e, z .1) refl
+
+-- ---- opening
+
+module _ (sheet : List ℕ) (number : ℕ) (history cells st : List ℕ) (o : OpenAnswer) (s : code.State) (history′ : List ℕ)
+    (p : OpenPromise Stands by-value blank-code (opening-of (open-answer o (state-of s)) sheet number history cells history′) s) where
+  abbrev OpenKept : ℕ → List ℕ → Type 0
+  OpenKept n st′ = OpenPromise Stands in-bytes st (opening-of (answered n (state-in st′)) sheet number history cells history′) st′
+
+  abbrev Opening : OpenAnswer → Type 0
+  Opening a = OpenPromise Stands by-value blank-code (opening-of (open-answer a (state-of s)) sheet number history cells history′) s
+
+  pub open-refused : {x : Refusal} (n : ℕ) → o ≡ opens.Refused x → n ≡ number-of x → OpenKept n st
+  open-refused {x} n e i =
+      let q : Opening (opens.Refused x) = subst Opening e p in
+      let z = positive x in
+      rw (i, z .1) (record { keeps = (q .keeps .0 ∙ ap refused (z .1), q .keeps .1, q .keeps .2); left = refl; goes-on = tt })
+
+  module _ (e : o ≡ opens.Opened) (fits : length history < 18446744073709551616) where
+    q : Opening opens.Opened
+    q = subst Opening e p
+
+    state-is : s ≡ fresh-code (body-part (rule-body sheet number)) (length history)
+    state-is = q .left
+
+    short : length (body-part (rule-body sheet number)) ≤ 512
+    short = let b = q .keeps .2 in rw b (body-size sheet number (q .keeps .0) b .1)
+
+    storable : Storable s
+    storable =
+        let b = body-part (rule-body sheet number) in
+        let h = short in
+        rw state-is
+        (record { room = length-padded b short; size-fits = omega arith; opened-fits = fits; next-fits = omega arith; live-fits = omega arith })
+
+    pub open-accepted : (st′ : List ℕ) → st′ ≡ stored s → OpenKept 0 st′
+    unfolding state-in
+    open-accepted st′ i =
+        let same : state-of s ≡ state-in st′ = sym (ap (λ (x : List ℕ). state-of (loaded x)) i ∙ ap state-of (load-stored s storable)) in
+        record {
+          keeps = subst (λ (y : State). Opened Stands (opening-of (accepted y) sheet number history cells history′) (accepted y)) same (q .keeps);
+          left = i ∙ ap stored state-is;
+          goes-on = refl;
+        }
+
+-- ---- the state that the bytes hold
+
+pub held : (st : List ℕ) (s : code.State) (tick : ℕ) → s ≡ moved-code (loaded st) tick (number-at st 536) → tick ≡ number-at st 528 → s ≡ loaded st
+unfolding loaded
+held st s tick e i = e ∙ ap (λ (t : ℕ). moved-code (loaded st) t (number-at st 536)) i
+
+-- A next tick above the last one: 21, whatever else is brought.
+late : (st : List ℕ) (h c n : ℕ) → 4294967295 < number-at st 528 → admit-lengths ((state-in st) .body-bytes) ((state-in st) .opened) ((state-in st) .next) h c n ≡ refused 21
+unfolding admit-lengths must state-in state-of loaded
+late st h c n i = simp (lt-leb (number-at st 528) 4294967295 i) (go (leb (number-at st 520) 4096))
+  where
+    go : (b : Bool) → must {A = Figures} b 21 (refused 21) ≡ refused 21
+    go true = refl
+    go false = refl
+
+-- ---- step
+
+module _ (st : List ℕ) (flag : ℕ) (history cells report : List ℕ) where
+  abbrev StepKept : Answer Taken → List ℕ → List ℕ → List ℕ → List ℕ → Type 0
+  StepKept a st′ history′ cells′ report′ = StepPromise Stands in-bytes st (step-of a flag history cells report history′ cells′ report′) st′
+
+  pub step-late : (n reported live : ℕ) → n ≡ number-of StateNotOpened → 4294967295 < number-at st 528
+      → StepKept (answered n (taken-from (state-in st) reported live)) st history cells report
+  step-late n reported live e i = rw e (record { keeps = (late st (length history) (length cells) (length report) i, (refl, refl, refl)); left = refl; goes-on = refl })
+
+  module _ (s : code.State) (is : s ≡ loaded st) (a : StepAnswer) (s′ : code.State) (history′ cells′ report′ : List ℕ)
+      (p : StepPromise Stands by-value s (step-of (step-answer (state-of s) a) flag history cells report history′ cells′ report′) s′) where
+    abbrev StepFrom : code.State → StepAnswer → Type 0
+    StepFrom x y = Stepped Stands (state-of x) (step-of (step-answer (state-of x) y) flag history cells report history′ cells′ report′) (step-answer (state-of x) y)
+
+    kept : (y : StepAnswer) → a ≡ y → StepFrom (loaded st) y
+    kept y e = subst (λ (x : code.State). StepFrom x y) is (subst (StepFrom s) e (p .keeps))
+
+    pub step-refused : {x : Refusal} (n reported live : ℕ) → a ≡ steps.Refused x → n ≡ number-of x
+        → StepKept (answered n (taken-from (state-in st) reported live)) st history′ cells′ report′
+    unfolding state-in
+    step-refused {x} n reported live e i =
+        let q = kept (steps.Refused x) e in
+        let z = positive x in
+        rw (i, z .1) (record { keeps = (q .0 ∙ ap refused (z .1), q .1); left = refl; goes-on = refl })
+
+    pub step-taken : {n live : ℕ} (st′ : List ℕ) (tick : ℕ) → a ≡ steps.Taken n live → tick ≡ number-at st 528 → tick ≤ 4294967295 → live < 18446744073709551616 → length st ≡ 544
+        → st′ ≡ moved-bytes st (tick + 1) live → StepKept (accepted (taken-from (state-in st) n live)) st′ history′ cells′ report′
+    unfolding state-in state-of loaded
+    step-taken {n} {live} st′ tick e t low fits long w =
+        let j : st′ ≡ moved-bytes st (suc (number-at st 528)) live = w ∙ ap (λ (x : ℕ). moved-bytes st x live) (add-one tick ∙ ap suc t) in
+        let m = load-moved st (suc (number-at st 528)) live long (omega arith) fits in
+        record { keeps = kept (steps.Taken n live) e; left = j; goes-on = ap state-in j ∙ ap state-of m }
+
+-- ---- batch
+
+module _ (st flags history cells report : List ℕ) where
+  abbrev BatchKept : Answer Counts → List ℕ → List ℕ → List ℕ → List ℕ → Type 0
+  BatchKept a st′ history′ cells′ report′ = BatchPromise Stands in-bytes st (batch-of a flags history cells report history′ cells′ report′) st′
+
+  pub batch-late : (n taken pairs live : ℕ) → n ≡ number-of StateNotOpened → 4294967295 < number-at st 528
+      → BatchKept (answered n (counts-from (state-in st) taken pairs live)) st history cells report
+  batch-late n taken pairs live e i = rw e (record { keeps = (late st (length history) (length cells) 256 i, (refl, refl, refl)); left = refl; goes-on = refl })
+
+  module _ (s : code.State) (is : s ≡ loaded st) (a : BatchAnswer) (s′ : code.State) (history′ cells′ report′ : List ℕ)
+      (p : BatchPromise Stands by-value s (batch-of (batch-answer (state-of s) a) flags history cells report history′ cells′ report′) s′) where
+    abbrev BatchFrom : code.State → BatchAnswer → Type 0
+    BatchFrom x y = Batched Stands (state-of x) (batch-of (batch-answer (state-of x) y) flags history cells report history′ cells′ report′) (batch-answer (state-of x) y)
+
+    batch-kept : (y : BatchAnswer) → a ≡ y → BatchFrom (loaded st) y
+    batch-kept y e = subst (λ (x : code.State). BatchFrom x y) is (subst (BatchFrom s) e (p .keeps))
+
+    pub batch-refused : {x : Refusal} (n taken pairs live : ℕ) → a ≡ batches.Refused x → n ≡ number-of x
+        → BatchKept (answered n (counts-from (state-in st) taken pairs live)) st history′ cells′ report′
+    unfolding state-in
+    batch-refused {x} n taken pairs live e i =
+        let q = batch-kept (batches.Refused x) e in
+        let z = positive x in
+        rw (i, z .1) (record { keeps = (q .0 ∙ ap refused (z .1), q .1); left = refl; goes-on = refl })
+
+    module _ {n pairs live : ℕ} (e : a ≡ batches.Taken n pairs live) (low : number-at st 528 ≤ 4294967295) where
+      pub batch-low : number-at st 528 + n ≤ 4294967295
+      unfolding state-of loaded
+      batch-low =
+          let q = batch-kept (batches.Taken n pairs live) e in
+          chain-low Stands (q .0 .delay) flags report (state-of (loaded st)) history cells low (q .2 .chain)
+
+      pub batch-taken : (st′ : List ℕ) (tick : ℕ) → tick ≡ number-at st 528 → live < 18446744073709551616 → length st ≡ 544
+          → st′ ≡ moved-bytes st (tick + n) live → BatchKept (accepted (counts-from (state-in st) n pairs live)) st′ history′ cells′ report′
+      unfolding state-in state-of loaded
+      batch-taken st′ tick t fits long w =
+          let j : st′ ≡ moved-bytes st (number-at st 528 + n) live = w ∙ ap (λ (x : ℕ). moved-bytes st (x + n) live) t in
+          let m = load-moved st (number-at st 528 + n) live long (let h = batch-low in omega arith) fits in
+          record { keeps = batch-kept (batches.Taken n pairs live) e; left = j; goes-on = ap state-in j ∙ ap state-of m }
