@@ -9,8 +9,8 @@ use Rattle.refusal_text.specs.Sentences.{sentence-of}
 
 -- The sentence's length, without the 0; refused by 22 where the buffer has no room for both.
 unfoldable pub sentence-length : ℕ → ℕ → Answer ℕ
-sentence-length n room = cond (ltb (length (sentence-of n)) room) (accepted (length (sentence-of n))) (refused 22)
+sentence-length number room = cond (ltb (length (sentence-of number)) room) (accepted (length (sentence-of number))) (refused 22)
 
 -- What the buffer holds then: the bytes after the 0 are those that it held before.
 unfoldable pub with-sentence : ℕ → List ℕ → List ℕ
-with-sentence n out = cond (ltb (length (sentence-of n)) (length out)) (sentence-of n ++ (0 ∷ drop (length (sentence-of n) + 1) out)) out
+with-sentence number out = cond (ltb (length (sentence-of number)) (length out)) (sentence-of number ++ (0 ∷ drop (length (sentence-of number) + 1) out)) out
