@@ -1,5 +1,5 @@
 -- The library's claims hold. Assumes nothing.
-use Rattle.sheet.proofs.RoundTrip as sheets
+use Rattle.sheet_writer.proofs.RoundTrip as sheets
 use Rattle.rule.proofs.Every.{forall-said}
 use Rattle.rule.proofs.Progress as progress
 use Rattle.rule.proofs.Delay.{delay-law}

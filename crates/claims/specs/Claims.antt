@@ -9,8 +9,8 @@ use mathlib.Core.List.{List, [], _∷_, _++_}
 use lib.ListN.{length, getD, take, drop}
 use Rattle.refusal.specs.Answer.{refused, accepted, and-then}
 use Rattle.words.specs.Words.{Bytes}
-use Rattle.sheet.specs.Writing.{sheet-length, sheet-of, buffer-after}
-use Rattle.sheet.specs.RoundTrip.{ReadsBack}
+use Rattle.sheet_writer.specs.Writing.{sheet-length, sheet-of, buffer-after}
+use Rattle.sheet_writer.specs.RoundTrip.{ReadsBack}
 use Rattle.rule.specs.declared.Verdict.{Verdict}
 use Rattle.rule.specs.declared.Outcome.the-variants.{Decided, Open}
 use Rattle.rule.specs.declared.Size.the-variants.{Finite}

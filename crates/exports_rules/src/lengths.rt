@@ -1,8 +1,8 @@
 // How long what was written is, as C hears it.
 ghost use mathlib.Core.Path.{_≡_};
 ghost use Rattle.refusal.specs.Answer.{or-kept, number};
-ghost use Rattle.sheet.specs.Writing as sheets;
-use sheet::Written;
+ghost use Rattle.sheet_writer.specs.Writing as sheets;
+use sheet_writer::Written;
 
 // Answers 0 and sets the length, or answers the refusal's number and leaves the length as it is.
 pub(crate) fn answer_length(answer: Written, length: &mut usize) -> u32

@@ -3,7 +3,7 @@ ghost use mathlib.Core.Path.{_≡_};
 ghost use lib.ListN.{length};
 ghost use Rattle.refusal.specs.Answer.{or-kept, number};
 ghost use Rattle.sheet.specs.Sheet.{rule-place};
-ghost use Rattle.sheet.specs.Writing.{sheet-length, buffer-after};
+ghost use Rattle.sheet_writer.specs.Writing.{sheet-length, buffer-after};
 use crate::lengths::answer_length;
 use sheet::Found;
 
@@ -45,6 +45,6 @@ pub extern "C" fn sw_write_sheet(
     ensures { λ r. ⌜ now (out .exit) ≡ buffer-after (now (lengths .entry)) (now (bodies .entry)) (now (out .entry)) ⌝ }
     ensures { λ r. ⌜ now (written .exit) ≡ or-kept (λ count. count) (sheet-length (now (lengths .entry)) (now (bodies .entry)) (length (now (out .entry)))) (now (written .entry)) ⌝ }
 {
-    let answer = sheet::write_sheet(lengths, bodies, out);
+    let answer = sheet_writer::write_sheet(lengths, bodies, out);
     answer_length(answer, written)
 }

@@ -4,8 +4,8 @@ use mathlib.Core.Path.{_≡_}
 use mathlib.Core.List.{List}
 use lib.ListN.{length}
 use Rattle.refusal.specs.Answer.{refused, accepted}
 use Rattle.sheet.specs.Sheet.{rule-body}
-use Rattle.sheet.specs.Writing.{sheet-of, kth-body}
+use Rattle.sheet_writer.specs.Writing.{sheet-of, kth-body}
 
 -- What the writer answers is the sheet's length; the reader gives back each body, and no other.
 pub record ReadsBack (ls b : List ℕ) (n : ℕ) : Type 0 where
