@@ -7,8 +7,8 @@ use Rattle.refusal.specs.Answer.{refused, accepted}
 use Rattle.sheet.specs.Sheet.{rule-body}
 use Rattle.sheet_writer.specs.Writing.{sheet-of, kth-body}
 
--- What the writer answers is the sheet's length; the reader gives back each body, and no other.
-pub record ReadsBack (ls b : List ℕ) (n : ℕ) : Type 0 where
-  pub size : length (sheet-of ls b) ≡ n
-  pub bodies : (k : ℕ) → k < length ls → rule-body (sheet-of ls b) k ≡ accepted (kth-body ls b k)
-  pub beyond : (k : ℕ) → length ls ≤ k → rule-body (sheet-of ls b) k ≡ refused 3
+-- What the writer answers is the sheet's length; the reader gives back each of the bodies that were joined end to end, and no other.
+pub record ReadsBack (lengths joined : List ℕ) (count : ℕ) : Type 0 where
+  pub size : length (sheet-of lengths joined) ≡ count
+  pub bodies : (rule : ℕ) → rule < length lengths → rule-body (sheet-of lengths joined) rule ≡ accepted (kth-body lengths joined rule)
+  pub beyond : (rule : ℕ) → length lengths ≤ rule → rule-body (sheet-of lengths joined) rule ≡ refused 3
