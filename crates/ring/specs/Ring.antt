@@ -6,8 +6,8 @@ use lib.Dec.{eqb}
 use lib.ListN.{length, getD}
 
 abbrev pub history-byte : List ℕ → ℕ → ℕ
-history-byte hist q = getD hist (q % length hist) 0
+history-byte history q = getD history (q % length history) 0
 
--- The byte of tick q: the one given where q is t, or that of the history.
+-- The byte of tick q: the flag byte given where q is t, or that of the history.
 abbrev pub byte-of : List ℕ → ℕ → ℕ → ℕ → ℕ
-byte-of hist b t q = cond (eqb q t) b (history-byte hist q)
+byte-of history flag t q = cond (eqb q t) flag (history-byte history q)
