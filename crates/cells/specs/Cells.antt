@@ -11,18 +11,18 @@ use Rattle.rule.specs.declared.Outcome.the-variants.{Decided, Open}
 
 -- The outcome that two words of a cell hold: 1 true, 2 false, else open; and its step, counted from p.
 unfoldable pub held : ℕ → ℕ → ℕ → Outcome
-held p w d = cond (eqb w 1) (Decided True (p + d)) (cond (eqb w 2) (Decided False (p + d)) Open)
+held p verdict steps = cond (eqb verdict 1) (Decided True (p + steps)) (cond (eqb verdict 2) (Decided False (p + steps)) Open)
 
--- The words k and k + 2 of a cell hold the outcome o; where that is open, R.
+-- A word of a cell and the second word after it hold the outcome; where that is open, R.
 abbrev pub CellHolds : ℕ → ℕ → Outcome → Type 0 → List ℕ → Type 0
-CellHolds p k o R cell = (o ≡ held p (getD cell k 0) (getD cell (k + 2) 0)) × (o ≡ Open → R)
+CellHolds p word outcome R cell = (outcome ≡ held p (getD cell word 0) (getD cell (word + 2) 0)) × (outcome ≡ Open → R)
 
--- A step d counted from p, in a word.
+-- A step counted from p, in a word.
 abbrev pub since : ℕ → ℕ → ℕ
-since p d = (d - p) % 4294967296
+since p step = (step - p) % 4294967296
 
--- A cell with an outcome written into its words k and k + 2.
+-- A cell with an outcome written into a word and the second word after it.
 unfoldable pub mark : ℕ → ℕ → Outcome → List ℕ → List ℕ
-mark p k Open cell = set cell k 0
-mark p k (Decided True d) cell = set (set cell (k + 2) (since p d)) k 1
-mark p k (Decided False d) cell = set (set cell (k + 2) (since p d)) k 2
+mark p word Open cell = set cell word 0
+mark p word (Decided True step) cell = set (set cell (word + 2) (since p step)) word 1
+mark p word (Decided False step) cell = set (set cell (word + 2) (since p step)) word 2

@@ -3,10 +3,10 @@ use Prim.Native.Nat.{ℕ, _+_}
 use mathlib.Core.Bool.{cond}
 use lib.Dec.{eqb, leb}
 
--- The latest step, where l leading positions are true and the head's word is d.
+-- The latest step, where so many leading positions are true and the head's word 2 has these steps.
 unfoldable pub latest-of : ℕ → ℕ → ℕ → ℕ → ℕ
-latest-of p s l d = cond (eqb l 0) s (p + d)
+latest-of p s leading steps = cond (eqb leading 0) s (p + steps)
 
 -- How many leading positions a step leaves alone: none where the range starts now, and never more than there are.
 unfoldable pub leading-of : ℕ → ℕ → ℕ → ℕ → ℕ
-leading-of s t n l = cond (eqb t s) 0 (cond (leb l n) l 0)
+leading-of s t positions trues = cond (eqb t s) 0 (cond (leb trues positions) trues 0)
