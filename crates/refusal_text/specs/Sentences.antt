@@ -10,7 +10,7 @@ use lib.ListN.{getD}
 -- The bytes of a text in ASCII.
 unfoldable pub ascii : String → List ℕ
 ascii empty = []
-ascii (c then text) = code c ∷ ascii text
+ascii (letter then text) = code letter ∷ ascii text
 
 abbrev pub unknown : String
 unknown = "no such refusal"
@@ -49,8 +49,8 @@ sentences =
 
 -- The sentence of a number; every other number has that of 0.
 unfoldable pub sentence-of : ℕ → List ℕ
-sentence-of n = ascii (getD sentences n unknown)
+sentence-of number = ascii (getD sentences number unknown)
 
--- A number is none of 1 to k.
+-- A number is none of 1 to `last`.
 abbrev pub Past : ℕ → ℕ → Type 0
-Past k n = (n ≡ 0) ⊎ (k < n)
+Past last number = (number ≡ 0) ⊎ (last < number)
