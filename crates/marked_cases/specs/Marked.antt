@@ -13,13 +13,13 @@ use Rattle.rule.specs.Body.{body}
 use Rattle.rule.specs.Figures.{figures, body-figures}
 use Rattle.rule.specs.Meaning.{rule}
 
--- The answer "history h, delay d, cells c".
+-- The answer that these are the figures: history, delay, cells.
 abbrev pub figures-are : ℕ → ℕ → ℕ → Answer Figures
-figures-are h d c = accepted (record { history = h; delay = d; cells = c })
+figures-are history delay cells = accepted (record { history = history; delay = delay; cells = cells })
 
 -- The figures of a rule of a sheet: 1 to 15, 23, 24.
 abbrev pub sheet-figures : List ℕ → ℕ → Answer Figures
-sheet-figures s r = and-then (rule-body s r) body-figures
+sheet-figures sheet index = and-then (rule-body sheet index) body-figures
 
 -- The bounds X + n and X - (n + 1), and "for all positions of a range, flag 0 there".
 abbrev pub X+ : ℕ → Bound

@@ -11,22 +11,22 @@ use Rattle.rule.specs.Body.{body}
 use Rattle.rule.specs.Figures.{body-figures}
 use Rattle.marked_cases.specs.Marked.{figures-are, example}
 
--- Flag 0 of variable v; a range and its body.
+-- Flag 0 of a variable; a range and its body.
 abbrev pub up-at : ℕ → List ℕ
-up-at v = 1 ∷ v ∷ 0 ∷ []
+up-at variable = 1 ∷ variable ∷ 0 ∷ []
 
 abbrev pub over : List ℕ → List ℕ → List ℕ → List ℕ
-over b₁ b₂ part = 5 ∷ (b₁ ++ (b₂ ++ part))
+over B₁ B₂ part = 5 ∷ (B₁ ++ (B₂ ++ part))
 
--- The bounds of the three kinds, with variable byte v and an offset of these two bytes: a variable, position 0, infinity.
+-- The bounds of the three kinds, with this variable byte and an offset of these two bytes: a variable, position 0, infinity.
 abbrev pub var : ℕ → ℕ → ℕ → List ℕ
-var v low high = 2 ∷ v ∷ low ∷ high ∷ []
+var variable low high = 2 ∷ variable ∷ low ∷ high ∷ []
 
 abbrev pub start-with : ℕ → ℕ → ℕ → List ℕ
-start-with v low high = 0 ∷ v ∷ low ∷ high ∷ []
+start-with variable low high = 0 ∷ variable ∷ low ∷ high ∷ []
 
 abbrev pub infinity-with : ℕ → ℕ → ℕ → List ℕ
-infinity-with v low high = 1 ∷ v ∷ low ∷ high ∷ []
+infinity-with variable low high = 1 ∷ variable ∷ low ∷ high ∷ []
 
 -- Position 0 and infinity, as they should be.
 abbrev pub start : List ℕ
@@ -35,17 +35,17 @@ start = start-with 0 0 0
 abbrev pub never : List ℕ
 never = infinity-with 0 0 0
 
--- n times "not" before a flag; n times "flag beside"; n nested quantifiers from position 0 to X.
+-- So many times "not" before a flag; so many times "flag beside" before one; so many nested quantifiers from position 0 to X.
 unfoldable pub nots : ℕ → List ℕ
-nots n = replicate n 2 ++ up-at 0
+nots count = replicate count 2 ++ up-at 0
 
 unfoldable pub besides : ℕ → List ℕ
 besides zero = up-at 0
-besides (suc n) = 4 ∷ (up-at 0 ++ besides n)
+besides (suc count) = 4 ∷ (up-at 0 ++ besides count)
 
 unfoldable pub nested : ℕ → List ℕ
 nested zero = up-at 0
-nested (suc n) = over start (var 0 0 0) (nested n)
+nested (suc count) = over start (var 0 0 0) (nested count)
 
 pub record Limits : Type 0 where
   -- Y in X-4,095..X-4,095, inside it Z in Y-1..Y-1: history 4,096; Y-2..Y-2: 14
