@@ -6,5 +6,5 @@ use Rattle.recording.specs.declared.Evaluated.{Evaluated}
 use Rattle.recording.specs.declared.Evaluated.the-variants.{Answered, Refused}
 
 abbrev pub outcome-answer : Evaluated → Answer Outcome
-outcome-answer (Answered o) = accepted o
-outcome-answer (Refused x) = refused (number-of x)
+outcome-answer (Answered outcome) = accepted outcome
+outcome-answer (Refused refusal) = refused (number-of refusal)

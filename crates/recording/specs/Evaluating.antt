@@ -12,7 +12,7 @@ use Rattle.recording.specs.declared.env.Env.{Env}
 
 -- The positions of the variables that are bound.
 abbrev pub bound-positions : Env → List ℕ
-bound-positions e = take (suc (e .nested)) (e .pos)
+bound-positions env = take (suc (env .nested)) (env .pos)
 
 -- The environment of the rule at tick p: "variable 0 equal to p".
 abbrev pub started : ℕ → Env
@@ -20,21 +20,21 @@ started p = record { nested = 0; pos = p ∷ (0 ∷ (0 ∷ (0 ∷ (0 ∷ [])))) 
 
 -- The environment inside one more quantifier, whose variable stands at q.
 abbrev pub entered : Env → ℕ → Env
-entered e q = record { nested = e .nested + 1; pos = set (e .pos) (e .nested + 1) q }
+entered env q = record { nested = env .nested + 1; pos = set (env .pos) (env .nested + 1) q }
 
 -- An outcome that no formula started at this step or later, beside it, can change: false by then.
 abbrev pub false-by : Outcome → ℕ → Bool
-false-by (Decided True d) start = false
-false-by (Decided False d) start = leb d start
+false-by (Decided True step) start = false
+false-by (Decided False step) start = leb step start
 false-by Open start = false
 
--- Before a formula is evaluated at word i, with `left` formulas left: no word's number is past 64 bits, and no sum of a position and an
+-- Before a formula is evaluated at word `node`, with `left` formulas left: no word's number is past 64 bits, and no sum of a position and an
 -- offset; the variables stand at positions up to t, and those that are not bound at 0.
-pub record Evaluable (left i t : ℕ) (e : Env) : Type 0 where
+pub record Evaluable (left node t : ℕ) (env : Env) : Type 0 where
   pub few : left ≤ 64
-  pub near : i + 12 * left ≤ 4294968064
+  pub near : node + 12 * left ≤ 4294968064
   pub early : t < 4611686018427387904
-  pub nested : e .nested ≤ 4
-  pub five : length (e .pos) ≡ 5
-  pub clear : (v : ℕ) → e .nested < v → getD (e .pos) v 0 ≡ 0
-  pub within : (v : ℕ) → getD (e .pos) v 0 ≤ t
+  pub nested : env .nested ≤ 4
+  pub five : length (env .pos) ≡ 5
+  pub clear : (variable : ℕ) → env .nested < variable → getD (env .pos) variable 0 ≡ 0
+  pub within : (variable : ℕ) → getD (env .pos) variable 0 ≤ t
