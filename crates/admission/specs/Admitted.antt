@@ -9,11 +9,11 @@ use Rattle.figures.specs.Prepared.{Leaves}
 use Rattle.demand.specs.Contract.{admit-lengths}
 
 -- Figures within the limits.
-pub record Small (f : Figures) : Type 0 where
-  pub short : f .delay ≤ 255
-  pub old : f .history ≤ 4096
-  pub few : f .cells ≤ 4096
+pub record Small (figures : Figures) : Type 0 where
+  pub short : figures .delay ≤ 255
+  pub old : figures .history ≤ 4096
+  pub few : figures .cells ≤ 4096
 
-pub record Admitted (b : List ℕ) (L t history cells report : ℕ) (r : FigureAnswer) (ns : List ℕ) : Type 0 where
-  pub answer : figures-answer r ≡ admit-lengths b L t history cells report
-  pub leaves : Leaves b ns (figures-answer r)
+pub record Admitted (body : List ℕ) (L t history cells report : ℕ) (result : FigureAnswer) (nodes : List ℕ) : Type 0 where
+  pub answer : figures-answer result ≡ admit-lengths body L t history cells report
+  pub leaves : Leaves body nodes (figures-answer result)
