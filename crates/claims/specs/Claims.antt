@@ -44,13 +44,13 @@ pub record Claims : Type 0 where
   pub of-values : Demanded Stands by-value
   pub of-bytes : Demanded Stands in-bytes
   -- The value that an opening gives holds 01's state of an opening.
-  pub value-fresh : (b : List ℕ) (L : ℕ) → length b ≤ 512 → state-of (fresh-code b L) ≡ fresh-state b L
+  pub value-fresh : (bytes : List ℕ) (L : ℕ) → length bytes ≤ 512 → state-of (fresh-code bytes L) ≡ fresh-state bytes L
   -- State bytes that have come to another next tick and live count load as the state that has come to them; with their own two, they are as they were.
   pub bytes-moved : (st : List ℕ) (next live : ℕ) → length st ≡ 544 → next < 18446744073709551616 → live < 18446744073709551616
       → loaded (moved-bytes st next live) ≡ moved-code (loaded st) next live
   pub bytes-kept : (st : List ℕ) → Bytes st → length st ≡ 544 → moved-bytes st (number-at st 528) (number-at st 536) ≡ st
   -- A state is stored as bytes that load as that state, and bytes that were loaded are stored as they were.
-  pub state-back : (s : code.State) → Storable s → loaded (stored s) ≡ s
+  pub state-back : (state : code.State) → Storable state → loaded (stored state) ≡ state
   pub bytes-back : (st : List ℕ) → Bytes st → length st ≡ 544 → stored (loaded st) ≡ st
   -- ---- what a rule means: the outcome over the ticks 0..t of a formula started at step s
 
@@ -58,49 +58,53 @@ pub record Claims : Type 0 where
   pub for-all : (B₁ B₂ : Bound) (F : Formula) (flags : ℕ → ℕ) (t : ℕ) (env : List ℕ) (s : ℕ)
       → Said (range B₁ B₂ env) (λ q. seen t q (outcome F flags t (env ++ (q ∷ [])) (max s q))) t s (outcome (forall B₁ B₂ F) flags t env s)
   -- A decision's step is from s to t; what is decided stays; what was open until now and is decided, is decided now.
-  pub not-before : (F : Formula) (flags : ℕ → ℕ) (env : List ℕ) (s t d : ℕ) (v : Verdict) → outcome F flags t env s ≡ Decided v d → s ≤ d
-  pub not-after : (F : Formula) (flags : ℕ → ℕ) (env : List ℕ) (s t d : ℕ) (v : Verdict) → s ≤ t → outcome F flags t env s ≡ Decided v d → d ≤ t
-  pub stays : (F : Formula) (flags : ℕ → ℕ) (env : List ℕ) (s t d : ℕ) (v : Verdict) → s ≤ t
-      → outcome F flags t env s ≡ Decided v d → outcome F flags (t + 1) env s ≡ Decided v d
-  pub now-decided : (F : Formula) (flags : ℕ → ℕ) (env : List ℕ) (s t d : ℕ) (v : Verdict)
-      → Before s t (λ k. outcome F flags k env s ≡ Open) → outcome F flags t env s ≡ Decided v d → t ≡ d
-  -- With a delay of at most d, it is decided by max(s, p + d), where p is the rule's tick.
-  pub in-time : (F : Formula) {p : ℕ} {ps : List Pair} {env : List ℕ} → Fits p ps env → (d : ℕ) → Within (delay F ps) d
-      → (flags : ℕ → ℕ) (t s : ℕ) → max s (p + d) ≤ t → By (max s (p + d)) (outcome F flags t env s)
-  -- Bytes above t do not matter; nor, to a rule with history h, do those before p - h.
-  pub none-later : (F : Formula) (a b : ℕ → ℕ) (t : ℕ) → ((i : ℕ) → i ≤ t → a i ≡ b i)
-      → (env : List ℕ) → ((v : ℕ) → getD env v 0 ≤ t) → (s : ℕ) → outcome F a t env s ≡ outcome F b t env s
-  pub none-older : (F : Formula) (h : ℕ) → Scoped 1 F → history F (at-tick ∷ []) (Finite 0) ≡ Finite h → (t p : ℕ) → p ≤ t
-      → (a b : ℕ → ℕ) → ((i : ℕ) → p ≤ i + h → i ≤ t → a i ≡ b i) → rule F a t p ≡ rule F b t p
+  pub not-before : (F : Formula) (flags : ℕ → ℕ) (env : List ℕ) (s t step : ℕ) (verdict : Verdict)
+      → outcome F flags t env s ≡ Decided verdict step → s ≤ step
+  pub not-after : (F : Formula) (flags : ℕ → ℕ) (env : List ℕ) (s t step : ℕ) (verdict : Verdict) → s ≤ t
+      → outcome F flags t env s ≡ Decided verdict step → step ≤ t
+  pub stays : (F : Formula) (flags : ℕ → ℕ) (env : List ℕ) (s t step : ℕ) (verdict : Verdict) → s ≤ t
+      → outcome F flags t env s ≡ Decided verdict step → outcome F flags (t + 1) env s ≡ Decided verdict step
+  pub now-decided : (F : Formula) (flags : ℕ → ℕ) (env : List ℕ) (s t step : ℕ) (verdict : Verdict)
+      → Before s t (λ earlier. outcome F flags earlier env s ≡ Open) → outcome F flags t env s ≡ Decided verdict step → t ≡ step
+  -- With a delay within a limit, it is decided by max(s, p + limit), where p is the rule's tick.
+  pub in-time : (F : Formula) {p : ℕ} {ps : List Pair} {env : List ℕ} → Fits p ps env → (limit : ℕ) → Within (delay F ps) limit
+      → (flags : ℕ → ℕ) (t s : ℕ) → max s (p + limit) ≤ t → By (max s (p + limit)) (outcome F flags t env s)
+  -- Bytes above t do not matter; nor, to a rule whose history is this figure, do those before p - figure.
+  pub none-later : (F : Formula) (flags others : ℕ → ℕ) (t : ℕ) → ((tick : ℕ) → tick ≤ t → flags tick ≡ others tick)
+      → (env : List ℕ) → ((variable : ℕ) → getD env variable 0 ≤ t) → (s : ℕ) → outcome F flags t env s ≡ outcome F others t env s
+  pub none-older : (F : Formula) (figure : ℕ) → Scoped 1 F → history F (at-tick ∷ []) (Finite 0) ≡ Finite figure → (t p : ℕ) → p ≤ t
+      → (flags others : ℕ → ℕ) → ((tick : ℕ) → p ≤ tick + figure → tick ≤ t → flags tick ≡ others tick) → rule F flags t p ≡ rule F others t p
   -- ---- sheets and bodies
 
   -- A written sheet reads back as the same bodies, and no other.
-  pub sheet-back : (ls b : List ℕ) (room n : ℕ) → sheet-length ls b room ≡ accepted n → ReadsBack ls b n
+  pub sheet-back : (lengths bodies : List ℕ) (room count : ℕ) → sheet-length lengths bodies room ≡ accepted count → ReadsBack lengths bodies count
   -- It is the first bytes of the buffer, as many as the writer answers; the bytes after them keep their content.
-  pub sheet-front : (ls b out : List ℕ) (n : ℕ) → sheet-length ls b (length out) ≡ accepted n → take n (buffer-after ls b out) ≡ sheet-of ls b
-  pub sheet-rest : (ls b out : List ℕ) (n : ℕ) → sheet-length ls b (length out) ≡ accepted n → drop n (buffer-after ls b out) ≡ drop n out
+  pub sheet-front : (lengths bodies out : List ℕ) (count : ℕ) → sheet-length lengths bodies (length out) ≡ accepted count
+      → take count (buffer-after lengths bodies out) ≡ sheet-of lengths bodies
+  pub sheet-rest : (lengths bodies out : List ℕ) (count : ℕ) → sheet-length lengths bodies (length out) ≡ accepted count
+      → drop count (buffer-after lengths bodies out) ≡ drop count out
   -- A formula has at most one body; a body is refused only with 4 to 10, 23 and 24, and has at most 432 bytes where it is not.
-  pub one-body : (s t : List ℕ) (F : Formula) → Bytes s → Bytes t → body s ≡ accepted F → body t ≡ accepted F → s ≡ t
-  pub body-refusals : (s : List ℕ) (n : ℕ) → body s ≡ refused n → OfABody n
-  pub body-short : (s : List ℕ) (F : Formula) → body s ≡ accepted F → length s ≤ 432
+  pub one-body : (first second : List ℕ) (F : Formula) → Bytes first → Bytes second → body first ≡ accepted F → body second ≡ accepted F → first ≡ second
+  pub body-refusals : (bytes : List ℕ) (number : ℕ) → body bytes ≡ refused number → OfABody number
+  pub body-short : (bytes : List ℕ) (F : Formula) → body bytes ≡ accepted F → length bytes ≤ 432
   -- ---- rules as text
 
   -- A text has at most one reading. It is answered as that reading's body, with the refusals of a body and last 22.
-  pub one-reading : (s : List ℕ) (M N : Rule) → Reads s M → Reads s N → M ≡ N
-  pub text-answered : (s : List ℕ) (N : Rule) (room : ℕ) → length s ≤ 4096 → Reads s N
-      → body-of-text s room ≡ and-then (and-then (named-body N) checked) (fitted room)
+  pub one-reading : (text : List ℕ) (first second : Rule) → Reads text first → Reads text second → first ≡ second
+  pub text-answered : (text : List ℕ) (reading : Rule) (room : ℕ) → length text ≤ 4096 → Reads text reading
+      → body-of-text text room ≡ and-then (and-then (named-body reading) checked) (fitted room)
   -- Where bytes are answered, the text has a reading, and they are a body and fit.
-  pub text-accepted : (s b : List ℕ) (room : ℕ) → body-of-text s room ≡ accepted b
-      → (N : Rule) × Reads s N × (F : Formula) × (body b ≡ accepted F) × (length b ≤ room)
+  pub text-accepted : (text bytes : List ℕ) (room : ℕ) → body-of-text text room ≡ accepted bytes
+      → (reading : Rule) × Reads text reading × (F : Formula) × (body bytes ≡ accepted F) × (length bytes ≤ room)
   -- 25 comes exactly where there is no reading or the text is too long, and 26 exactly where the reading names what is not bound.
-  pub text-25 : (s : List ℕ) (room : ℕ) → (body-of-text s room ≡ refused 25) ↔ Misspelt s
-  pub text-26 : (s : List ℕ) (room : ℕ) → (body-of-text s room ≡ refused 26) ↔ Unbound s
+  pub text-25 : (text : List ℕ) (room : ℕ) → (body-of-text text room ≡ refused 25) ↔ Misspelt text
+  pub text-26 : (text : List ℕ) (room : ℕ) → (body-of-text text room ≡ refused 26) ↔ Unbound text
   -- The text of a body is spelt right, and its body is that body again.
-  pub text-back : (b t : List ℕ) (room room′ : ℕ) → Bytes b → text-of-body b room ≡ accepted t → length b ≤ room′
-      → (N : Rule) × Reads t N × (body-of-text t room′ ≡ accepted b)
+  pub text-back : (bytes text : List ℕ) (room room′ : ℕ) → Bytes bytes → text-of-body bytes room ≡ accepted text → length bytes ≤ room′
+      → (reading : Rule) × Reads text reading × (body-of-text text room′ ≡ accepted bytes)
   -- A buffer of 432 bytes takes every body (SW_MAX_BODY, 512, is above that), one of 4,096 (SW_MAX_TEXT) every text.
-  pub body-room : (s : List ℕ) (room : ℕ) → 432 ≤ room → body-of-text s room ≡ refused 22 → ⊥
-  pub text-room : (b : List ℕ) (room : ℕ) → 4096 ≤ room → text-of-body b room ≡ refused 22 → ⊥
+  pub body-room : (text : List ℕ) (room : ℕ) → 432 ≤ room → body-of-text text room ≡ refused 22 → ⊥
+  pub text-room : (bytes : List ℕ) (room : ℕ) → 4096 ≤ room → text-of-body bytes room ≡ refused 22 → ⊥
   -- ---- 01's marked cases hold of the definitions
   pub marked-cases : Marked
   -- Limits at their boundary: what is within one is not refused with that limit's number, what is above it is.
