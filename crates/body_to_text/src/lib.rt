@@ -4,7 +4,7 @@ mod pieces;
 mod store;
 
 ghost use lib.ListN.{length};
-ghost use Rattle.sheet_writer.specs.Writing.{written};
+ghost use Rattle.refusal.specs.Answer.{written};
 ghost use Rattle.nodes.specs.Table.{formula-in};
 ghost use Rattle.notation.specs.Bodies.{fitted, Writes};
 ghost use Rattle.notation.specs.Printing.{text-of-body};
@@ -16,7 +16,7 @@ use formula::put_formula;
 use nodes::FORMULAS;
 use nodes::TABLE_WORDS;
 use reader::Reading;
-use sheet_writer::Written;
+use refusal::Written;
 use store::put_word;
 
 // Stores the whole text of the rule whose table is filled.

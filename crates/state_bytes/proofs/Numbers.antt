@@ -7,7 +7,7 @@ use native.Mathlib.Nat.{add-zero, add-suc}
 use native.Mathlib.Omega.{arith}
 use lib.ListN.{length, getD, take, drop, set, length-drop, take-append-drop}
 use lib.Seq.{take-nil, drop-drop, take-suc-set, drop-set-lt, append-snoc, take-all, drop-at, drop-append-le, take-append-le}
-use Rattle.sheet_writer.specs.Writing.{splice}
+use Rattle.words.specs.Words.{splice}
 use Rattle.state_bytes.specs.Numbers.{value, low-bytes, number-at}
 
 -- ---- reading

@@ -2,7 +2,7 @@
 ghost use mathlib.Core.Path.{_≡_};
 ghost use Prim.Native.Nat.{_+_, _≤_};
 ghost use lib.ListN.{length};
-ghost use Rattle.sheet_writer.specs.Writing.{splice};
+ghost use Rattle.words.specs.Words.{splice};
 ghost use Rattle.state_bytes.specs.Numbers.{low-bytes, number-at};
 use words::byte_after;
 

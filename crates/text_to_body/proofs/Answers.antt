@@ -7,9 +7,9 @@ use Rattle.refusal.specs.Answer.{Answer, refused, accepted, and-then}
 use Rattle.refusal.specs.Numbers.{number-of}
 use Rattle.refusal.specs.declared.Refusal.{Refusal}
 use Rattle.refusal.proofs.Answers.{not-accepted, same-value}
-use Rattle.sheet_writer.specs.Writing.{written}
-use Rattle.sheet_writer.specs.declared.Written.{Written}
-use Rattle.sheet_writer.specs.declared.Written.the-variants as answers
+use Rattle.refusal.specs.Answer.{written}
+use Rattle.refusal.specs.declared.Written.{Written}
+use Rattle.refusal.specs.declared.Written.the-variants as answers
 use Rattle.reader.specs.Decoded.{Decoded}
 use Rattle.reader.proofs.Told.{refused-body, read-formula}
 use Rattle.reader.specs.declared.Reading.{Reading}

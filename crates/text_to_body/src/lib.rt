@@ -11,13 +11,13 @@ mod values;
 ghost use mathlib.Core.List.{List};
 ghost use lib.ListN.{length};
 ghost use Rattle.refusal.specs.Answer.{and-then};
-ghost use Rattle.sheet_writer.specs.Writing.{written};
+ghost use Rattle.refusal.specs.Answer.{written};
 ghost use Rattle.notation.specs.Bodies.{checked, fitted, body-of-text, Writes};
 use nodes::TABLE_WORDS;
 use notation::deliver;
 use reader::Reading;
 use reader::read_body;
-use sheet_writer::Written;
+use refusal::Written;
 use translate::translate;
 
 // Puts a body at the start of a lent buffer if the body reader takes it: refusals 4 to 10, 23, 24, and last 22.

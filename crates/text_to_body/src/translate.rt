@@ -3,14 +3,14 @@ ghost use mathlib.Core.Path.{_≡_};
 ghost use mathlib.Core.List.{List};
 ghost use Prim.Native.Nat.{ℕ, _≤_, _<_};
 ghost use lib.ListN.{length};
-ghost use Rattle.sheet_writer.specs.Writing.{written};
+ghost use Rattle.refusal.specs.Answer.{written};
 ghost use Rattle.notation.specs.Bodies.{length-of};
 ghost use Rattle.text_to_body.specs.Cursors.{answer-at, CursorFits, Rooms, Moved, answer-at-end, Reached, Translated};
 use crate::begin::begin_formula;
 use crate::cursor::Cursor;
 use crate::end::end_formula;
 use refusal::Refusal;
-use sheet_writer::Written;
+use refusal::Written;
 use text_pieces::rule_start;
 
 // One step from a cursor before or after a formula.

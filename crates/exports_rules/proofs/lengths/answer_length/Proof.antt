@@ -4,7 +4,7 @@ use Prim.Native.Nat.{ℕ}
 use mathlib.Core.Path.{sym, ap, _∙_}
 use denote.Ref.{now}
 use Rattle.refusal.specs.Answer.{Answer, or-kept, number}
-use Rattle.sheet_writer.specs.Writing.{written}
+use Rattle.refusal.specs.Answer.{written}
 use borrow.Author.Needs.{needs}
 use Rattle.exports_rules.proofs.lengths.answer_length.Statement.{statement}
 use Rattle.exports_rules.proofs.lengths.answer_length.Tie as tie
