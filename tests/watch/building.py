@@ -116,8 +116,9 @@ echo "rt: words proved (2 s)"
 [ "$2" != "$FAILS" ] || { echo "$2.rt:1: error: no"; exit 1; }
 mkdir -p target/staticlib && cd target/staticlib
 echo "static int own(int x) { return x ? own(x - 1) : 7; } int sw_$2(int x) { return own(x); }" | gcc -x c -O0 -fPIC -c -o "$2.o" -
-ar rcs "lib$2.a" "$2.o"
-rm "$2.o"
+[ "$2" != "$EMPTY" ] || mv "$2.o" other.o
+ar rcs "lib$2.a" ./*.o
+rm ./*.o
 """
 
 LIBRARY_BEGIN = BEGIN.replace("watch", "library") + "library: building: 1 of 3 crates proved (words, 2 s)\n"
@@ -129,7 +130,7 @@ class Library(Repository):
 
     def setUp(self):
         super().setUp()
-        self.write('#define SW_VERSION "0.4.3"\n', "include", "station_watch.h")
+        self.write('#define SW_VERSION "9.8.7"\n', "include", "station_watch.h")
         self.archive = self.path("target", "lib", "libstation_watch.a")
 
     def functions(self, *words):
@@ -148,6 +149,7 @@ class Library(Repository):
         parts = ["sw_exports_rules", "sw_exports_watch"]
         self.assertEqual(self.functions("--extern-only", self.archive), parts)
         self.assertEqual(self.functions("--dynamic", self.path("target", "lib", "libstation_watch.so")), parts)
+        self.assertEqual(os.readlink(self.path("target", "lib", "libstation_watch.so.9.8")), "libstation_watch.so")
         built = self.bytes()
         self.ends(0, "", "")
         self.write("// changed", "crates", "words", "src", "lib.rt")
@@ -163,3 +165,23 @@ class Library(Repository):
         said = LIBRARY_BEGIN + LIBRARY_BEGIN.splitlines(True)[1] + first + first + "exports_watch.rt:1: error: no\n" + named
         self.ends(1, "", said, FAILS="exports_watch")
         self.assertEqual(os.listdir(self.path("target", "lib")), ["built.new"])
+
+    def test_the_shared_librarys_own_name_is_gone(self):
+        """Programs that were linked with it start by that name, so it is built again."""
+        twice = LIBRARY_BEGIN + LIBRARY_BEGIN.splitlines(True)[1] + LIBRARY_BUILT
+        self.ends(0, "", twice)
+        own_name = self.path("target", "lib", "libstation_watch.so.9.8")
+        os.remove(own_name)
+        self.ends(0, "", twice)
+        self.assertTrue(os.path.exists(own_name))
+
+    def test_a_part_that_is_not_in_its_archive(self):
+        run = self.start(EMPTY="exports_watch")
+        out, err = run.communicate(timeout=60)
+        self.assertEqual((run.returncode, out), (1, ""))
+        self.assertEqual(err.splitlines()[-1], "library: not built: its parts could not be put together")
+        self.assertNotIn("libstation_watch.a", os.listdir(self.path("target", "lib")))
+
+    def test_no_version(self):
+        self.write("", "include", "station_watch.h")
+        self.ends(1, "", "library: not built: include/station_watch.h has no SW_VERSION\n")
