@@ -46,12 +46,12 @@ pub record Claims : Type 0 where
   -- The value that an opening gives holds 01's state of an opening.
   pub value-fresh : (bytes : List ℕ) (L : ℕ) → length bytes ≤ 512 → state-of (fresh-code bytes L) ≡ fresh-state bytes L
   -- State bytes that have come to another next tick and live count load as the state that has come to them; with their own two, they are as they were.
-  pub bytes-moved : (st : List ℕ) (next live : ℕ) → length st ≡ 544 → next < 18446744073709551616 → live < 18446744073709551616
-      → loaded (moved-bytes st next live) ≡ moved-code (loaded st) next live
-  pub bytes-kept : (st : List ℕ) → Bytes st → length st ≡ 544 → moved-bytes st (number-at st 528) (number-at st 536) ≡ st
+  pub bytes-moved : (bytes : List ℕ) (next live : ℕ) → length bytes ≡ 544 → next < 18446744073709551616 → live < 18446744073709551616
+      → loaded (moved-bytes bytes next live) ≡ moved-code (loaded bytes) next live
+  pub bytes-kept : (bytes : List ℕ) → Bytes bytes → length bytes ≡ 544 → moved-bytes bytes (number-at bytes 528) (number-at bytes 536) ≡ bytes
   -- A state is stored as bytes that load as that state, and bytes that were loaded are stored as they were.
   pub state-back : (state : code.State) → Storable state → loaded (stored state) ≡ state
-  pub bytes-back : (st : List ℕ) → Bytes st → length st ≡ 544 → stored (loaded st) ≡ st
+  pub bytes-back : (bytes : List ℕ) → Bytes bytes → length bytes ≡ 544 → stored (loaded bytes) ≡ bytes
   -- ---- what a rule means: the outcome over the ticks 0..t of a formula started at step s
 
   -- For all is 01's sentence.
@@ -77,12 +77,12 @@ pub record Claims : Type 0 where
   -- ---- sheets and bodies
 
   -- A written sheet reads back as the same bodies, and no other.
-  pub sheet-back : (lengths bodies : List ℕ) (room count : ℕ) → sheet-length lengths bodies room ≡ accepted count → ReadsBack lengths bodies count
+  pub sheet-back : (lengths bodies : List ℕ) (room size : ℕ) → sheet-length lengths bodies room ≡ accepted size → ReadsBack lengths bodies size
   -- It is the first bytes of the buffer, as many as the writer answers; the bytes after them keep their content.
-  pub sheet-front : (lengths bodies out : List ℕ) (count : ℕ) → sheet-length lengths bodies (length out) ≡ accepted count
-      → take count (buffer-after lengths bodies out) ≡ sheet-of lengths bodies
-  pub sheet-rest : (lengths bodies out : List ℕ) (count : ℕ) → sheet-length lengths bodies (length out) ≡ accepted count
-      → drop count (buffer-after lengths bodies out) ≡ drop count out
+  pub sheet-front : (lengths bodies out : List ℕ) (size : ℕ) → sheet-length lengths bodies (length out) ≡ accepted size
+      → take size (buffer-after lengths bodies out) ≡ sheet-of lengths bodies
+  pub sheet-rest : (lengths bodies out : List ℕ) (size : ℕ) → sheet-length lengths bodies (length out) ≡ accepted size
+      → drop size (buffer-after lengths bodies out) ≡ drop size out
   -- A formula has at most one body; a body is refused only with 4 to 10, 23 and 24, and has at most 432 bytes where it is not.
   pub one-body : (first second : List ℕ) (F : Formula) → Bytes first → Bytes second → body first ≡ accepted F → body second ≡ accepted F → first ≡ second
   pub body-refusals : (bytes : List ℕ) (number : ℕ) → body bytes ≡ refused number → OfABody number

@@ -6,11 +6,11 @@ use refusal::Written;
 // Answers 0 and sets the length, or answers the refusal's number and leaves the length as it is.
 pub(crate) fn answer_length(answer: Written, length: &mut usize) -> u32
     ensures { λ r. ⌜ r ≡ number (written answer) ⌝ }
-    ensures { λ r. ⌜ now (length .exit) ≡ or-kept (λ count. count) (written answer) (now (length .entry)) ⌝ }
+    ensures { λ r. ⌜ now (length .exit) ≡ or-kept (λ size. size) (written answer) (now (length .entry)) ⌝ }
 {
     match answer {
-        Written::Length(count) => {
-            *length = count;
+        Written::Length(size) => {
+            *length = size;
             0
         }
         Written::Refused(refusal) => refusal::number(refusal),

@@ -10,7 +10,7 @@ use refusal::Refusal;
 pub extern "C" fn sw_sentence(refused: u32, out: &mut [u8], written: &mut usize) -> u32
     ensures { λ r. ⌜ r ≡ number (sentence-length refused (length (now (out .entry)))) ⌝ }
     ensures { λ r. ⌜ now (out .exit) ≡ with-sentence refused (now (out .entry)) ⌝ }
-    ensures { λ r. ⌜ now (written .exit) ≡ or-kept (λ count. count) (sentence-length refused (length (now (out .entry)))) (now (written .entry)) ⌝ }
+    ensures { λ r. ⌜ now (written .exit) ≡ or-kept (λ size. size) (sentence-length refused (length (now (out .entry)))) (now (written .entry)) ⌝ }
 {
     let mut text = [0u8; 128];
     let length = refusal_text::sentence(refused, &mut text);

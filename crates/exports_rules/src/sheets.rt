@@ -43,7 +43,7 @@ pub extern "C" fn sw_write_sheet(
 ) -> u32
     ensures { λ r. ⌜ r ≡ number (sheet-length (now (lengths .entry)) (now (bodies .entry)) (length (now (out .entry)))) ⌝ }
     ensures { λ r. ⌜ now (out .exit) ≡ buffer-after (now (lengths .entry)) (now (bodies .entry)) (now (out .entry)) ⌝ }
-    ensures { λ r. ⌜ now (written .exit) ≡ or-kept (λ count. count) (sheet-length (now (lengths .entry)) (now (bodies .entry)) (length (now (out .entry)))) (now (written .entry)) ⌝ }
+    ensures { λ r. ⌜ now (written .exit) ≡ or-kept (λ size. size) (sheet-length (now (lengths .entry)) (now (bodies .entry)) (length (now (out .entry)))) (now (written .entry)) ⌝ }
 {
     let answer = sheet_writer::write_sheet(lengths, bodies, out);
     answer_length(answer, written)
