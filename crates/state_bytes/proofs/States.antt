@@ -8,7 +8,7 @@ use lib.ListN.{length, take, drop, length-append, length-drop, take-append-drop,
 use lib.Seq.{take-add, getD-drop, take-length, take-at, take-all, take-take, take-append-le, length-take-le}
 use Rattle.words.specs.Words.{Bytes}
 use Rattle.words.specs.Words.{splice}
-use Rattle.words.proofs.Copies.{take-splice, length-splice}
+use Rattle.words.proofs.Splices.{take-splice, length-splice}
 use Rattle.engine.specs.declared.state.State as code
 use Rattle.engine.specs.States.{moved-code}
 use Rattle.state_bytes.specs.Numbers.{value, low-bytes, number-at}

@@ -1,4 +1,4 @@
--- `ring::zero` meets its contract: the first i bytes are 0, the rest as they were.
+-- `ring::zero` meets its contract: the first `at` bytes are 0, the rest as they were.
 -- Assumes nothing.
 use Prim.Native.Nat.{ℕ, _-_, _≤_}
 use mathlib.Core.Path.{_≡_, refl, ap, _∙_, subst}

@@ -3,7 +3,7 @@ use mathlib.Core.Path.{refl}
 use native.Mathlib.Omega.{arith}
 use denote.Ref.{now}
 use borrow.Author.Needs.{needs}
-use Rattle.words.proofs.Copies.{copied-in}
+use Rattle.words.proofs.Splices.{copied-in}
 use Rattle.watch_lines.proofs.put_text.Statement.{statement}
 use Rattle.watch_lines.proofs.put_text.Tie as tie
 

@@ -1,4 +1,4 @@
--- `state_bytes::number_bytes::put_number` meets its contract: i bytes are stored, and those still to come make up the number.
+-- `state_bytes::number_bytes::put_number` meets its contract: `index` bytes are stored, and those still to come make up the number.
 -- Assumes nothing.
 use Prim.Native.Nat.{_+_, _-_, _%_, _≤_, _<_}
 use mathlib.Core.Path.{_≡_, refl, _∙_}
