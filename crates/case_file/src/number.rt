@@ -1,7 +1,5 @@
 // Digits and decimal numbers.
 ghost use mathlib.Core.Path.{_≡_};
-ghost use Prim.Native.Nat.{_≤_};
-ghost use lib.ListN.{length};
 ghost use Rattle.case_file.specs.Digits.{digit-value};
 use words::byte_after;
 

@@ -6,13 +6,13 @@ ghost use lib.ListN.{length, drop};
 ghost use Rattle.notation.specs.Reading.{read-token};
 ghost use Rattle.text_pieces.specs.Spots.{FlagAt, ForallAt};
 ghost use Rattle.text_to_body.specs.Cursors.{CursorFits, Rooms, Moved};
-use crate::codes::NOT_CODE_BYTE;
 use crate::cursor::Cursor;
 use crate::cursor::bracket_frame;
 use crate::cursor::misspelt;
 use crate::stores::both;
 use crate::stores::write_flag;
 use crate::stores::write_forall;
+use nodes::NOT_CODE_BYTE;
 use text_pieces::Piece;
 use text_pieces::piece_at;
 

@@ -8,7 +8,6 @@ mod stores;
 mod translate;
 mod values;
 
-ghost use mathlib.Core.List.{List};
 ghost use lib.ListN.{length};
 ghost use Rattle.refusal.specs.Answer.{and-then};
 ghost use Rattle.refusal.specs.Answer.{written};
