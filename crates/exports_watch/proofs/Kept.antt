@@ -11,7 +11,7 @@ use lib.ListN.{length}
 use borrow.Author.Tests.{lt-leb}
 use Rattle.refusal.specs.declared.Refusal.{Refusal}
 use Rattle.refusal.specs.declared.Refusal.the-variants.{StateNotOpened}
-use Rattle.refusal.specs.Answer.{Answer, refused, accepted, answered, KeptIfRefused}
+use Rattle.refusal.specs.Answer.{Answer, refused, accepted, answered}
 use Rattle.refusal.specs.Numbers.{number-of}
 use Rattle.refusal.proofs.Positive.{positive}
 use Rattle.sheet.specs.Sheet.{body-part, rule-body}
@@ -35,10 +35,6 @@ use Rattle.engine.proofs.States.{length-padded}
 use Rattle.state_bytes.specs.Numbers.{number-at}
 use Rattle.state_bytes.specs.States.{loaded, stored, state-in, Storable, moved-bytes, in-bytes}
 use Rattle.state_bytes.proofs.States.{load-stored, load-moved}
-
--- A lent number that a refused call did not write.
-pub kept-if-refused : (x : Refusal) (n old : ℕ) → n ≡ number-of x → KeptIfRefused n old old
-kept-if-refused x n old e = let z = positive x in rw (e, z .1) refl
 
 -- ---- opening
 

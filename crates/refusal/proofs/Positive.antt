@@ -2,6 +2,7 @@
 use Prim.Native.Nat.{ℕ, suc}
 use mathlib.Core.Path.{_≡_, refl}
 use native.Mathlib.Omega.{arith}
+use Rattle.refusal.specs.Answer.{KeptIfRefused}
 use Rattle.refusal.specs.Numbers.{number-of}
 use Rattle.refusal.specs.declared.Refusal.{Refusal}
 use Rattle.refusal.specs.declared.Refusal.the-variants.{RuleCount, EntryLayout, NoSuchRule, BodyEndsEarly, UnknownCode, UnboundVariable, NoSuchFlag, OffsetOutOfRange, BodyTooLarge, BytesLeftOver, DelayInfinite, DelayAboveLimit, HistoryInfinite, HistoryAboveLimit, CellsAboveLimit, NotInRecording, HistoryLength, CellTableTooShort, ReportTooShort, TicksUsedUp, StateNotOpened, BufferTooShort, VariableByteNotZero, OffsetOnInfinity, Misspelt, UnboundName}
@@ -36,3 +37,7 @@ positive UnboundName = (25, refl)
 
 pub not-zero : (x : Refusal) → number-of x ≡ 0 → ⊥
 not-zero x e = let z = positive x in omega (arith, e, z .1)
+
+-- A lent number that a refused call did not write.
+pub kept-if-refused : (x : Refusal) (n old : ℕ) → n ≡ number-of x → KeptIfRefused n old old
+kept-if-refused x n old e = let z = positive x in rw (e, z .1) refl

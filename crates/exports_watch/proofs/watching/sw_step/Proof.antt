@@ -2,7 +2,8 @@
 use native.Mathlib.Omega.{arith}
 use denote.Ref.{now}
 use Rattle.refusal.specs.declared.Refusal.the-variants.{StateNotOpened}
-use Rattle.exports_watch.proofs.Kept.{kept-if-refused, held, step-late, step-refused, step-taken}
+use Rattle.refusal.proofs.Positive.{kept-if-refused}
+use Rattle.exports_watch.proofs.Kept.{held, step-late, step-refused, step-taken}
 use borrow.Author.Needs.{needs}
 use Rattle.exports_watch.proofs.watching.sw_step.Statement.{statement}
 use Rattle.exports_watch.proofs.watching.sw_step.Tie as tie
