@@ -22,10 +22,10 @@ use Rattle.figure_limits.specs.Answers.{figures-answer, KeptOrCleared}
 use Rattle.figures.specs.Prepared.{Leaves, Prepared}
 use Rattle.figures.proofs.Bodies.{kept-leaves}
 use Rattle.demand.specs.Contract.{must, room, as-21, fit-opened, admit-lengths}
-use Rattle.admission.specs.Admitted.{Small, Admitted}
+use Rattle.admission.specs.Admitted.{FiguresWithin, Admitted}
 
 -- Accepted figures are within the limits.
-small : (b : List ℕ) (f : Figures) → body-figures b ≡ accepted f → Small f
+small : (b : List ℕ) (f : Figures) → body-figures b ≡ accepted f → FiguresWithin f
 unfolding body-figures
 small b f e =
     let a = both-accepted (body b) figures f e in
@@ -33,7 +33,7 @@ small b f e =
     record { short = w .short; old = w .old; few = w .few }
 
 module _ (b : List ℕ) (a : FigureAnswer) (told-is : figures-answer a ≡ body-figures b) where
-  pub sized-small : {f : Figures} → a ≡ Sized f → Small f
+  pub sized-small : {f : Figures} → a ≡ Sized f → FiguresWithin f
   sized-small {f} e = small b f (sym told-is ∙ ap figures-answer e)
 
   pub opening-refused : (h c : ℕ) {x : Refusal} → a ≡ Refused x → refused (number-of x) ≡ and-then (body-figures b) (room h c)

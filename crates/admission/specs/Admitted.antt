@@ -9,7 +9,7 @@ use Rattle.figures.specs.Prepared.{Leaves}
 use Rattle.demand.specs.Contract.{admit-lengths}
 
 -- Figures within the limits.
-pub record Small (figures : Figures) : Type 0 where
+pub record FiguresWithin (figures : Figures) : Type 0 where
   pub short : figures .delay ≤ 255
   pub old : figures .history ≤ 4096
   pub few : figures .cells ≤ 4096

@@ -1,11 +1,12 @@
-// Which openings and steps are refused, and with which number: 17 to 21, in 01's order.
+// Which openings and steps are refused, and with which number, in 01's order: an opening of a body with 4 to 15, 23, 24, 17 and 18, a step with 17 to 21;
+// and how many flags the tick numbers leave (flags_left).
 ghost use mathlib.Core.Path.{_≡_};
 ghost use Prim.Native.Nat.{_-_, min};
 ghost use Rattle.refusal.specs.Answer.{and-then};
 ghost use Rattle.rule.specs.Figures.{body-figures};
 ghost use Rattle.figure_limits.specs.Answers.{figures-answer};
 ghost use Rattle.demand.specs.Contract.{room, fit-lengths, fit-opened};
-ghost use Rattle.admission.specs.Admitted.{Small, Admitted};
+ghost use Rattle.admission.specs.Admitted.{FiguresWithin, Admitted};
 use figure_limits::FigureAnswer;
 use figure_limits::clear_if_refused;
 use nodes::TABLE_WORDS;
@@ -20,7 +21,7 @@ const LONGEST_HISTORY: usize = MAX_HISTORY as usize;
 
 // The opening of a rule with these figures: its history must have from the figure's bytes up to 4,096, and its table the needed cells.
 fn fit_opening(figures: Figures, history: usize, table: usize) -> FigureAnswer
-    requires { ⌜ Small figures ⌝ }
+    requires { ⌜ FiguresWithin figures ⌝ }
     ensures { λ r. ⌜ figures-answer r ≡ room history table figures ⌝ }
 {
     let least = figures.history as usize;
@@ -58,7 +59,7 @@ fn fit_step(
     cells: usize,
     report: usize,
 ) -> FigureAnswer
-    requires { ⌜ Small figures ⌝ }
+    requires { ⌜ FiguresWithin figures ⌝ }
     ensures { λ r. ⌜ figures-answer r ≡ fit-lengths figures opened tick history cells report ⌝ }
 {
     if history != opened {
@@ -87,7 +88,7 @@ fn fit_state(
     cells: usize,
     report: usize,
 ) -> FigureAnswer
-    requires { ⌜ Small figures ⌝ }
+    requires { ⌜ FiguresWithin figures ⌝ }
     ensures { λ r. ⌜ figures-answer r ≡ fit-opened figures opened tick history cells report ⌝ }
 {
     let least = figures.history as usize;
