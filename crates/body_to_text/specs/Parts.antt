@@ -17,7 +17,7 @@ sign-text code = cond (eqb code 3) then-sign beside-sign
 
 -- What a quantifier has before its part.
 unfoldable pub range-text : List ℕ → End → End → List ℕ
-range-text name first second = forall-sign ++ (name ++ (in-sign ++ (end-text first [] ++ (to-sign ++ (end-text second [] ++ colon-sign)))))
+range-text name B₁ B₂ = forall-sign ++ (name ++ (in-sign ++ (end-text B₁ [] ++ (to-sign ++ (end-text B₂ [] ++ colon-sign)))))
 
 -- .. of the quantifier at word `node` of the table, which binds `variable`.
 abbrev pub range-at : List ℕ → ℕ → ℕ → List ℕ

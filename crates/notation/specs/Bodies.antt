@@ -54,7 +54,7 @@ unfoldable pub flag-bytes : List (List ℕ) → List ℕ → ℕ → List ℕ
 flag-bytes scope name digit = 1 ∷ variable-byte scope name ∷ (digit - 48) ∷ []
 
 unfoldable pub forall-bytes : List (List ℕ) → End → End → List ℕ
-forall-bytes scope first second = 5 ∷ (end-bytes scope first ++ end-bytes scope second)
+forall-bytes scope B₁ B₂ = 5 ∷ (end-bytes scope B₁ ++ end-bytes scope B₂)
 
 abbrev pub joint-code : Joint → ℕ
 joint-code then-joint = 3
@@ -65,7 +65,7 @@ formula-bytes scope (flag name digit) = flag-bytes scope name digit
 formula-bytes scope (negate F) = 2 ∷ formula-bytes scope F
 formula-bytes scope (then F G) = 3 ∷ (formula-bytes scope F ++ formula-bytes scope G)
 formula-bytes scope (beside F G) = 4 ∷ (formula-bytes scope F ++ formula-bytes scope G)
-formula-bytes scope (forall name first second F) = forall-bytes scope first second ++ formula-bytes (name ∷ scope) F
+formula-bytes scope (forall name B₁ B₂ F) = forall-bytes scope B₁ B₂ ++ formula-bytes (name ∷ scope) F
 
 -- ---- which names are bound
 
@@ -82,7 +82,7 @@ all-bound scope (flag name digit) = is-bound scope name
 all-bound scope (negate F) = all-bound scope F
 all-bound scope (then F G) = all-bound scope F && all-bound scope G
 all-bound scope (beside F G) = all-bound scope F && all-bound scope G
-all-bound scope (forall name first second F) = (end-bound scope first && end-bound scope second) && all-bound (name ∷ scope) F
+all-bound scope (forall name B₁ B₂ F) = (end-bound scope B₁ && end-bound scope B₂) && all-bound (name ∷ scope) F
 
 -- ---- the body: "misspelt text .. is 25 and an unbound name 26, in this order; then 01's refusals 4 to 10 .. apply to the result, and last 22
 -- if the lent buffer is shorter than the body"

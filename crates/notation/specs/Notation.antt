@@ -99,8 +99,8 @@ formula-text (flag name digit) rest = 64 ∷ (name ++ (46 ∷ digit ∷ rest))  
 formula-text (negate F) rest = 126 ∷ formula-text F rest  -- ~F
 formula-text (then F G) rest = 40 ∷ formula-text F (then-sign ++ formula-text G (41 ∷ rest))  -- (F && G)
 formula-text (beside F G) rest = 40 ∷ formula-text F (beside-sign ++ formula-text G (41 ∷ rest))  -- (F /\ G)
-formula-text (forall name first second F) rest =
-    forall-sign ++ (name ++ (in-sign ++ end-text first (to-sign ++ end-text second (colon-sign ++ formula-text F rest))))
+formula-text (forall name B₁ B₂ F) rest =
+    forall-sign ++ (name ++ (in-sign ++ end-text B₁ (to-sign ++ end-text B₂ (colon-sign ++ formula-text F rest))))
 
 -- "The whole is "monitor x : F""
 unfoldable pub text : Rule → List ℕ
@@ -158,7 +158,7 @@ Spelt (flag name byte) = (is-name name ≡ true) × (digit byte ≡ true)
 Spelt (negate F) = Spelt F
 Spelt (then F G) = Spelt F × Spelt G
 Spelt (beside F G) = Spelt F × Spelt G
-Spelt (forall name first second F) = (is-name name ≡ true) × SpeltEnd first × SpeltEnd second × Spelt F
+Spelt (forall name B₁ B₂ F) = (is-name name ≡ true) × SpeltEnd B₁ × SpeltEnd B₂ × Spelt F
 
 abbrev pub SpeltRule : Rule → Type 0
 SpeltRule (monitor name F) = (is-name name ≡ true) × Spelt F

@@ -76,13 +76,13 @@ read-flag text = and-read (read-name text) flag-point
 
 -- After "forall ": a name, " in ", a bound, "..", a bound, " : ".
 unfoldable pub forall-colon : List ℕ → End → End → List ℕ → Got Token
-forall-colon name first second text = expect colon-sign text (λ rest. got (forall-token name first second) rest)
+forall-colon name B₁ B₂ text = expect colon-sign text (λ rest. got (forall-token name B₁ B₂) rest)
 
 unfoldable pub forall-second : List ℕ → End → List ℕ → Got Token
-forall-second name first text = and-read (read-end text) (forall-colon name first)
+forall-second name B₁ text = and-read (read-end text) (forall-colon name B₁)
 
 unfoldable pub forall-to : List ℕ → End → List ℕ → Got Token
-forall-to name first text = expect to-sign text (forall-second name first)
+forall-to name B₁ text = expect to-sign text (forall-second name B₁)
 
 unfoldable pub forall-first : List ℕ → List ℕ → Got Token
 forall-first name text = and-read (read-end text) (forall-to name)
@@ -120,9 +120,9 @@ unfoldable pub read-parts : (List ℕ → Got Named) → Token → List ℕ → 
 read-parts part (flag-token name digit) text = got (flag name digit) text
 read-parts part negate-token text = and-read (part text) (λ F rest. got (negate F) rest)
 read-parts part open-token text = and-read (part text) (λ F after. and-read (joint after) (second part F))
-read-parts part (forall-token name first second) text = and-read (part text) (λ F rest. got (forall name first second F) rest)
+read-parts part (forall-token name B₁ B₂) text = and-read (part text) (λ F rest. got (forall name B₁ B₂ F) rest)
 
--- The formula at the start of a text. The first number only makes the recursion end: it is above the text's length, so its 0 is never reached.
+-- The formula at the start of a text. `fuel` only makes the recursion end: it is above the text's length, so its 0 is never reached.
 unfoldable pub read-formula : ℕ → List ℕ → Got Named
 read-formula zero text = none
 read-formula (suc fuel) text = and-read (read-token text) (read-parts (read-formula fuel))
