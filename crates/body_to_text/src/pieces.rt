@@ -84,26 +84,26 @@ fn put_digits(out: &mut [u8], at: usize, number: u32) -> usize
 }
 
 // How far below 0 an offset of 16 bits lies; 1 for a word past 16 bits, as the definition has it.
-fn below_zero(offset: u32) -> u32
-    requires { ⌜ 32768 ≤ offset ⌝ }
-    ensures { λ r. ⌜ r ≡ suc (65535 - offset) ⌝ }
+fn below_zero(bits: u32) -> u32
+    requires { ⌜ 32768 ≤ bits ⌝ }
+    ensures { λ r. ⌜ r ≡ suc (65535 - bits) ⌝ }
 {
-    if offset < 65536 { 65536 - offset } else { 1 }
+    if bits < 65536 { 65536 - bits } else { 1 }
 }
 
 // Stores an offset of 16 bits: nothing for 0.
-fn put_offset(out: &mut [u8], at: usize, offset: u32) -> usize
-    ensures { λ r. ⌜ Wrote (offset-text (offset-named (signed offset)) []) (now (out .entry)) at (now (out .exit)) r ⌝ }
+fn put_offset(out: &mut [u8], at: usize, bits: u32) -> usize
+    ensures { λ r. ⌜ Wrote (offset-text (offset-named (signed bits)) []) (now (out .entry)) at (now (out .exit)) r ⌝ }
 {
-    if offset == 0 {
+    if bits == 0 {
         return at;
     }
-    if offset < 32768 {
+    if bits < 32768 {
         let next = put(out, at, b'+');
-        return put_digits(out, next, offset);
+        return put_digits(out, next, bits);
     }
     let next = put(out, at, b'-');
-    put_digits(out, next, below_zero(offset))
+    put_digits(out, next, below_zero(bits))
 }
 
 // Stores the bound whose three words start at word `bound`.

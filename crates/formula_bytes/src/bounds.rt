@@ -42,25 +42,25 @@ fn variable_byte_fits(kind: u8, variable: usize) -> bool
     }
 }
 
-// Infinity has no offset: its 16-bit `word` is 0.
-fn offset_allowed(kind: u8, word: usize) -> bool
-    ensures { λ r. ⌜ r ≡ (not (eqb kind 1) || eqb word 0) ⌝ }
+// Infinity has no offset: its 16 bits are 0.
+fn offset_allowed(kind: u8, bits: usize) -> bool
+    ensures { λ r. ⌜ r ≡ (not (eqb kind 1) || eqb bits 0) ⌝ }
 {
     if kind == INFINITY_KIND_BYTE {
-        word == 0
+        bits == 0
     } else {
         true
     }
 }
 
-// An offset of the 16-bit `word` lies from -4,095 to 4,095.
-fn offset_in_range(word: usize) -> bool
-    ensures { λ r. ⌜ r ≡ leb (natAbs (signed word)) 4095 ⌝ }
+// The offset that the 16 bits say lies from -4,095 to 4,095.
+fn offset_in_range(bits: usize) -> bool
+    ensures { λ r. ⌜ r ≡ leb (natAbs (signed bits)) 4095 ⌝ }
 {
-    if word <= LARGEST_OFFSET {
+    if bits <= LARGEST_OFFSET {
         return true;
     }
-    LEAST_NEGATIVE <= word
+    LEAST_NEGATIVE <= bits
 }
 
 // The bound whose 4 bytes start at a position, inside `depth` quantifiers.
@@ -70,11 +70,11 @@ pub(crate) fn bound_check(body: &[u8], at: usize, depth: usize) -> Check
 {
     let kind = body[at];
     let variable = byte_after(body, at, 1);
-    let word = word_at(body, at + 2);
+    let bits = word_at(body, at + 2);
     let is_bound = variable_is_bound(kind, variable, depth);
     let byte_fits = variable_byte_fits(kind, variable);
-    let allowed = offset_allowed(kind, word);
-    let in_range = offset_in_range(word);
+    let allowed = offset_allowed(kind, bits);
+    let in_range = offset_in_range(bits);
     if VARIABLE_KIND_BYTE < kind {
         return Check::Refused(Refusal::UnknownCode);
     }

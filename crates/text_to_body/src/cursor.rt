@@ -29,9 +29,9 @@ pub(crate) fn misspelt() -> Cursor
 }
 
 // The frame of a bracket whose code is to stand at a byte of the body.
-pub(crate) fn bracket_frame(byte: usize) -> u16
-    requires { ⌜ byte ≤ 4096 ⌝ }
-    ensures { λ r. ⌜ r ≡ suc (suc byte) ⌝ }
+pub(crate) fn bracket_frame(at: usize) -> u16
+    requires { ⌜ at ≤ 4096 ⌝ }
+    ensures { λ r. ⌜ r ≡ suc (suc at) ⌝ }
 {
-    (byte + 2) as u16
+    (at + 2) as u16
 }

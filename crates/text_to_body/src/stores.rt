@@ -79,12 +79,12 @@ pub(crate) fn write_bound(
 {
     let ok = write_base(text, at, names, scope, out, written);
     let after_base = base_end(text, at);
-    let offset = offset_at(text, after_base);
+    let bits = offset_at(text, after_base);
     put_two(
         out,
         written + 2,
-        (offset % 256) as u8,
-        (offset / 256 % 256) as u8,
+        (bits % 256) as u8,
+        (bits / 256 % 256) as u8,
     );
     ok
 }
@@ -135,8 +135,8 @@ pub(crate) fn write_forall(
     out: &mut [u8],
     written: usize,
 ) -> bool
-    requires { ⌜ (at ≤ length (now text)) × (scope ≤ length (now names)) × (scope ≤ 4096) × (written + 9 ≤ length (now out)) × ((name : List ℕ) × (first : End) × (second : End) × (rest : List ℕ) × (read-forall (drop at (now text)) ≡ got (forall-token name first second) rest)) ⌝ }
-    ensures { λ r. ⌜ (length (now (out .exit)) ≡ length (now (out .entry))) × ((name : List ℕ) (first second : End) (rest : List ℕ) → read-forall (drop at (now (text .entry))) ≡ got (forall-token name first second) rest → (r ≡ (end-bound (scope-of (now (text .entry)) (now (names .entry)) scope) first && end-bound (scope-of (now (text .entry)) (now (names .entry)) scope) second)) × (take (written + 9) (now (out .exit)) ≡ take written (now (out .entry)) ++ forall-bytes (scope-of (now (text .entry)) (now (names .entry)) scope) first second)) ⌝ }
+    requires { ⌜ (at ≤ length (now text)) × (scope ≤ length (now names)) × (scope ≤ 4096) × (written + 9 ≤ length (now out)) × ((name : List ℕ) × (B₁ : End) × (B₂ : End) × (rest : List ℕ) × (read-forall (drop at (now text)) ≡ got (forall-token name B₁ B₂) rest)) ⌝ }
+    ensures { λ r. ⌜ (length (now (out .exit)) ≡ length (now (out .entry))) × ((name : List ℕ) (B₁ B₂ : End) (rest : List ℕ) → read-forall (drop at (now (text .entry))) ≡ got (forall-token name B₁ B₂) rest → (r ≡ (end-bound (scope-of (now (text .entry)) (now (names .entry)) scope) B₁ && end-bound (scope-of (now (text .entry)) (now (names .entry)) scope) B₂)) × (take (written + 9) (now (out .exit)) ≡ take written (now (out .entry)) ++ forall-bytes (scope-of (now (text .entry)) (now (names .entry)) scope) B₁ B₂)) ⌝ }
 {
     let after_name = run_end(text, at, b'a', b'z');
     let after_first = bound_end(text, after_name + 4);

@@ -10,7 +10,7 @@ use Rattle.body_to_text.proofs.pieces.put_offset.Tie as tie
 returns : tie.Need-returns
 returns c =
     let a = c .before .before .args in
-    wrote-as (offset-none (a .offset) (c .if1 .taken)) (wrote-none (now (a .out)) (a .at))
+    wrote-as (offset-none (a .bits) (c .if1 .taken)) (wrote-none (now (a .out)) (a .at))
 
 put-requires : tie.Need-put-requires
 put-requires c κs = search needs
@@ -27,7 +27,7 @@ returns-2 c =
     let past-if2 = past-put .before .before in
     let at-if1 = past-if2 .before in
     let start = at-if1 .before .before in
-    let w = start .args .offset in
+    let w = start .args .bits in
     wrote-as (offset-plus w (at-if1 .if1 .left) (past-if2 .if2 .taken)) (wrote-then (past-put .put .ensures) (c .before .before .put-digits .ensures))
 
 put-requires-2 : tie.Need-put-requires-2
@@ -48,7 +48,7 @@ returns-3 c =
     let past-put2 = past-below-zero .before .before .before .before in
     let past-if2 = past-put2 .before .before in
     let start = past-if2 .before .before .before in
-    let w = start .args .offset in
+    let w = start .args .bits in
     wrote-as (offset-minus w (past-below-zero .below-zero .result) (past-if2 .if2 .left) (past-below-zero .below-zero .ensures))
     (wrote-then (past-put2 .put2 .ensures) (c .before .before .put-digits2 .ensures))
 

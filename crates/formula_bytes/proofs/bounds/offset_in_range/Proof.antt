@@ -11,7 +11,7 @@ returns c = simp (le-leb _ 4095 (offset-low (c .if1 .taken)))
 returns-2 : tie.Need-returns-2
 returns-2 c =
     let s₀ = c .before in
-    offset-above (s₀ .args .word) (omega (arith, c .if1 .left))
+    offset-above (s₀ .args .bits) (omega (arith, c .if1 .left))
 
 pub offset-in-range-spec : {M : Type 1} → statement M
 offset-in-range-spec = tie.close (tie.spec returns returns-2)
