@@ -20,7 +20,7 @@ pub fn bytes(name: &[u8], value: &[u8]) {
     let mut at = 0;
     while at < value.len() {
         text(b" ");
-        io::print_hex(STDOUT_FILENO, wide(value[at]), 2);
+        io::print_hex(STDOUT_FILENO, as_number(value[at]), 2);
         at += 1;
     }
     text(b"\n");
@@ -55,6 +55,6 @@ fn decided(verdict: Verdict, step: u64) {
     number(step);
 }
 
-fn wide(byte: u8) -> u64 {
+fn as_number(byte: u8) -> u64 {
     byte as u64
 }

@@ -24,11 +24,11 @@ slice-aggregate-text c = search needs
 text-requires-2 : tie.Need-text-requires-2 Inv-loop μ-loop
 text-requires-2 c κs = search needs
 
-shared-slice-read-wide : tie.Need-shared-slice-read-wide Inv-loop μ-loop
-shared-slice-read-wide c = search needs
+shared-slice-read-as-number : tie.Need-shared-slice-read-as-number Inv-loop μ-loop
+shared-slice-read-as-number c = search needs
 
-wide-requires : tie.Need-wide-requires Inv-loop μ-loop
-wide-requires c κs = search needs
+as-number-requires : tie.Need-as-number-requires Inv-loop μ-loop
+as-number-requires c κs = search needs
 
 print-hex-requires : tie.Need-print-hex-requires Inv-loop μ-loop
 print-hex-requires c κs = search needs
@@ -61,8 +61,8 @@ bytes-spec =
     loop-holds
     slice-aggregate-text
     text-requires-2
-    shared-slice-read-wide
-    wide-requires
+    shared-slice-read-as-number
+    as-number-requires
     print-hex-requires
     add-at
     loop-less
