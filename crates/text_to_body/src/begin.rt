@@ -16,7 +16,7 @@ use nodes::NOT_CODE_BYTE;
 use text_pieces::Piece;
 use text_pieces::piece_at;
 
-// A flag that ends at `end`.
+// A flag: the text goes on at `end`.
 fn begin_flag(text: &[u8], names: &[usize], out: &mut [u8], cursor: Cursor, end: usize) -> Cursor
     requires { ⌜ (cursor .mode ≡ 0) × CursorFits (now text) cursor × (length (now text) ≤ 4096) × (256 ≤ length (now names)) × (4096 ≤ length (now out)) × FlagAt (now text) (cursor .at + 1) end (read-token (drop (cursor .at) (now text))) ⌝ }
     ensures { λ r. ⌜ ((frames : List ℕ) → Moved (now (text .entry)) frames (now (names .entry)) (now (out .entry)) cursor frames (now (names .entry)) (now (out .exit)) r) ⌝ }
@@ -32,14 +32,14 @@ fn begin_flag(text: &[u8], names: &[usize], out: &mut [u8], cursor: Cursor, end:
     Cursor {
         mode: 1,
         at: end,
-        depth: cursor.depth,
+        frames: cursor.frames,
         scope: cursor.scope,
         written: cursor.written + 3,
         resolved: both(cursor.resolved, ok),
     }
 }
 
-// A quantifier whose formula begins at `end`: its name is in scope there, and its bounds do not see it.
+// A quantifier: the text goes on at `end`. Its name is in scope there, and its bounds do not see it.
 fn begin_range(
     text: &[u8],
     frames: &mut [u16],
@@ -52,15 +52,15 @@ fn begin_range(
     ensures { λ r. ⌜ Moved (now (text .entry)) (now (frames .entry)) (now (names .entry)) (now (out .entry)) cursor (now (frames .exit)) (now (names .exit)) (now (out .exit)) r ⌝ }
 {
     let name = cursor.at + 7;
-    let depth = cursor.depth;
+    let count = cursor.frames;
     let scope = cursor.scope;
     let ok = write_forall(text, name, names, scope, out, cursor.written);
     names[scope] = name;
-    frames[depth] = 1;
+    frames[count] = 1;
     Cursor {
         mode: 0,
         at: end,
-        depth: depth + 1,
+        frames: count + 1,
         scope: scope + 1,
         written: cursor.written + 9,
         resolved: both(cursor.resolved, ok),
@@ -78,7 +78,7 @@ pub(crate) fn begin_formula(
     requires { ⌜ (cursor .mode ≡ 0) × CursorFits (now text) cursor × Rooms (now text) (now frames) (now names) (now out) ⌝ }
     ensures { λ r. ⌜ Moved (now (text .entry)) (now (frames .entry)) (now (names .entry)) (now (out .entry)) cursor (now (frames .exit)) (now (names .exit)) (now (out .exit)) r ⌝ }
 {
-    let depth = cursor.depth;
+    let count = cursor.frames;
     let written = cursor.written;
     let piece = piece_at(text, cursor.at);
     match piece {
@@ -90,19 +90,19 @@ pub(crate) fn begin_formula(
             Cursor {
                 mode: 0,
                 at: end,
-                depth,
+                frames: count,
                 scope: cursor.scope,
                 written: written + 1,
                 resolved: cursor.resolved,
             }
         }
         Piece::Open(end) => {
-            frames[depth] = bracket_frame(written);
+            frames[count] = bracket_frame(written);
             out[written] = 0;
             Cursor {
                 mode: 0,
                 at: end,
-                depth: depth + 1,
+                frames: count + 1,
                 scope: cursor.scope,
                 written: written + 1,
                 resolved: cursor.resolved,
