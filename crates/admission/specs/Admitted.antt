@@ -14,6 +14,6 @@ pub record FiguresWithin (figures : Figures) : Type 0 where
   pub old : figures .history ≤ 4096
   pub few : figures .cells ≤ 4096
 
-pub record Admitted (body : List ℕ) (L t history cells report : ℕ) (result : FigureAnswer) (nodes : List ℕ) : Type 0 where
-  pub answer : figures-answer result ≡ admit-lengths body L t history cells report
+pub record Admitted (body : List ℕ) (L t history table report : ℕ) (result : FigureAnswer) (nodes : List ℕ) : Type 0 where
+  pub answer : figures-answer result ≡ admit-lengths body L t history table report
   pub leaves : Leaves body nodes (figures-answer result)

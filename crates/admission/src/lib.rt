@@ -56,17 +56,17 @@ fn fit_step(
     opened: usize,
     tick: u32,
     history: usize,
-    cells: usize,
+    table: usize,
     report: usize,
 ) -> FigureAnswer
     requires { ⌜ FiguresWithin figures ⌝ }
-    ensures { λ r. ⌜ figures-answer r ≡ fit-lengths figures opened tick history cells report ⌝ }
+    ensures { λ r. ⌜ figures-answer r ≡ fit-lengths figures opened tick history table report ⌝ }
 {
     if history != opened {
         return FigureAnswer::Refused(Refusal::HistoryLength);
     }
     let needed = 4 * figures.cells as usize;
-    if cells < needed {
+    if table < needed {
         return FigureAnswer::Refused(Refusal::CellTableTooShort);
     }
     let words = figures.delay as usize + 1;
@@ -85,17 +85,17 @@ fn fit_state(
     opened: usize,
     tick: u32,
     history: usize,
-    cells: usize,
+    table: usize,
     report: usize,
 ) -> FigureAnswer
     requires { ⌜ FiguresWithin figures ⌝ }
-    ensures { λ r. ⌜ figures-answer r ≡ fit-opened figures opened tick history cells report ⌝ }
+    ensures { λ r. ⌜ figures-answer r ≡ fit-opened figures opened tick history table report ⌝ }
 {
     let least = figures.history as usize;
     if opened < least {
         return FigureAnswer::Refused(Refusal::StateNotOpened);
     }
-    fit_step(figures, opened, tick, history, cells, report)
+    fit_step(figures, opened, tick, history, table, report)
 }
 
 // The figures with which a step goes on, or a refusal: 21, 17 to 20. The body's node table, with its sizes, is left in `nodes`; a refusal
@@ -105,11 +105,11 @@ pub fn admit_step(
     opened: usize,
     tick: u32,
     history: usize,
-    cells: usize,
+    table: usize,
     report: usize,
     nodes: &mut [u32; TABLE_WORDS],
 ) -> FigureAnswer
-    ensures { λ r. ⌜ Admitted (now (body .entry)) opened tick history cells report r (now (nodes .exit)) ⌝ }
+    ensures { λ r. ⌜ Admitted (now (body .entry)) opened tick history table report r (now (nodes .exit)) ⌝ }
 {
     if LONGEST_HISTORY < opened {
         clear(nodes);
@@ -119,14 +119,14 @@ pub fn admit_step(
     match answer {
         FigureAnswer::Refused(_) => FigureAnswer::Refused(Refusal::StateNotOpened),
         FigureAnswer::Sized(figures) => {
-            let fit = fit_state(figures, opened, tick, history, cells, report);
+            let fit = fit_state(figures, opened, tick, history, table, report);
             clear_if_refused(fit, nodes);
             fit
         }
     }
 }
 
-// How many of `count` flags can be taken from tick `tick` on before 20: before the tick numbers end.
+// How many of `count` flags can be taken from `tick` on before 20: before the tick numbers end.
 pub fn flags_left(count: usize, tick: u32) -> usize
     ensures { λ r. ⌜ r ≡ min count (4294967295 - tick) ⌝ }
 {

@@ -3,10 +3,10 @@ use Prim.Native.Nat.{ℕ, _+_}
 use mathlib.Core.Bool.{cond}
 use lib.Dec.{eqb, leb}
 
--- The latest step, where so many leading positions are true and the head's word 2 has these steps.
+-- The latest step, where `leading` positions are true and word 2 says `steps`.
 unfoldable pub latest-of : ℕ → ℕ → ℕ → ℕ → ℕ
 latest-of p s leading steps = cond (eqb leading 0) s (p + steps)
 
 -- How many leading positions a step leaves alone: none where the range starts now, and never more than there are.
 unfoldable pub leading-of : ℕ → ℕ → ℕ → ℕ → ℕ
-leading-of s t positions trues = cond (eqb t s) 0 (cond (leb trues positions) trues 0)
+leading-of s t positions leading = cond (eqb t s) 0 (cond (leb leading positions) leading 0)

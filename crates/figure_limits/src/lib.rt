@@ -31,7 +31,7 @@ pub fn clear_if_refused(answer: FigureAnswer, nodes: &mut [u32; TABLE_WORDS])
     }
 }
 
-// The rule needs `cells` cells.
+// `cells` are the rule's.
 fn limit_cells(history: u64, delay: u16, cells: u16) -> FigureAnswer
     ensures { λ r. ⌜ figures-answer r ≡ limit-cells history delay (Finite cells) ⌝ }
 {
@@ -45,7 +45,7 @@ fn limit_cells(history: u64, delay: u16, cells: u16) -> FigureAnswer
     })
 }
 
-// The rule's formula needs `cells` cells.
+// `cells` are its formula's.
 fn limit_history(history: Size, delay: u16, cells: u16) -> FigureAnswer
     ensures { λ r. ⌜ figures-answer r ≡ limit-history history delay (Finite (rule-cells delay cells)) ⌝ }
 {
@@ -60,7 +60,7 @@ fn limit_history(history: Size, delay: u16, cells: u16) -> FigureAnswer
     }
 }
 
-// The rule's formula needs `cells` cells.
+// `cells` are its formula's.
 pub fn limit_delay(history: Size, delay: Size, cells: u16) -> FigureAnswer
     ensures { λ r. ⌜ figures-answer r ≡ limit-delay history delay (capped-needed delay cells) ⌝ }
 {

@@ -28,8 +28,8 @@ fn bound_names(nodes: &[u32], at: usize, variable: u32) -> bool
     node_word(nodes, at, BOUND_VARIABLE) == variable
 }
 
-// Whether the formula at word `node`, inside `depth` quantifiers, with `left` formulas left, names the variable: at a flag, or in a bound of a quantifier inside. This holds of every
-// table, also of one that no body filled.
+// Whether the formula at word `node`, inside `depth` quantifiers, with `left` formulas left, names the variable: at a flag, or in a bound of a
+// quantifier inside. This holds of every table, also of one that no body filled.
 pub fn names(nodes: &[u32], left: u64, depth: usize, node: usize, variable: u32) -> bool
     ensures { λ r. ⌜ r ≡ names variable (formula-in left (now (nodes .entry)) depth node) ⌝ }
 {

@@ -15,12 +15,12 @@ pub fn number(value: u64) {
 }
 
 // A name and then bytes, each as a space and two digits.
-pub fn bytes(name: &[u8], value: &[u8]) {
+pub fn bytes(name: &[u8], content: &[u8]) {
     text(name);
     let mut at = 0;
-    while at < value.len() {
+    while at < content.len() {
         text(b" ");
-        io::print_hex(STDOUT_FILENO, as_number(value[at]), 2);
+        io::print_hex(STDOUT_FILENO, as_number(content[at]), 2);
         at += 1;
     }
     text(b"\n");

@@ -7,8 +7,8 @@ use Rattle.rule.specs.declared.Outcome.the-variants.{Decided, Open}
 use Rattle.rule.specs.Steps.{is-open}
 
 unfoldable pub is-false : Outcome → Bool
-is-false (Decided True d) = false
-is-false (Decided False d) = true
+is-false (Decided True step) = false
+is-false (Decided False step) = true
 is-false Open = false
 
 unfoldable pub open-count : Outcome → ℕ

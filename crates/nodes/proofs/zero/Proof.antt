@@ -11,20 +11,20 @@ use Rattle.nodes.proofs.zero.Statement.{statement}
 use Rattle.nodes.proofs.zero.Tie as tie
 
 abbrev Inv-loop : tie.InvT-loop
-Inv-loop ns₀ at₀ ns at =
-    (ns ≡ replicate at 0 ++ drop at ns₀) × ((at ≤ length ns₀) × (length ns ≡ length ns₀))
+Inv-loop nodes₀ at₀ nodes at =
+    (nodes ≡ replicate at 0 ++ drop at nodes₀) × ((at ≤ length nodes₀) × (length nodes ≡ length nodes₀))
 
 abbrev μ-loop : tie.MeasureT-loop
-μ-loop ns₀ at₀ ns at = length ns₀ - at
+μ-loop nodes₀ at₀ nodes at = length nodes₀ - at
 
 loop-holds : tie.Need-loop-holds Inv-loop μ-loop
-loop-holds c = (fill-none (c .args .ns .now) 0, (omega arith, refl))
+loop-holds c = (fill-none (c .args .nodes .now) 0, (omega arith, refl))
 
-mul-ns : tie.Need-mul-ns Inv-loop μ-loop
-mul-ns c = search needs
+mul-nodes : tie.Need-mul-nodes Inv-loop μ-loop
+mul-nodes c = search needs
 
-slice-write-ns : tie.Need-slice-write-ns Inv-loop μ-loop
-slice-write-ns c = omega arith
+slice-write-nodes : tie.Need-slice-write-nodes Inv-loop μ-loop
+slice-write-nodes c = omega arith
 
 add-at : tie.Need-add-at Inv-loop μ-loop
 add-at c = search needs
@@ -36,8 +36,8 @@ loop-again : tie.Need-loop-again Inv-loop μ-loop
 loop-again c =
     let l = c .before .loop in
     let a = c .before .before .args in (
-      ap (λ (n : List ℕ). set n (l .at) 0) (l .inv .0) ∙ fill-more (l .at) 0 (a .ns .now) (omega arith),
-      (omega arith, length-set (l .ns) (l .at) 0 ∙ l .inv .1 .1),
+      ap (λ (n : List ℕ). set n (l .at) 0) (l .inv .0) ∙ fill-more (l .at) 0 (a .nodes .now) (omega arith),
+      (omega arith, length-set (l .nodes) (l .at) 0 ∙ l .inv .1 .1),
     )
 
 same-length : tie.Need-same-length Inv-loop μ-loop
@@ -46,9 +46,9 @@ same-length c = c .before .loop .inv .1 .1
 returns : tie.Need-returns Inv-loop μ-loop
 returns c =
     let l = c .before .loop in
-    let n₀ : List ℕ = c .before .before .args .ns .now in
+    let n₀ : List ℕ = c .before .before .args .nodes .now in
     let e : l .at ≡ length n₀ = omega arith in
-    subst (λ (k : ℕ). l .ns ≡ replicate k 0 ++ drop k n₀) e (l .inv .0)
+    subst (λ (k : ℕ). l .nodes ≡ replicate k 0 ++ drop k n₀) e (l .inv .0)
     ∙ ap (λ (r : List ℕ). replicate (length n₀) 0 ++ r) (drop-length n₀)
     ∙ append-nil (replicate (length n₀) 0)
 
@@ -59,8 +59,8 @@ zero-spec =
     Inv-loop
     μ-loop
     loop-holds
-    mul-ns
-    slice-write-ns
+    mul-nodes
+    slice-write-nodes
     add-at
     loop-less
     loop-again
