@@ -15,7 +15,7 @@ held p verdict steps = cond (eqb verdict 1) (Decided True (p + steps)) (cond (eq
 
 -- A word of a cell and the second word after it hold the outcome; where that is open, R.
 abbrev pub CellHolds : ℕ → ℕ → Outcome → Type 0 → List ℕ → Type 0
-CellHolds p word outcome R cell = (outcome ≡ held p (getD cell word 0) (getD cell (word + 2) 0)) × (outcome ≡ Open → R)
+CellHolds p index outcome R cell = (outcome ≡ held p (getD cell index 0) (getD cell (index + 2) 0)) × (outcome ≡ Open → R)
 
 -- A step counted from p, in a word.
 abbrev pub since : ℕ → ℕ → ℕ
@@ -23,6 +23,6 @@ since p step = (step - p) % 4294967296
 
 -- A cell with an outcome written into a word and the second word after it.
 unfoldable pub mark : ℕ → ℕ → Outcome → List ℕ → List ℕ
-mark p word Open cell = set cell word 0
-mark p word (Decided True step) cell = set (set cell (word + 2) (since p step)) word 1
-mark p word (Decided False step) cell = set (set cell (word + 2) (since p step)) word 2
+mark p index Open cell = set cell index 0
+mark p index (Decided True step) cell = set (set cell (index + 2) (since p step)) index 1
+mark p index (Decided False step) cell = set (set cell (index + 2) (since p step)) index 2

@@ -37,7 +37,7 @@ Modest (Finite size) = size ≤ farthest
 Modest Unbounded = Unit {0}
 
 -- What measuring a formula asks.
-pub record Measurable (depth : ℕ) (scope : Scope) (start : Size) : Type 0 where
+pub record Measurable (depth : ℕ) (scope : Scope) (k : Size) : Type 0 where
   pub nested : depth ≤ 4
   pub within : AllNear (32768 * depth) (inside scope depth)
-  pub begun : Modest start
+  pub begun : Modest k

@@ -28,18 +28,18 @@ SizesAt (forall B₁ B₂ F) ns ps node =
     × SizesAt F ns (ps ++ (range-pair B₁ B₂ ps ∷ [])) (node + 12)
 
 -- What measuring the formula F in the words from `node` to `end` answers and writes.
-pub record Measured (F : Formula) (ps : List Pair) (start : Size) (depth node end : ℕ) (old new : List ℕ) (result : Figure) : Type 0 where
-  pub figure : FigureOf F ps start result
+pub record Measured (F : Formula) (ps : List Pair) (k : Size) (depth node end : ℕ) (old new : List ℕ) (result : Figure) : Type 0 where
+  pub figure : FigureOf F ps k result
   pub holds : Holds F new depth node end
   pub sizes : SizesAt F new ps node
   pub outside : (index : ℕ) → (index < node) ⊎ (end ≤ index) → getD new index 0 ≡ getD old index 0
 
 abbrev pub Promise : ℕ → ℕ → ℕ → List Pair → Size → List ℕ → List ℕ → Figure → Type 0
-Promise left depth node ps start old new result =
-    (F : Formula) (end : ℕ) → Holds F old depth node end → end ≤ node + 12 * left → end ≤ length old → Measured F ps start depth node end old new result
+Promise left depth node ps k old new result =
+    (F : Formula) (end : ℕ) → Holds F old depth node end → end ≤ node + 12 * left → end ≤ length old → Measured F ps k depth node end old new result
 
 -- Of any table: the figures are small enough to go on with. Of a table that holds a formula: they are its figures.
-pub record Measures (left depth node : ℕ) (scope : Scope) (start : Size) (old new : List ℕ) (result : Figure) : Type 0 where
+pub record Measures (left depth node : ℕ) (scope : Scope) (k : Size) (old new : List ℕ) (result : Figure) : Type 0 where
   pub small : result .cells ≤ 4097
   pub modest : Modest (result .delay)
-  pub promise : Promise left depth node (inside scope depth) start old new result
+  pub promise : Promise left depth node (inside scope depth) k old new result

@@ -103,20 +103,20 @@ fn body_start(pair: Pair, k: Size) -> Size
     larger_size(k, range_delay(u))
 }
 
-// Stores word `at` after word `node`, nothing past the end.
-fn store(nodes: &mut [u32], node: usize, at: usize, value: u16)
-    ensures { λ _. ⌜ now (nodes .exit) ≡ set (now (nodes .entry)) (node + at) value ⌝ }
+// Stores the word that comes `index` words after word `node`; nothing past the end.
+fn store(nodes: &mut [u32], node: usize, index: usize, value: u16)
+    ensures { λ _. ⌜ now (nodes .exit) ≡ set (now (nodes .entry)) (node + index) value ⌝ }
 {
     if nodes.len() <= node {
         return;
     }
-    if nodes.len() - node <= at {
+    if nodes.len() - node <= index {
         return;
     }
-    nodes[node + at] = value as u32;
+    nodes[node + index] = value as u32;
 }
 
-// The figures of the formula at word `node`, inside `depth` quantifiers and started at `start` at the latest, with the sizes of its nodes stored.
+// The figures of the formula at word `node`, inside `depth` quantifiers and started at k at the latest, with the sizes of its nodes stored.
 // A not has its part's figures and no sizes: a run of nots is skipped.
 fn measure_at(
     nodes: &mut [u32],
@@ -124,10 +124,10 @@ fn measure_at(
     depth: usize,
     node: usize,
     scope: Scope,
-    start: Size,
+    k: Size,
 ) -> Figure
-    requires { ⌜ Measurable depth scope start ⌝ }
-    ensures { λ r. ⌜ Measures left depth node scope start (now (nodes .entry)) (now (nodes .exit)) r ⌝ }
+    requires { ⌜ Measurable depth scope k ⌝ }
+    ensures { λ r. ⌜ Measures left depth node scope k (now (nodes .entry)) (now (nodes .exit)) r ⌝ }
 {
     let operand = skip_nots(nodes, left, node);
     if operand.left == 0 {
@@ -135,37 +135,37 @@ fn measure_at(
     }
     let code = node_word(nodes, operand.node, CODE);
     if code == THEN_CODE {
-        let second = node_word(nodes, operand.node, SECOND_PART) as usize;
+        let second_node = node_word(nodes, operand.node, SECOND_PART) as usize;
         let first_figure = measure_at(
             nodes,
             operand.left - 1,
             depth,
             operand.node + NODE_WORDS,
             scope,
-            start,
+            k,
         );
         let first_delay = first_figure.delay;
         let second_figure = measure_at(
             nodes,
             operand.left - 1,
             depth,
-            second,
+            second_node,
             scope,
-            larger_size(start, first_delay),
+            larger_size(k, first_delay),
         );
         return then_figure(first_figure, second_figure);
     }
     if code == BESIDE_CODE {
-        let second = node_word(nodes, operand.node, SECOND_PART) as usize;
+        let second_node = node_word(nodes, operand.node, SECOND_PART) as usize;
         let first_figure = measure_at(
             nodes,
             operand.left - 1,
             depth,
             operand.node + NODE_WORDS,
             scope,
-            start,
+            k,
         );
-        let second_figure = measure_at(nodes, operand.left - 1, depth, second, scope, start);
+        let second_figure = measure_at(nodes, operand.left - 1, depth, second_node, scope, k);
         store(nodes, operand.node, FIRST_WORDS, 4 * first_figure.cells);
         return beside_figure(first_figure, second_figure);
     }
@@ -174,17 +174,17 @@ fn measure_at(
             return flag_figure();
         }
         let pair = range_pair(nodes, operand.node, scope, depth);
-        let k = body_start(pair, start);
+        let inner = body_start(pair, k);
         let figure = measure_at(
             nodes,
             operand.left - 1,
             depth + 1,
             operand.node + NODE_WORDS,
             with_pair(scope, depth, pair),
-            k,
+            inner,
         );
         store(nodes, operand.node, SLOT_WORDS, 4 * (1 + figure.cells));
-        return range_figure(pair, start, figure);
+        return range_figure(pair, k, figure);
     }
     flag_figure()
 }
@@ -193,10 +193,12 @@ fn measure_at(
 pub(crate) fn measure_rule(nodes: &mut [u32]) -> Figure
     ensures { λ r. ⌜ Promise 64 0 0 (at-tick ∷ []) (Finite 0) (now (nodes .entry)) (now (nodes .exit)) r ⌝ }
 {
-    let tick = Pair {
+    let own_tick = Pair {
         lower: Limit::At(0),
         upper: Limit::At(0),
     };
-    let scope = Scope { pairs: [tick; 5] };
+    let scope = Scope {
+        pairs: [own_tick; 5],
+    };
     measure_at(nodes, FORMULAS, 0, 0, scope, Size::Finite(0))
 }

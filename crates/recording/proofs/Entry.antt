@@ -71,9 +71,9 @@ ready-tick {t} {p} e h k x = subst (Evaluable 64 0 t) (sym x) ready
         }
 
 pub by-rule : (ns rec : List ℕ) (t p : ℕ) (e : Env) {o : Outcome} → e ≡ started p
-    → o ≡ outcome (formula-in 64 ns (e .nested) 0) (recorded rec) t (bound-positions e) p → o ≡ rule (formula-in 64 ns 0 0) (recorded rec) t p
+    → o ≡ outcome (formula-in 64 ns (e .depth) 0) (recorded rec) t (bound-positions e) p → o ≡ rule (formula-in 64 ns 0 0) (recorded rec) t p
 unfolding rule
-by-rule ns rec t p e x y = y ∙ ap (λ (w : Env). outcome (formula-in 64 ns (w .nested) 0) (recorded rec) t (bound-positions w) p) x
+by-rule ns rec t p e x y = y ∙ ap (λ (w : Env). outcome (formula-in 64 ns (w .depth) 0) (recorded rec) t (bound-positions w) p) x
 
 -- ---- after the body is read
 

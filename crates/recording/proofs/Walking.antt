@@ -78,21 +78,21 @@ body-settled F rec t env s n q acc {start} {b} e f g =
 module _ (left : ℕ) (ns : List ℕ) (i : ℕ) (rec : List ℕ) (t : ℕ) (e : Env) (s : ℕ) where
   -- the body's formula
   abbrev body : Formula
-  body = formula-in left ns (e .nested + 1) (i + 12)
+  body = formula-in left ns (e .depth + 1) (i + 12)
 
   -- what the evaluator answers at position q
-  pub body-here : (q : ℕ) {e′ : Env} {start : ℕ} {o : Outcome} → length (e .pos) ≡ 5 → e .nested < 4 → q ≤ t → e′ ≡ entered e q → start ≡ max s q
-      → o ≡ outcome (formula-in left ns (e′ .nested) (i + 12)) (recorded rec) t (bound-positions e′) start → o ≡ body-at body rec t (bound-positions e) s q
+  pub body-here : (q : ℕ) {e′ : Env} {start : ℕ} {o : Outcome} → length (e .pos) ≡ 5 → e .depth < 4 → q ≤ t → e′ ≡ entered e q → start ≡ max s q
+      → o ≡ outcome (formula-in left ns (e′ .depth) (i + 12)) (recorded rec) t (bound-positions e′) start → o ≡ body-at body rec t (bound-positions e) s q
   body-here q {e′} {start} {o} l h k x y z =
       z
-      ∙ ap (λ (w : Env). outcome (formula-in left ns (w .nested) (i + 12)) (recorded rec) t (bound-positions w) start) x
+      ∙ ap (λ (w : Env). outcome (formula-in left ns (w .depth) (i + 12)) (recorded rec) t (bound-positions w) start) x
       ∙ ap (λ (w : List ℕ). outcome body (recorded rec) t w start) (places-more e q l h)
       ∙ ap (λ (w : ℕ). outcome body (recorded rec) t (bound-positions e ++ (q ∷ [])) w) y
       ∙ sym (seen-in t q (outcome body (recorded rec) t (bound-positions e ++ (q ∷ [])) (max s q)) k)
 
   -- what one evaluation answers for all positions that are left, where the body does not name the range's variable
-  pub body-alike : (n q n₀ : ℕ) {o x acc′ r : Outcome} {b : Bool} (acc : Outcome) → length (e .pos) ≡ 5 → e .nested < 4 → 0 < n → n ≤ suc t - q
-      → b ≡ (ltb 1 n₀ && not (names (e .nested + 1) body)) → b ≡ true → o ≡ body-at body rec t (bound-positions e) s q
+  pub body-alike : (n q n₀ : ℕ) {o x acc′ r : Outcome} {b : Bool} (acc : Outcome) → length (e .pos) ≡ 5 → e .depth < 4 → 0 < n → n ≤ suc t - q
+      → b ≡ (ltb 1 n₀ && not (names (e .depth + 1) body)) → b ≡ true → o ≡ body-at body rec t (bound-positions e) s q
       → acc′ ≡ both o acc → x ≡ raise (q + (n - 1)) o → r ≡ both x acc′ → walk (body-at body rec t (bound-positions e) s) n q acc ≡ r
   body-alike n q n₀ {o} {x} {acc′} {r} {b} acc l h i k a c f g y z =
       unnamed-walk body (recorded rec) t (bound-positions e) s n q acc unnamed i (omega arith)
@@ -100,11 +100,11 @@ module _ (left : ℕ) (ns : List ℕ) (i : ℕ) (rec : List ℕ) (t : ℕ) (e : 
       ∙ both-exchange o (raise (q + (n - 1)) o) acc
       ∙ ap₂ both (sym y) (sym g) ∙ sym z
     where
-      bound : length (bound-positions e) ≡ e .nested + 1
-      bound = length-take-le (suc (e .nested)) (e .pos) (omega arith) ∙ omega arith
+      bound : length (bound-positions e) ≡ e .depth + 1
+      bound = length-take-le (suc (e .depth)) (e .pos) (omega arith) ∙ omega arith
 
       unnamed : names (length (bound-positions e)) body ≡ false
-      unnamed = ap (λ (v : ℕ). names v body) bound ∙ not-named (ltb 1 n₀) (names (e .nested + 1) body) (sym a ∙ c)
+      unnamed = ap (λ (v : ℕ). names v body) bound ∙ not-named (ltb 1 n₀) (names (e .depth + 1) body) (sym a ∙ c)
 
   -- the plan is one for the definition's range
   pub plan-here : {r : Range} {first n : ℕ} {end : Outcome} → Evaluable (suc left) i t e → r ≡ range (bound-at ns (i + 1)) (bound-at ns (i + 4)) (clamped (e .pos))
@@ -116,11 +116,11 @@ module _ (left : ℕ) (ns : List ℕ) (i : ℕ) (rec : List ℕ) (t : ℕ) (e : 
       at v = getD-clamped (e .pos) v ∙ clamped-at-same (omega (arith, y .within v, y .early)) ∙ place-at y v
 
   -- the walk of a plan is the "for all"
-  pub by-forall : {first n : ℕ} {end : Outcome} → e .nested < 4 → Plans (range (bound-at ns (i + 1)) (bound-at ns (i + 4)) (bound-positions e)) t s first n end
-      → outcome (forall-of-node left ns (e .nested) i) (recorded rec) t (bound-positions e) s ≡ walk (body-at body rec t (bound-positions e) s) n first end
+  pub by-forall : {first n : ℕ} {end : Outcome} → e .depth < 4 → Plans (range (bound-at ns (i + 1)) (bound-at ns (i + 4)) (bound-positions e)) t s first n end
+      → outcome (forall-of-node left ns (e .depth) i) (recorded rec) t (bound-positions e) s ≡ walk (body-at body rec t (bound-positions e) s) n first end
   unfolding outcome
-  by-forall h p = rw (lt-ltb (e .nested) 4 h) (p .same (body-at body rec t (bound-positions e) s) (λ q k. seen-out t q (outcome body (recorded rec) t (bound-positions e ++ (q ∷ [])) (max s q)) k))
+  by-forall h p = rw (lt-ltb (e .depth) 4 h) (p .same (body-at body rec t (bound-positions e) s) (λ q k. seen-out t q (outcome body (recorded rec) t (bound-positions e ++ (q ∷ [])) (max s q)) k))
 
   -- inside 4 quantifiers there is no fifth
-  pub no-forall : 4 ≤ e .nested → forall-of-node left ns (e .nested) i ≡ flag 0 0
-  no-forall h = rw (le-ltb (e .nested) 4 h)
+  pub no-forall : 4 ≤ e .depth → forall-of-node left ns (e .depth) i ≡ flag 0 0
+  no-forall h = rw (le-ltb (e .depth) 4 h)

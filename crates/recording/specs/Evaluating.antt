@@ -12,15 +12,15 @@ use Rattle.recording.specs.declared.env.Env.{Env}
 
 -- The positions of the variables that are bound.
 abbrev pub bound-positions : Env → List ℕ
-bound-positions env = take (suc (env .nested)) (env .pos)
+bound-positions env = take (suc (env .depth)) (env .pos)
 
 -- The environment of the rule at tick p: "variable 0 equal to p".
 abbrev pub started : ℕ → Env
-started p = record { nested = 0; pos = p ∷ (0 ∷ (0 ∷ (0 ∷ (0 ∷ [])))) }
+started p = record { depth = 0; pos = p ∷ (0 ∷ (0 ∷ (0 ∷ (0 ∷ [])))) }
 
 -- The environment inside one more quantifier, whose variable stands at q.
 abbrev pub entered : Env → ℕ → Env
-entered env q = record { nested = env .nested + 1; pos = set (env .pos) (env .nested + 1) q }
+entered env q = record { depth = env .depth + 1; pos = set (env .pos) (env .depth + 1) q }
 
 -- An outcome that no formula started at this step or later, beside it, can change: false by then.
 abbrev pub false-by : Outcome → ℕ → Bool
@@ -34,7 +34,7 @@ pub record Evaluable (left node t : ℕ) (env : Env) : Type 0 where
   pub few : left ≤ 64
   pub near : node + 12 * left ≤ 4294968064
   pub early : t < 4611686018427387904
-  pub nested : env .nested ≤ 4
+  pub nested : env .depth ≤ 4
   pub five : length (env .pos) ≡ 5
-  pub clear : (variable : ℕ) → env .nested < variable → getD (env .pos) variable 0 ≡ 0
+  pub clear : (variable : ℕ) → env .depth < variable → getD (env .pos) variable 0 ≡ 0
   pub within : (variable : ℕ) → getD (env .pos) variable 0 ≤ t

@@ -4,9 +4,9 @@ ghost use Prim.Native.Nat.{_<_};
 ghost use lib.ListN.{getD};
 ghost use Rattle.recording.specs.Evaluating.{started, entered};
 
-// Variables 0 to `nested` are bound, `nested` of them by quantifiers; the position of every other is 0.
+// Variables 0 to `depth` are bound, `depth` of them by quantifiers; the position of every other is 0.
 pub(crate) struct Env {
-    pub nested: usize,
+    pub depth: usize,
     pub pos: [u64; 5],
 }
 
@@ -15,20 +15,20 @@ pub(crate) fn at_tick(p: u64) -> Env
     ensures { λ r. ⌜ r ≡ started p ⌝ }
 {
     Env {
-        nested: 0,
+        depth: 0,
         pos: [p, 0, 0, 0, 0],
     }
 }
 
 // The environment inside one more quantifier, whose variable stands at q.
 pub(crate) fn enter(env: Env, q: u64) -> Env
-    requires { ⌜ env .nested < 4 ⌝ }
+    requires { ⌜ env .depth < 4 ⌝ }
     ensures { λ r. ⌜ r ≡ entered env q ⌝ }
 {
-    let variable = env.nested + 1;
+    let variable = env.depth + 1;
     let mut inner = env;
     inner.pos[variable] = q;
-    inner.nested = variable;
+    inner.depth = variable;
     inner
 }
 

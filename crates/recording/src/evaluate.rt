@@ -83,7 +83,7 @@ pub(crate) fn evaluate(
     s: u64,
 ) -> Outcome
     requires { ⌜ Evaluable left node t env ⌝ }
-    ensures { λ r. ⌜ r ≡ outcome (formula-in left (now (nodes .entry)) (env .nested) node) (recorded (now (recording .entry))) t (bound-positions env) s ⌝ }
+    ensures { λ r. ⌜ r ≡ outcome (formula-in left (now (nodes .entry)) (env .depth) node) (recorded (now (recording .entry))) t (bound-positions env) s ⌝ }
 {
     if left == 0 {
         return flag_at(recording, env, 0, 0, s);
@@ -104,10 +104,10 @@ pub(crate) fn evaluate(
     }
     if code == THEN_CODE {
         let first = evaluate(nodes, left - 1, node + NODE_WORDS, recording, t, env, s);
-        let second = node_word(nodes, node, SECOND_PART) as usize;
+        let second_node = node_word(nodes, node, SECOND_PART) as usize;
         return match first {
             Outcome::Decided(verdict, step) => match verdict {
-                Verdict::True => evaluate(nodes, left - 1, second, recording, t, env, step),
+                Verdict::True => evaluate(nodes, left - 1, second_node, recording, t, env, step),
                 Verdict::False => Outcome::Decided(Verdict::False, step),
             },
             Outcome::Open => Outcome::Open,
@@ -118,8 +118,8 @@ pub(crate) fn evaluate(
         if settled(first, s) {
             return first;
         }
-        let second = node_word(nodes, node, SECOND_PART) as usize;
-        let other = evaluate(nodes, left - 1, second, recording, t, env, s);
+        let second_node = node_word(nodes, node, SECOND_PART) as usize;
+        let other = evaluate(nodes, left - 1, second_node, recording, t, env, s);
         return outcomes::both(first, other);
     }
     if code == FORALL_CODE {
@@ -143,14 +143,14 @@ fn walk_range(
     s: u64,
 ) -> Outcome
     requires { ⌜ Evaluable (suc left) node t env ⌝ }
-    ensures { λ r. ⌜ r ≡ outcome (forall-of-node left (now (nodes .entry)) (env .nested) node) (recorded (now (recording .entry))) t (bound-positions env) s ⌝ }
+    ensures { λ r. ⌜ r ≡ outcome (forall-of-node left (now (nodes .entry)) (env .depth) node) (recorded (now (recording .entry))) t (bound-positions env) s ⌝ }
 {
-    if NESTED <= env.nested {
+    if NESTED <= env.depth {
         return flag_at(recording, env, 0, 0, s);
     }
     let pos = env.pos;
     let plan = ranges::plan_up_to(ranges::range_at(nodes, node, &pos), t, s);
-    let alike = alike(nodes, left, env.nested, node, plan.count);
+    let alike = alike(nodes, left, env.depth, node, plan.count);
     let mut acc = plan.end;
     let mut q = plan.first;
     let mut count = plan.count;

@@ -10,22 +10,22 @@ use Rattle.rule.specs.Positions.{In}
 
 -- `step` is "the smallest step at which a body is false", of these positions.
 abbrev pub Smallest : (ℕ → Type 0) → (ℕ → Outcome) → ℕ → Type 0
-Smallest positions outcomes step =
-    ((q : ℕ) × positions q × (outcomes q ≡ Decided False step))
-    × ((q : ℕ) → positions q → (other : ℕ) → outcomes q ≡ Decided False other → step ≤ other)
+Smallest among outcomes step =
+    ((q : ℕ) × among q × (outcomes q ≡ Decided False step))
+    × ((q : ℕ) → among q → (other : ℕ) → outcomes q ≡ Decided False other → step ≤ other)
 
 -- "All bodies are true", and `step` is "the largest of their steps".
 abbrev pub Largest : (ℕ → Type 0) → (ℕ → Outcome) → ℕ → Type 0
-Largest positions outcomes step =
-    ((q : ℕ) → positions q → (other : ℕ) × (outcomes q ≡ Decided True other) × (other ≤ step))
-    × ((q : ℕ) × positions q × (outcomes q ≡ Decided True step))
+Largest among outcomes step =
+    ((q : ℕ) → among q → (other : ℕ) × (outcomes q ≡ Decided True other) × (other ≤ step))
+    × ((q : ℕ) × among q × (outcomes q ≡ Decided True step))
 
 -- "False at the smallest step at which a body is false; true if p2 is at most t and all bodies are true, at the largest of their steps;
 -- else open." Of these positions; `ended` says that p2 is at most t.
 abbrev pub Sentence : (ℕ → Type 0) → Type 0 → (ℕ → Outcome) → Outcome → Type 0
-Sentence positions ended outcomes (Decided False step) = Smallest positions outcomes step
-Sentence positions ended outcomes (Decided True step) = ended × Largest positions outcomes step
-Sentence positions ended outcomes Open = ((step : ℕ) → Smallest positions outcomes step → ⊥) × ((step : ℕ) → ended → Largest positions outcomes step → ⊥)
+Sentence among ended outcomes (Decided False step) = Smallest among outcomes step
+Sentence among ended outcomes (Decided True step) = ended × Largest among outcomes step
+Sentence among ended outcomes Open = ((step : ℕ) → Smallest among outcomes step → ⊥) × ((step : ℕ) → ended → Largest among outcomes step → ⊥)
 
 -- The whole of 01's "For all", by the range's positions.
 abbrev pub Said : Range → (ℕ → Outcome) → ℕ → ℕ → Outcome → Type 0

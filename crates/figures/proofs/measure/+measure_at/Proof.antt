@@ -1,5 +1,5 @@
--- `figures::measure::measure_at` meets its contract, by the formulas left: each arm is one law of proofs/Arms.antt about the formula u under
--- the nots, and `above-nots` says it of the formula at word i.
+-- `figures::measure::measure_at` meets its contract, by the formulas left: each arm is one law of proofs/Arms.antt about the formula `operand` under
+-- the nots, and `above-nots` says it of the formula at word `node`.
 use Prim.Native.Nat.{ℕ, _+_, _<_}
 use mathlib.Core.Path.{sym, _∙_}
 use mathlib.Core.Bool.{false}
@@ -82,11 +82,11 @@ measure-at-returns measure c =
     let i = s₀ .args .node in
     let sc = s₀ .args .scope in
     let ps = inside (s₀ .args .scope) (s₀ .args .depth) in
-    let start = s₀ .args .start in
+    let k = s₀ .args .k in
     let u = at-skip-nots .result in
     let v = flag-safe (at-flag-figure .result) (at-flag-figure .ensures) in
-    above-nots old old left m i sc start (at-flag-figure .result) u (at-skip-nots .ensures)
-    (record { small = v .0; modest = v .1; promise = none-left m (u .node) ps start old (at-flag-figure .result) (u .left) (at-if1 .taken) })
+    above-nots old old left m i sc k (at-flag-figure .result) u (at-skip-nots .ensures)
+    (record { small = v .0; modest = v .1; promise = none-left m (u .node) ps k old (at-flag-figure .result) (u .left) (at-if1 .taken) })
 
 measure-at-node-word-requires : (t : ℕ) → measure-at-lts.Need-node-word-requires (measure-at-claims t) (measure-at-at t) measure-at.Post
 measure-at-node-word-requires t c κs = tt
@@ -94,8 +94,8 @@ measure-at-node-word-requires t c κs = tt
 measure-at-node-word-requires-2 : (t : ℕ) → measure-at-lts.Need-node-word-requires-2 (measure-at-claims t) (measure-at-at t) measure-at.Post
 measure-at-node-word-requires-2 t c κs = tt
 
-measure-at-cast-second : (t : ℕ) → measure-at-lts.Need-cast-second (measure-at-claims t) (measure-at-at t) measure-at.Post
-measure-at-cast-second t c = search needs
+measure-at-cast-second-node : (t : ℕ) → measure-at-lts.Need-cast-second-node (measure-at-claims t) (measure-at-at t) measure-at.Post
+measure-at-cast-second-node t c = search needs
 
 measure-at-sub-measure-at : (t : ℕ) → measure-at-lts.Need-sub-measure-at (measure-at-claims t) (measure-at-at t) measure-at.Post
 measure-at-sub-measure-at measure c =
@@ -142,14 +142,14 @@ measure-at-measure-at-requires-2 measure c κs =
     let old = s₀ .args .nodes .now in
     let left = s₀ .args .left in
     let i = s₀ .args .node in
-    let start = s₀ .args .start in
+    let k = s₀ .args .k in
     let u = at-skip-nots .result in
     let few = nots-left old left i false u (at-skip-nots .ensures) in (
       omega (arith, s₀ .pre .0, at-if1 .left, few),
       record {
         nested = s₀ .pre .1 .nested;
         within = s₀ .pre .1 .within;
-        begun = rw (at-larger-size .ensures) (modest-larger start (at-measure-at .result .delay) (s₀ .pre .1 .begun) (at-measure-at .ensures .modest));
+        begun = rw (at-larger-size .ensures) (modest-larger k (at-measure-at .result .delay) (s₀ .pre .1 .begun) (at-measure-at .ensures .modest));
       },
     )
 
@@ -177,18 +177,18 @@ measure-at-returns-2 measure c =
     let i = s₀ .args .node in
     let sc = s₀ .args .scope in
     let ps = inside (s₀ .args .scope) (s₀ .args .depth) in
-    let start = s₀ .args .start in
+    let k = s₀ .args .k in
     let u = at-skip-nots .result in
     let w = at-node-word .result in
     let v = then-safe (at-measure-at .result) (at-measure-at2 .result) (at-then-figure .result) (at-then-figure .ensures) (at-measure-at .ensures .modest) (at-measure-at2 .ensures .modest) in
-    above-nots old (at-measure-at2 .last .0) left m i sc start (at-then-figure .result) u (at-skip-nots .ensures)
-    (record { small = v .0; modest = v .1; promise = then-arm old (u .left) m (u .node) w ps start (at-node-word .ensures) (at-if1 .left) (at-node-word2 .result) (at-measure-at .last .0) (at-measure-at2 .last .0) (at-measure-at .result) (at-measure-at2 .result) (at-then-figure .result) (at-node-word2 .ensures) (at-measure-at .kept .0) (at-measure-at .ensures .promise) (at-larger-size .result) (at-if2 .taken) (at-larger-size .ensures) (at-measure-at2 .ensures .promise) (at-then-figure .ensures) })
+    above-nots old (at-measure-at2 .last .0) left m i sc k (at-then-figure .result) u (at-skip-nots .ensures)
+    (record { small = v .0; modest = v .1; promise = then-arm old (u .left) m (u .node) w ps k (at-node-word .ensures) (at-if1 .left) (at-node-word2 .result) (at-measure-at .last .0) (at-measure-at2 .last .0) (at-measure-at .result) (at-measure-at2 .result) (at-then-figure .result) (at-node-word2 .ensures) (at-measure-at .kept .0) (at-measure-at .ensures .promise) (at-larger-size .result) (at-if2 .taken) (at-larger-size .ensures) (at-measure-at2 .ensures .promise) (at-then-figure .ensures) })
 
 measure-at-node-word-requires-3 : (t : ℕ) → measure-at-lts.Need-node-word-requires-3 (measure-at-claims t) (measure-at-at t) measure-at.Post
 measure-at-node-word-requires-3 t c κs = tt
 
-measure-at-cast-second-2 : (t : ℕ) → measure-at-lts.Need-cast-second-2 (measure-at-claims t) (measure-at-at t) measure-at.Post
-measure-at-cast-second-2 t c = search needs
+measure-at-cast-second-node-2 : (t : ℕ) → measure-at-lts.Need-cast-second-node-2 (measure-at-claims t) (measure-at-at t) measure-at.Post
+measure-at-cast-second-node-2 t c = search needs
 
 measure-at-sub-measure-at-3 : (t : ℕ) → measure-at-lts.Need-sub-measure-at-3 (measure-at-claims t) (measure-at-at t) measure-at.Post
 measure-at-sub-measure-at-3 measure c =
@@ -266,12 +266,12 @@ measure-at-returns-3 measure c =
     let i = s₀ .args .node in
     let sc = s₀ .args .scope in
     let ps = inside (s₀ .args .scope) (s₀ .args .depth) in
-    let start = s₀ .args .start in
+    let k = s₀ .args .k in
     let u = at-skip-nots .result in
     let w = at-node-word .result in
     let v = beside-safe (at-measure-at3 .result) (at-measure-at4 .result) (at-beside-figure .result) (at-beside-figure .ensures) (at-measure-at3 .ensures .modest) (at-measure-at4 .ensures .modest) in
-    above-nots old (at-store .last .0) left m i sc start (at-beside-figure .result) u (at-skip-nots .ensures)
-    (record { small = v .0; modest = v .1; promise = beside-arm old (u .left) m (u .node) w ps start (at-node-word .ensures) (at-if1 .left) (at-node-word3 .result) (at-measure-at3 .last .0) (at-measure-at4 .last .0) (at-measure-at3 .result) (at-measure-at4 .result) (at-beside-figure .result) (at-node-word3 .ensures) (at-measure-at3 .kept .0) (at-measure-at3 .ensures .promise) (at-store .last .0) (at-if3 .taken) (at-measure-at4 .ensures .promise) (at-measure-at4 .kept .0) (at-store .ensures) (at-beside-figure .ensures) })
+    above-nots old (at-store .last .0) left m i sc k (at-beside-figure .result) u (at-skip-nots .ensures)
+    (record { small = v .0; modest = v .1; promise = beside-arm old (u .left) m (u .node) w ps k (at-node-word .ensures) (at-if1 .left) (at-node-word3 .result) (at-measure-at3 .last .0) (at-measure-at4 .last .0) (at-measure-at3 .result) (at-measure-at4 .result) (at-beside-figure .result) (at-node-word3 .ensures) (at-measure-at3 .kept .0) (at-measure-at3 .ensures .promise) (at-store .last .0) (at-if3 .taken) (at-measure-at4 .ensures .promise) (at-measure-at4 .kept .0) (at-store .ensures) (at-beside-figure .ensures) })
 
 measure-at-flag-figure-requires-2 : (t : ℕ) → measure-at-lts.Need-flag-figure-requires-2 (measure-at-claims t) (measure-at-at t) measure-at.Post
 measure-at-flag-figure-requires-2 t c κs = tt
@@ -293,12 +293,12 @@ measure-at-returns-4 measure c =
     let i = s₀ .args .node in
     let sc = s₀ .args .scope in
     let ps = inside (s₀ .args .scope) (s₀ .args .depth) in
-    let start = s₀ .args .start in
+    let k = s₀ .args .k in
     let u = at-skip-nots .result in
     let w = at-node-word .result in
     let v = flag-safe (at-flag-figure2 .result) (at-flag-figure2 .ensures) in
-    above-nots old old left m i sc start (at-flag-figure2 .result) u (at-skip-nots .ensures)
-    (record { small = v .0; modest = v .1; promise = deep-arm old (u .left) m (u .node) w ps start (at-node-word .ensures) (at-flag-figure2 .result) (at-if4 .taken) (at-if5 .taken) })
+    above-nots old old left m i sc k (at-flag-figure2 .result) u (at-skip-nots .ensures)
+    (record { small = v .0; modest = v .1; promise = deep-arm old (u .left) m (u .node) w ps k (at-node-word .ensures) (at-flag-figure2 .result) (at-if4 .taken) (at-if5 .taken) })
 
 measure-at-range-pair-requires : (t : ℕ) → measure-at-lts.Need-range-pair-requires (measure-at-claims t) (measure-at-at t) measure-at.Post
 measure-at-range-pair-requires measure c κs =
@@ -351,14 +351,14 @@ measure-at-measure-at-requires-5 measure c κs =
     let m = s₀ .args .depth in
     let i = s₀ .args .node in
     let ps = inside (s₀ .args .scope) (s₀ .args .depth) in
-    let start = s₀ .args .start in
+    let k = s₀ .args .k in
     let u = at-skip-nots .result in
     let few = nots-left old left i false u (at-skip-nots .ensures) in (
       omega (arith, s₀ .pre .0, at-if1 .left, few),
       record {
         nested = omega (arith, nested measure (c .before .before .before .before .before));
         within = body-within old m (u .node) ps (nested measure (c .before .before .before .before .before)) (s₀ .pre .1 .within) (at-range-pair .result) (at-range-pair .ensures) (inside (at-with-pair .result) (m + 1)) (at-with-pair .ensures);
-        begun = body-begun old m (u .node) ps (nested measure (c .before .before .before .before .before)) (s₀ .pre .1 .within) (at-range-pair .result) (at-range-pair .ensures) start (at-body-start .result) (s₀ .pre .1 .begun) (at-body-start .ensures);
+        begun = body-begun old m (u .node) ps (nested measure (c .before .before .before .before .before)) (s₀ .pre .1 .within) (at-range-pair .result) (at-range-pair .ensures) k (at-body-start .result) (s₀ .pre .1 .begun) (at-body-start .ensures);
       },
     )
 
@@ -402,12 +402,12 @@ measure-at-returns-5 measure c =
     let i = s₀ .args .node in
     let sc = s₀ .args .scope in
     let ps = inside (s₀ .args .scope) (s₀ .args .depth) in
-    let start = s₀ .args .start in
+    let k = s₀ .args .k in
     let u = at-skip-nots .result in
     let w = at-node-word .result in
-    let v = range-safe (at-range-pair .result) start (at-measure-at5 .result) (at-range-figure .result) (at-range-figure .ensures) (at-measure-at5 .ensures .modest) (upper-ok measure (c .before .before .before .before .before .before .before .before .before .before .before .before .before .before)) in
-    above-nots old (at-store .last .0) left m i sc start (at-range-figure .result) u (at-skip-nots .ensures)
-    (record { small = v .0; modest = v .1; promise = forall-arm old (u .left) m (u .node) w ps start (at-node-word .ensures) (at-if1 .left) (at-range-pair .result) (at-range-pair .ensures) (at-if4 .taken) (at-body-start .result) (at-body-start .ensures) (inside (at-with-pair .result) (m + 1)) (at-with-pair .ensures) (at-measure-at5 .last .0) (at-store .last .0) (at-measure-at5 .result) (at-range-figure .result) (at-measure-at5 .kept .0) (at-store .ensures) (at-range-figure .ensures) (at-measure-at5 .ensures .promise) })
+    let v = range-safe (at-range-pair .result) k (at-measure-at5 .result) (at-range-figure .result) (at-range-figure .ensures) (at-measure-at5 .ensures .modest) (upper-ok measure (c .before .before .before .before .before .before .before .before .before .before .before .before .before .before)) in
+    above-nots old (at-store .last .0) left m i sc k (at-range-figure .result) u (at-skip-nots .ensures)
+    (record { small = v .0; modest = v .1; promise = forall-arm old (u .left) m (u .node) w ps k (at-node-word .ensures) (at-if1 .left) (at-range-pair .result) (at-range-pair .ensures) (at-if4 .taken) (at-body-start .result) (at-body-start .ensures) (inside (at-with-pair .result) (m + 1)) (at-with-pair .ensures) (at-measure-at5 .last .0) (at-store .last .0) (at-measure-at5 .result) (at-range-figure .result) (at-measure-at5 .kept .0) (at-store .ensures) (at-range-figure .ensures) (at-measure-at5 .ensures .promise) })
 
 measure-at-flag-figure-requires-3 : (t : ℕ) → measure-at-lts.Need-flag-figure-requires-3 (measure-at-claims t) (measure-at-at t) measure-at.Post
 measure-at-flag-figure-requires-3 t c κs = tt
@@ -431,13 +431,13 @@ measure-at-returns-6 measure c =
     let i = s₀ .args .node in
     let sc = s₀ .args .scope in
     let ps = inside (s₀ .args .scope) (s₀ .args .depth) in
-    let start = s₀ .args .start in
+    let k = s₀ .args .k in
     let u = at-skip-nots .result in
     let w = at-node-word .result in
     let v = flag-safe (at-flag-figure3 .result) (at-flag-figure3 .ensures) in
     let no-not = nots-end old left i false u (at-skip-nots .ensures) (at-if1 .left) in
-    above-nots old old left m i sc start (at-flag-figure3 .result) u (at-skip-nots .ensures)
-    (record { small = v .0; modest = v .1; promise = flag-arm old (u .left) m (u .node) w ps start (at-node-word .ensures) (at-flag-figure3 .result) (λ h. no-not (sym (at-node-word .ensures) ∙ h)) (at-if2 .left) (at-if3 .left) (at-if4 .left) (at-flag-figure3 .ensures) })
+    above-nots old old left m i sc k (at-flag-figure3 .result) u (at-skip-nots .ensures)
+    (record { small = v .0; modest = v .1; promise = flag-arm old (u .left) m (u .node) w ps k (at-node-word .ensures) (at-flag-figure3 .result) (λ h. no-not (sym (at-node-word .ensures) ∙ h)) (at-if2 .left) (at-if3 .left) (at-if4 .left) (at-flag-figure3 .ensures) })
 
 pub +measure-at-spec : {M : Type 1} → statement M
 +measure-at-spec = close μ-measure-at λ t. measure-at-lts.spec (measure-at-claims t)
@@ -449,7 +449,7 @@ pub +measure-at-spec : {M : Type 1} → statement M
     (measure-at-returns t)
     (measure-at-node-word-requires t)
     (measure-at-node-word-requires-2 t)
-    (measure-at-cast-second t)
+    (measure-at-cast-second-node t)
     (measure-at-sub-measure-at t)
     (measure-at-add-measure-at t)
     (measure-at-measure-at-requires t)
@@ -460,7 +460,7 @@ pub +measure-at-spec : {M : Type 1} → statement M
     (measure-at-same-length-2 t)
     (measure-at-returns-2 t)
     (measure-at-node-word-requires-3 t)
-    (measure-at-cast-second-2 t)
+    (measure-at-cast-second-node-2 t)
     (measure-at-sub-measure-at-3 t)
     (measure-at-add-measure-at-2 t)
     (measure-at-measure-at-requires-3 t)

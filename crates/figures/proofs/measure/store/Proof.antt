@@ -10,7 +10,7 @@ use Rattle.figures.proofs.measure.store.Tie as tie
 returns : tie.Need-returns
 returns c =
     let s₀ = c .before in
-    sym (set-out (s₀ .args .nodes .now) (s₀ .args .node + s₀ .args .at) (s₀ .args .value) (omega arith))
+    sym (set-out (s₀ .args .nodes .now) (s₀ .args .node + s₀ .args .index) (s₀ .args .value) (omega arith))
 
 sub-if2 : tie.Need-sub-if2
 sub-if2 c = search needs
@@ -18,7 +18,7 @@ sub-if2 c = search needs
 returns-2 : tie.Need-returns-2
 returns-2 c =
     let s₀ = c .before .before in
-    sym (set-out (s₀ .args .nodes .now) (s₀ .args .node + s₀ .args .at) (s₀ .args .value) (omega arith))
+    sym (set-out (s₀ .args .nodes .now) (s₀ .args .node + s₀ .args .index) (s₀ .args .value) (omega arith))
 
 add-nodes : tie.Need-add-nodes
 add-nodes c = search needs

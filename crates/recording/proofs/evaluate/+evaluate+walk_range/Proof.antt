@@ -107,7 +107,7 @@ evaluate-flag-at-requires t c κs = search needs
 evaluate-returns : (t : ℕ) → evaluate-lts.Need-returns (evaluate-claims t) (evaluate-at t) evaluate.Post
 evaluate-returns t c =
     let s = c .before .before .before .before in
-    by-flag (s .args .recording .now) (s .args .t) (bound-positions (s .args .env)) (s .args .s) (none-in (s .args .left) (s .args .nodes .now) (s .args .env .nested) (s .args .node) (c .before .if1 .taken)) (place-at (s .pre .1) 0) (c .flag-at .ensures)
+    by-flag (s .args .recording .now) (s .args .t) (bound-positions (s .args .env)) (s .args .s) (none-in (s .args .left) (s .args .nodes .now) (s .args .env .depth) (s .args .node) (c .before .if1 .taken)) (place-at (s .pre .1) 0) (c .flag-at .ensures)
 
 evaluate-node-word-requires : (t : ℕ) → evaluate-lts.Need-node-word-requires (evaluate-claims t) (evaluate-at t) evaluate.Post
 evaluate-node-word-requires t c κs = search needs
@@ -129,7 +129,7 @@ evaluate-returns-2 : (t : ℕ) → evaluate-lts.Need-returns-2 (evaluate-claims 
 evaluate-returns-2 t c =
     let s = c .before .before .before .before .before .before .before .before in
     let u = c .before .before .skip-nots in
-    by-nots (s .args .nodes .now) (s .args .left) (s .args .node) (u .result) (u .ensures) (s .args .env .nested) (recorded (s .args .recording .now)) (s .args .t) (bound-positions (s .args .env)) (s .args .s) (c .before .evaluate .result) (c .opposite-if .result) (c .before .evaluate .ensures) (c .opposite-if .ensures)
+    by-nots (s .args .nodes .now) (s .args .left) (s .args .node) (u .result) (u .ensures) (s .args .env .depth) (recorded (s .args .recording .now)) (s .args .t) (bound-positions (s .args .env)) (s .args .s) (c .before .evaluate .result) (c .opposite-if .result) (c .before .evaluate .ensures) (c .opposite-if .ensures)
 
 evaluate-sub-evaluate : (t : ℕ) → evaluate-lts.Need-sub-evaluate (evaluate-claims t) (evaluate-at t) evaluate.Post
 evaluate-sub-evaluate t c = omega (arith, some t (c .before .before))
@@ -143,8 +143,8 @@ evaluate-evaluate-requires-2 t c κs = first-ready t (c .before .before)
 evaluate-node-word-requires-2 : (t : ℕ) → evaluate-lts.Need-node-word-requires-2 (evaluate-claims t) (evaluate-at t) evaluate.Post
 evaluate-node-word-requires-2 t c κs = search needs
 
-evaluate-cast-second : (t : ℕ) → evaluate-lts.Need-cast-second (evaluate-claims t) (evaluate-at t) evaluate.Post
-evaluate-cast-second t c = search needs
+evaluate-cast-second-node : (t : ℕ) → evaluate-lts.Need-cast-second-node (evaluate-claims t) (evaluate-at t) evaluate.Post
+evaluate-cast-second-node t c = search needs
 
 evaluate-enum-known-first : (t : ℕ) → evaluate-lts.Need-enum-known-first (evaluate-claims t) (evaluate-at t) evaluate.Post
 evaluate-enum-known-first t c = search needs
@@ -170,21 +170,21 @@ evaluate-returns-3 : (t : ℕ) → evaluate-lts.Need-returns-3 (evaluate-claims 
 evaluate-returns-3 t c =
     let n = c .before .before .before .before .before .before .before .before .before .before in
     let s = c .before .before .before .before .before .before .before .before .before .before .before .before .before .before in
-    then-true (s .args .recording .now) (s .args .t) (bound-positions (s .args .env)) (s .args .s) (then-in (s .args .left) (s .args .nodes .now) (s .args .env .nested) (s .args .node) (some t n) (code t n 3 (c .before .before .before .before .before .before .before .before .if3 .taken)) (c .before .before .before .before .before .before .node-word2 .ensures))
+    then-true (s .args .recording .now) (s .args .t) (bound-positions (s .args .env)) (s .args .s) (then-in (s .args .left) (s .args .nodes .now) (s .args .env .depth) (s .args .node) (some t n) (code t n 3 (c .before .before .before .before .before .before .before .before .if3 .taken)) (c .before .before .before .before .before .before .node-word2 .ensures))
     (c .before .before .before .before .before .before .before .evaluate2 .ensures) (c .before .before .before .before .first .given .1) (c .before .enum-told .given .1) (c .evaluate3 .ensures)
 
 evaluate-returns-4 : (t : ℕ) → evaluate-lts.Need-returns-4 (evaluate-claims t) (evaluate-at t) evaluate.Post
 evaluate-returns-4 t c =
     let n = c .before .before .before .before .before .before .before .before .before in
     let s = c .before .before .before .before .before .before .before .before .before .before .before .before .before in
-    then-false (s .args .recording .now) (s .args .t) (bound-positions (s .args .env)) (s .args .s) (then-in (s .args .left) (s .args .nodes .now) (s .args .env .nested) (s .args .node) (some t n) (code t n 3 (c .before .before .before .before .before .before .before .if3 .taken)) (c .before .before .before .before .before .node-word2 .ensures))
+    then-false (s .args .recording .now) (s .args .t) (bound-positions (s .args .env)) (s .args .s) (then-in (s .args .left) (s .args .nodes .now) (s .args .env .depth) (s .args .node) (some t n) (code t n 3 (c .before .before .before .before .before .before .before .if3 .taken)) (c .before .before .before .before .before .node-word2 .ensures))
     (c .before .before .before .before .before .before .evaluate2 .ensures) (c .before .before .before .first .given .1) (c .enum-told2 .given .1)
 
 evaluate-returns-5 : (t : ℕ) → evaluate-lts.Need-returns-5 (evaluate-claims t) (evaluate-at t) evaluate.Post
 evaluate-returns-5 t c =
     let n = c .before .before .before .before .before .before in
     let s = c .before .before .before .before .before .before .before .before .before .before in
-    then-open (s .args .recording .now) (s .args .t) (bound-positions (s .args .env)) (s .args .s) (then-in (s .args .left) (s .args .nodes .now) (s .args .env .nested) (s .args .node) (some t n) (code t n 3 (c .before .before .before .before .if3 .taken)) (c .before .before .node-word2 .ensures))
+    then-open (s .args .recording .now) (s .args .t) (bound-positions (s .args .env)) (s .args .s) (then-in (s .args .left) (s .args .nodes .now) (s .args .env .depth) (s .args .node) (some t n) (code t n 3 (c .before .before .before .before .if3 .taken)) (c .before .before .node-word2 .ensures))
     (c .before .before .before .evaluate2 .ensures) (c .enum-told3 .given .1)
 
 evaluate-sub-evaluate-3 : (t : ℕ) → evaluate-lts.Need-sub-evaluate-3 (evaluate-claims t) (evaluate-at t) evaluate.Post
@@ -203,14 +203,14 @@ evaluate-returns-6 : (t : ℕ) → evaluate-lts.Need-returns-6 (evaluate-claims 
 evaluate-returns-6 t c =
     let n = c .before .before .before .before .before .before in
     let s = c .before .before .before .before .before .before .before .before .before .before in
-    beside-settled (s .args .recording .now) (s .args .t) (bound-positions (s .args .env)) (s .args .s) (beside-in (s .args .left) (s .args .nodes .now) (s .args .env .nested) (s .args .node) (some t n) (code t n 4 (c .before .before .before .if4 .taken)) refl)
+    beside-settled (s .args .recording .now) (s .args .t) (bound-positions (s .args .env)) (s .args .s) (beside-in (s .args .left) (s .args .nodes .now) (s .args .env .depth) (s .args .node) (some t n) (code t n 4 (c .before .before .before .if4 .taken)) refl)
     (c .before .before .evaluate4 .ensures) (c .before .settled .ensures) (c .if5 .taken)
 
 evaluate-node-word-requires-3 : (t : ℕ) → evaluate-lts.Need-node-word-requires-3 (evaluate-claims t) (evaluate-at t) evaluate.Post
 evaluate-node-word-requires-3 t c κs = search needs
 
-evaluate-cast-second-2 : (t : ℕ) → evaluate-lts.Need-cast-second-2 (evaluate-claims t) (evaluate-at t) evaluate.Post
-evaluate-cast-second-2 t c = search needs
+evaluate-cast-second-node-2 : (t : ℕ) → evaluate-lts.Need-cast-second-node-2 (evaluate-claims t) (evaluate-at t) evaluate.Post
+evaluate-cast-second-node-2 t c = search needs
 
 evaluate-sub-evaluate-4 : (t : ℕ) → evaluate-lts.Need-sub-evaluate-4 (evaluate-claims t) (evaluate-at t) evaluate.Post
 evaluate-sub-evaluate-4 t c = omega (arith, some t (c .before .before .before .before .before .before .before))
@@ -227,7 +227,7 @@ evaluate-returns-7 : (t : ℕ) → evaluate-lts.Need-returns-7 (evaluate-claims 
 evaluate-returns-7 t c =
     let n = c .before .before .before .before .before .before .before .before .before in
     let s = c .before .before .before .before .before .before .before .before .before .before .before .before .before in
-    by-beside (s .args .recording .now) (s .args .t) (bound-positions (s .args .env)) (s .args .s) (beside-in (s .args .left) (s .args .nodes .now) (s .args .env .nested) (s .args .node) (some t n) (code t n 4 (c .before .before .before .before .before .before .if4 .taken)) (c .before .before .node-word3 .ensures))
+    by-beside (s .args .recording .now) (s .args .t) (bound-positions (s .args .env)) (s .args .s) (beside-in (s .args .left) (s .args .nodes .now) (s .args .env .depth) (s .args .node) (some t n) (code t n 4 (c .before .before .before .before .before .before .if4 .taken)) (c .before .before .node-word3 .ensures))
     (c .before .before .before .before .before .evaluate4 .ensures) (c .before .evaluate5 .ensures) (c .both .ensures)
 
 evaluate-sub-walk-range : (t : ℕ) → evaluate-lts.Need-sub-walk-range (evaluate-claims t) (evaluate-at t) evaluate.Post
@@ -240,7 +240,7 @@ evaluate-returns-8 : (t : ℕ) → evaluate-lts.Need-returns-8 (evaluate-claims 
 evaluate-returns-8 t c =
     let n = c .before .before .before .before .before in
     let s = c .before .before .before .before .before .before .before .before .before in
-    by-same (s .args .recording .now) (s .args .t) (bound-positions (s .args .env)) (s .args .s) (range-in (s .args .left) (s .args .nodes .now) (s .args .env .nested) (s .args .node) (some t n) (code t n 5 (c .before .if6 .taken))) (c .walk-range .ensures)
+    by-same (s .args .recording .now) (s .args .t) (bound-positions (s .args .env)) (s .args .s) (range-in (s .args .left) (s .args .nodes .now) (s .args .env .depth) (s .args .node) (some t n) (code t n 5 (c .before .if6 .taken))) (c .walk-range .ensures)
 
 evaluate-node-word-requires-4 : (t : ℕ) → evaluate-lts.Need-node-word-requires-4 (evaluate-claims t) (evaluate-at t) evaluate.Post
 evaluate-node-word-requires-4 t c κs = search needs
@@ -256,13 +256,13 @@ evaluate-returns-9 t c =
     let n = c .before .before .before .before .before .before .before in
     let s = c .before .before .before .before .before .before .before .before .before .before .before in
     by-flag (s .args .recording .now) (s .args .t) (bound-positions (s .args .env)) (s .args .s)
-    (flag-in (s .args .left) (s .args .nodes .now) (s .args .env .nested) (s .args .node) (some t n) (no-code t n 2 (c .before .before .before .before .before .before .if2 .left)) (no-code t n 3 (c .before .before .before .before .before .if3 .left)) (no-code t n 4 (c .before .before .before .before .if4 .left)) (no-code t n 5 (c .before .before .before .if6 .left)) (c .before .before .node-word4 .ensures) (c .before .node-word5 .ensures))
+    (flag-in (s .args .left) (s .args .nodes .now) (s .args .env .depth) (s .args .node) (some t n) (no-code t n 2 (c .before .before .before .before .before .before .if2 .left)) (no-code t n 3 (c .before .before .before .before .before .if3 .left)) (no-code t n 4 (c .before .before .before .before .if4 .left)) (no-code t n 5 (c .before .before .before .if6 .left)) (c .before .before .node-word4 .ensures) (c .before .node-word5 .ensures))
     (place-at (s .pre .1) (c .before .before .node-word4 .result)) (c .flag-at2 .ensures)
 
 abbrev walk-range-Inv-loop : walk-range-lts.InvT-loop
 walk-range-Inv-loop nodes left i recording t env s alike acc₀ q₀ n₀ acc q n =
-    (n ≤ suc t - q) × (outcome (forall-of-node left nodes (env .nested) i) (recorded recording) t (bound-positions env) s
-    ≡ walk (body-at (formula-in left nodes (env .nested + 1) (i + 12)) recording t (bound-positions env) s) n q acc)
+    (n ≤ suc t - q) × (outcome (forall-of-node left nodes (env .depth) i) (recorded recording) t (bound-positions env) s
+    ≡ walk (body-at (formula-in left nodes (env .depth + 1) (i + 12)) recording t (bound-positions env) s) n q acc)
 
 abbrev walk-range-μ-loop : walk-range-lts.MeasureT-loop
 walk-range-μ-loop nodes left i recording t env s alike acc₀ q₀ n₀ acc q n = n
@@ -303,9 +303,9 @@ module _ (t : ℕ) (l : Turn t) where
 
   -- the outcome of the body at each position
   abbrev bodies : ℕ → Outcome
-  bodies = body-at (formula-in (begun .args .left) (begun .args .nodes .now) (begun .args .env .nested + 1) (begun .args .node + 12)) (begun .args .recording .now) (begun .args .t) (bound-positions (begun .args .env)) (begun .args .s)
+  bodies = body-at (formula-in (begun .args .left) (begun .args .nodes .now) (begun .args .env .depth + 1) (begun .args .node + 12)) (begun .args .recording .now) (begun .args .t) (bound-positions (begun .args .env)) (begun .args .s)
 
-  shallow : begun .args .env .nested < 4
+  shallow : begun .args .env .depth < 4
   shallow = omega (arith, l .before .before .before .before .before .before .before .if1 .left)
 
   not-above : l .before .loop .q ≤ begun .args .t
@@ -334,7 +334,7 @@ walk-range-returns-2 : (t : ℕ) → walk-range-lts.Need-returns-2 (walk-range-c
 walk-range-returns-2 t c =
     let l = c .before .before .before .before .loop in
     let s = c .before .before .before .before .before .before .before .before .before .before .before .before .before .before in
-    sym (l .inv .1 ∙ body-settled (formula-in (s .args .left) (s .args .nodes .now) (s .args .env .nested + 1) (s .args .node + 12)) (s .args .recording .now) (s .args .t) (bound-positions (s .args .env)) (s .args .s) (l .count) (l .q) (l .acc) (c .before .before .later .ensures) (c .before .settled .ensures) (c .if2 .taken))
+    sym (l .inv .1 ∙ body-settled (formula-in (s .args .left) (s .args .nodes .now) (s .args .env .depth + 1) (s .args .node + 12)) (s .args .recording .now) (s .args .t) (bound-positions (s .args .env)) (s .args .s) (l .count) (l .q) (l .acc) (c .before .before .later .ensures) (c .before .settled .ensures) (c .if2 .taken))
 
 walk-range-add-evaluate : (t : ℕ) → walk-range-lts.Need-add-evaluate (walk-range-claims t) (walk-range-at t) walk-range.Post walk-range-Inv-loop walk-range-μ-loop
 walk-range-add-evaluate t c = omega (arith, c .before .before .before .before .before .before .before .before .before .before .before .before .before .before .pre .1 .near)
@@ -395,7 +395,7 @@ walk-range-returns-4 : (t : ℕ) → walk-range-lts.Need-returns-4 (walk-range-c
 walk-range-returns-4 t c =
     let l = c .before .loop in
     let s = c .before .before .before .before .before .before .before .before .before .before .before in
-    sym (l .inv .1 ∙ walk-none (body-at (formula-in (s .args .left) (s .args .nodes .now) (s .args .env .nested + 1) (s .args .node + 12)) (s .args .recording .now) (s .args .t) (bound-positions (s .args .env)) (s .args .s)) (l .count) (l .q) (l .acc) (omega (arith, c .loop-test .left)))
+    sym (l .inv .1 ∙ walk-none (body-at (formula-in (s .args .left) (s .args .nodes .now) (s .args .env .depth + 1) (s .args .node + 12)) (s .args .recording .now) (s .args .t) (bound-positions (s .args .env)) (s .args .s)) (l .count) (l .q) (l .acc) (omega (arith, c .loop-test .left)))
 
 pub +evaluate+walk-range-spec : {M : Type 1} → statement M
 +evaluate+walk-range-spec = close μ-evaluate μ-walk-range (λ t. evaluate-lts.spec (evaluate-claims t)
@@ -412,7 +412,7 @@ pub +evaluate+walk-range-spec : {M : Type 1} → statement M
     (evaluate-add-evaluate t)
     (evaluate-evaluate-requires-2 t)
     (evaluate-node-word-requires-2 t)
-    (evaluate-cast-second t)
+    (evaluate-cast-second-node t)
     (evaluate-enum-known-first t)
     (evaluate-enum-told t)
     (evaluate-sub-evaluate-2 t)
@@ -428,7 +428,7 @@ pub +evaluate+walk-range-spec : {M : Type 1} → statement M
     (evaluate-settled-requires t)
     (evaluate-returns-6 t)
     (evaluate-node-word-requires-3 t)
-    (evaluate-cast-second-2 t)
+    (evaluate-cast-second-node-2 t)
     (evaluate-sub-evaluate-4 t)
     (evaluate-evaluate-requires-5 t)
     (evaluate-both-requires t)
