@@ -40,22 +40,22 @@ pub fit-entered : (F : Tree) (e : Variables) (t q b len n : ℕ) → SlotFit F e
 fit-entered F e t q b len n f en =
     let room : 4 + words (f .pairs) F ≤ len = f .room in
     let le : 4 ≤ len = omega arith in
-    let deep : e .bound < 5 = f .bound in
+    let deep : e .known < 5 = f .few in
     let w : length (e .pos) ≡ 5 = f .five-places in
     let pe : places (with-byte e q b) ≡ with-position (places e) q = places-entered e q b deep (f .five-places) (f .five-bytes) in
     rw en (record {
       fit = record {
         pairs = f .pairs;
         fits = subst (λ (env : List ℕ). Fits (own-tick env) (f .pairs) env) (sym pe) (f .fits);
-        size = f .size ∙ sym (add-one (e .bound));
+        size = f .size ∙ sym (add-one (e .known));
         formed = f .formed;
         room = omega arith;
         low = f .low;
-        past = set-within (e .pos) (e .bound) q t (f .past) (f .come);
-        unbound = λ v h. getD-set-other (e .pos) (e .bound) v q 0 (omega arith) ∙ f .unbound v (omega arith);
-        five-places = length-set (e .pos) (e .bound) q ∙ f .five-places;
-        five-bytes = length-set (e .byte) (e .bound) b ∙ f .five-bytes;
-        bound = omega arith;
+        past = set-within (e .pos) (e .known) q t (f .past) (f .come);
+        unbound = λ v h. getD-set-other (e .pos) (e .known) v q 0 (omega arith) ∙ f .unbound v (omega arith);
+        five-places = length-set (e .pos) (e .known) q ∙ f .five-places;
+        five-bytes = length-set (e .bytes) (e .known) b ∙ f .five-bytes;
+        few = omega arith;
         some = omega arith;
       };
       cell = omega arith;
@@ -75,8 +75,8 @@ module _ {F : Tree} {B₁ B₂ : Bound} {z : ℕ} {e : Variables} {t len : ℕ} 
   unfolding words
   fit-head = let r : 4 + w * z ≤ len = f .room in omega arith
 
-  pub fit-long : length (places e) ≡ e .bound
-  fit-long = let a : length (e .pos) ≡ 5 = f .five-places in let d : e .bound ≤ 5 = f .bound in length-take-le (e .bound) (e .pos) (omega arith)
+  pub fit-long : length (places e) ≡ e .known
+  fit-long = let a : length (e .pos) ≡ 5 = f .five-places in let d : e .known ≤ 5 = f .few in length-take-le (e .known) (e .pos) (omega arith)
 
   -- there are no more than W
   fit-few : (s first n : ℕ) (end : Outcome) → Plans (range B₁ B₂ (places e)) t s first n end → n ≤ w
@@ -109,11 +109,11 @@ module _ {F : Tree} {B₁ B₂ : Bound} {z : ℕ} {e : Variables} {t len : ℕ} 
       let few : n ≤ suc t - first = p .few in
       let most : n ≤ w = fit-few s first n end p in
       let inner = body (omega arith) in
-      let eb : own-tick (with-position (places e) (first + j)) ≡ own-tick (places e) = let l : length (places e) ≡ e .bound = fit-long in let so : 0 < e .bound = f .some in List·getD-append (places e) ((first + j) ∷ []) 0 0 (omega arith) in
+      let eb : own-tick (with-position (places e) (first + j)) ≡ own-tick (places e) = let l : length (places e) ≡ e .known = fit-long in let so : 0 < e .known = f .some in List·getD-append (places e) ((first + j) ∷ []) 0 0 (omega arith) in
       record {
         pairs = f .pairs ++ (range-pair B₁ B₂ (f .pairs) ∷ []);
         fits = subst (λ (b : ℕ). Fits b (f .pairs ++ (range-pair B₁ B₂ (f .pairs) ∷ [])) (with-position (places e) (first + j))) (sym eb) (fits-more (f .fits) (range-lies B₁ B₂ (f .fits) (first + j) (p .inside j h)));
-        size = length-append (f .pairs) (range-pair B₁ B₂ (f .pairs) ∷ []) ∙ ap (λ (n : ℕ). n + 1) (f .size) ∙ add-one (e .bound);
+        size = length-append (f .pairs) (range-pair B₁ B₂ (f .pairs) ∷ []) ∙ ap (λ (n : ℕ). n + 1) (f .size) ∙ add-one (e .known);
         formed = inner .1;
         room = inner .0;
         low = f .low;
@@ -122,7 +122,7 @@ module _ {F : Tree} {B₁ B₂ : Bound} {z : ℕ} {e : Variables} {t len : ℕ} 
         unbound = f .unbound;
         five-places = f .five-places;
         five-bytes = f .five-bytes;
-        bound = subst (λ (n : ℕ). n < 5) (f .size) (f .formed .0);
+        few = subst (λ (n : ℕ). n < 5) (f .size) (f .formed .0);
       }
 
   pub fit-walk : (s first leading n z′ len′ : ℕ) (end : Outcome) → leading ≤ n → z′ ≡ z → len′ ≡ len - 4 → Plans (range B₁ B₂ (places e)) t s first n end → WalkFit F e t first leading n z′ len′
@@ -156,7 +156,7 @@ fit-as F len′ f h r = record {
   unbound = f .unbound;
   five-places = f .five-places;
   five-bytes = f .five-bytes;
-  bound = f .bound;
+  few = f .few;
   some = f .some;
 }
 
@@ -193,7 +193,7 @@ pub fit-not : {F : Tree} {e : Variables} {t len : ℕ} → Fit (not-node F) e t 
 unfolding words Formed
 fit-not {F} {e} {t} {len} f = fit-as F len f (f .formed) (f .room)
 
-pub fit-flag : {v k : ℕ} {e : Variables} {t len : ℕ} → Fit (flag-node v k) e t len → v < e .bound
+pub fit-flag : {v k : ℕ} {e : Variables} {t len : ℕ} → Fit (flag-node v k) e t len → v < e .known
 unfolding Formed
 fit-flag {v} {k} {e} {t} {len} f = subst (λ (n : ℕ). v < n) (f .size) (f .formed)
 

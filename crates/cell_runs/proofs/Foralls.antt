@@ -241,10 +241,10 @@ bound-alone ps n h v = elim (decLt v n) [
 ]
 
 pub plan-here : (B₁ B₂ : Bound) (e : Variables) (t s first n : ℕ) (end : Outcome) (r : Range) → t < 4294967296 → ((v : ℕ) → getD (e .pos) v 0 ≤ t)
-    → ((v : ℕ) → e .bound ≤ v → getD (e .pos) v 0 ≡ 0) → r ≡ range B₁ B₂ (ranges.clamped (e .pos)) → Plans r (ranges.clamped-at t) s first n end
+    → ((v : ℕ) → e .known ≤ v → getD (e .pos) v 0 ≡ 0) → r ≡ range B₁ B₂ (ranges.clamped (e .pos)) → Plans r (ranges.clamped-at t) s first n end
     → Plans (range B₁ B₂ (places e)) t s first n end
 plan-here B₁ B₂ e t s first n end r low past unbound er p =
     let same : ranges.clamped (e .pos) ≡ e .pos = clamped-same (e .pos) (λ v. omega (arith, past v)) in
-    let eq : r ≡ range B₁ B₂ (places e) = er ∙ ap (range B₁ B₂) same ∙ range-same B₁ B₂ (e .pos) (places e) (bound-alone (e .pos) (e .bound) unbound) in
+    let eq : r ≡ range B₁ B₂ (places e) = er ∙ ap (range B₁ B₂) same ∙ range-same B₁ B₂ (e .pos) (places e) (bound-alone (e .pos) (e .known) unbound) in
     let now : ranges.clamped-at t ≡ t = clamped-at-same (omega arith) in
     subst (λ (x : Range). Plans x t s first n end) eq (subst (λ (u : ℕ). Plans r u s first n end) now p)

@@ -27,11 +27,11 @@ opposite-open Open q = refl
 opposite-open (Decided v d) q = clash _ q refl
 
 module _ {hist : List ℕ} {b : ℕ} {e : Variables} {s t : ℕ} {run : List ℕ} where
-  pub flag-of : (v k : ℕ) (r : Outcome) → v < e .bound → r ≡ flagged (e .byte) v k s → Advanced (flag-node v k) hist b e s t run r run
+  pub flag-of : (v k : ℕ) (r : Outcome) → v < e .known → r ≡ flagged (e .bytes) v k s → Advanced (flag-node v k) hist b e s t run r run
   unfolding outcome RunHolds formula-of
   flag-of v k r h er = record {
     gives = λ flags H hon reach ready.
-        let g : getD (places e) v 0 ≡ getD (e .pos) v 0 = getD-take (e .bound) (e .pos) v 0 h in
+        let g : getD (places e) v 0 ≡ getD (e .pos) v 0 = getD-take (e .known) (e .pos) v 0 h in
         (er ∙ ap (λ (c : ℕ). Decided (verdict (up k c)) s) (hon .saved v h ∙ ap flags (sym g)), λ o. tt);
   }
 

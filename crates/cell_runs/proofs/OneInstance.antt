@@ -30,7 +30,7 @@ zeros (suc (suc (suc (suc zero)))) = refl
 zeros (suc (suc (suc (suc (suc v))))) = refl
 
 pub slot-fit : (F : Tree) (t p len : ℕ) → InstanceFit F t p len
-    → SlotFit F (record { bound = 0; pos = 0 ∷ 0 ∷ 0 ∷ 0 ∷ 0 ∷ []; byte = 0 ∷ 0 ∷ 0 ∷ 0 ∷ 0 ∷ [] }) t p len
+    → SlotFit F (record { known = 0; pos = 0 ∷ 0 ∷ 0 ∷ 0 ∷ 0 ∷ []; bytes = 0 ∷ 0 ∷ 0 ∷ 0 ∷ 0 ∷ [] }) t p len
 slot-fit F t p len f =
     let low : t < 4294967295 = f .low in
     record {
@@ -45,15 +45,15 @@ slot-fit F t p len f =
       unbound = λ v h. zeros v;
       five-places = refl;
       five-bytes = refl;
-      bound = omega arith;
+      few = omega arith;
     }
 
 pub moved-of : (F : Tree) (hist : List ℕ) (b t p : ℕ) (pos byte cell cell′ : List ℕ) (r : Outcome)
-    → PositionAdvanced F hist b (record { bound = 0; pos = pos; byte = byte }) p t p cell r cell′ → InstanceMoved F hist b t p cell r cell′
+    → PositionAdvanced F hist b (record { known = 0; pos = pos; bytes = byte }) p t p cell r cell′ → InstanceMoved F hist b t p cell r cell′
 unfolding SlotReady rule
 moved-of F hist b t p pos byte cell cell′ r x = record {
   gives = λ flags H same reach found.
-      let hon : AtHand flags H hist b (record { bound = 0; pos = pos; byte = byte }) t = record { stream = same; saved = λ v l. absurd (omega arith) } in
+      let hon : AtHand flags H hist b (record { known = 0; pos = pos; bytes = byte }) t = record { stream = same; saved = λ v l. absurd (omega arith) } in
       let y = x .gives flags H hon (rw (max-self p) (omega arith, reach)) (⊎-elim (λ z. inl z) (λ z. inr (z .0, z .1, z .2, λ g. z .3)) found) in
       (y .0 ∙ ap (λ (s : ℕ). out flags t (p ∷ []) s F) (max-self p), y .1);
 }

@@ -21,8 +21,8 @@ use Rattle.cell_runs.specs.Calls.{Variables, places, PartFit, Advanced, 
 use Rattle.cells.proofs.Marks.{mark-drop, mark-held, Small}
 use Rattle.cell_runs.proofs.PutBack.{part-window, part-kept, same-kept}
 
-pub tick-is : (e : Variables) → 0 < e .bound → getD (e .pos) 0 0 ≡ own-tick (places e)
-tick-is e h = sym (getD-take (e .bound) (e .pos) 0 0 h)
+pub tick-is : (e : Variables) → 0 < e .known → getD (e .pos) 0 0 ≡ own-tick (places e)
+tick-is e h = sym (getD-take (e .known) (e .pos) 0 0 h)
 
 module _ (F : Tree) (hist : List ℕ) (b : ℕ) (e : Variables) (s t k a z : ℕ) (run : List ℕ) where
   fresh-now : (flags : ℕ → ℕ) (l : List ℕ) (r : Outcome) → RunReady flags t (places e) s F l → r ≡ out flags t (places e) s F

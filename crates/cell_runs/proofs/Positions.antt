@@ -20,20 +20,20 @@ use Rattle.ring.specs.Ring.{byte-of}
 use Rattle.cell_runs.specs.Calls.{Variables, places, with-byte, AtHand, PositionAdvanced, PartAdvanced}
 use Rattle.cell_runs.proofs.PutBack.{tail-take, rest-take}
 
-module _ (e : Variables) (q b : ℕ) (deep : e .bound < 5) (five : length (e .pos) ≡ 5) (five₂ : length (e .byte) ≡ 5) where
+module _ (e : Variables) (q b : ℕ) (deep : e .known < 5) (five : length (e .pos) ≡ 5) (five₂ : length (e .bytes) ≡ 5) where
   pub places-entered : places (with-byte e q b) ≡ with-position (places e) q
-  places-entered = rw (add-one (e .bound)) (take-suc-set (e .pos) (e .bound) q (omega arith))
+  places-entered = rw (add-one (e .known)) (take-suc-set (e .pos) (e .known) q (omega arith))
 
   at-hand-entered : (flags : ℕ → ℕ) (H : ℕ) (hist : List ℕ) (c t : ℕ) → AtHand flags H hist c e t → b ≡ flags q → AtHand flags H hist c (with-byte e q b) t
   at-hand-entered flags H hist c t h eb = record {
     stream = h .stream;
-    saved = λ v l. elim (decLt v (e .bound)) [
+    saved = λ v l. elim (decLt v (e .known)) [
       | yes m ↦
-          let ne : v ≢ e .bound = omega arith in
-          getD-set-other (e .byte) (e .bound) v b 0 ne ∙ h .saved v m ∙ ap flags (sym (getD-set-other (e .pos) (e .bound) v q 0 ne))
+          let ne : v ≢ e .known = omega arith in
+          getD-set-other (e .bytes) (e .known) v b 0 ne ∙ h .saved v m ∙ ap flags (sym (getD-set-other (e .pos) (e .known) v q 0 ne))
       | no m ↦
-          let eq : v ≡ e .bound = omega arith in
-          rw eq (getD-set-same (e .byte) (e .bound) b 0 (omega arith) ∙ eb ∙ ap flags (sym (getD-set-same (e .pos) (e .bound) q 0 (omega arith))))
+          let eq : v ≡ e .known = omega arith in
+          rw eq (getD-set-same (e .bytes) (e .known) b 0 (omega arith) ∙ eb ∙ ap flags (sym (getD-set-same (e .pos) (e .known) q 0 (omega arith))))
     ];
   }
 
@@ -56,7 +56,7 @@ module _ (F : Tree) (hist : List ℕ) (b : ℕ) (e : Variables) (s t q : ℕ) wh
       (y .0, et, omega arith, y .3 qk))
       x
 
-  module _ (deep : e .bound < 5) (five : length (e .pos) ≡ 5) (five₂ : length (e .byte) ≡ 5) (h : q ≤ t) where
+  module _ (deep : e .known < 5) (five : length (e .pos) ≡ 5) (five₂ : length (e .bytes) ≡ 5) (h : q ≤ t) where
     -- what part asks of the slot, started now or gone on
     position-was : (flags : ℕ → ℕ) (H : ℕ) → AtHand flags H hist b e t → max s q ≤ q + H → (start : ℕ) (cell mid : List ℕ) → start ≡ max s q → 4 ≤ length cell
         → (((c : ℕ) × (t ≡ start) × (mid ≡ set cell 1 c) × (c ≡ byte-of hist b t q) × (c < 256)) ⊎ ((t ≡ start → ⊥) × (mid ≡ cell)))

@@ -20,102 +20,102 @@ use Rattle.cell_runs.specs.Run.{out, with-position, own-tick, RunHolds, 
 
 -- ---- the variables and their bytes
 
--- So many variables are bound, the rule's own tick first: the position of each, and the flag byte at it.
+-- So many variables are known, the rule's own tick first: the position of each, and the flag byte at it.
 pub record Variables : Type 0 where
-  pub bound : ℕ
+  pub known : ℕ
   pub pos : List ℕ
-  pub byte : List ℕ
+  pub bytes : List ℕ
 
 -- The code has them as a number and two arrays.
 abbrev pub variables-of : ℕ → List ℕ → List ℕ → Variables
-variables-of bound pos byte = record { bound = bound; pos = pos; byte = byte }
+variables-of known pos bytes = record { known = known; pos = pos; bytes = bytes }
 
--- The positions of the variables that are bound.
+-- The positions of the variables that are known.
 abbrev pub places : Variables → List ℕ
-places variables = take (variables .bound) (variables .pos)
+places variables = take (variables .known) (variables .pos)
 
 -- The environment with one more position and its byte.
 abbrev pub with-byte : Variables → ℕ → ℕ → Variables
-with-byte variables q byte = record { bound = variables .bound + 1; pos = set (variables .pos) (variables .bound) q; byte = set (variables .byte) (variables .bound) byte }
+with-byte variables q byte = record { known = variables .known + 1; pos = set (variables .pos) (variables .known) q; bytes = set (variables .bytes) (variables .known) byte }
 
 -- The flag formula, by the byte that was saved for its variable.
 abbrev pub flagged : List ℕ → ℕ → ℕ → ℕ → Outcome
 flagged bytes variable k s = Decided (verdict (up k (getD bytes variable 0))) s
 
--- The bytes at hand are those of the stream: the history holds the last H ticks before t, `flag` is the byte of t.
-pub record FlagsAtHand (flags : ℕ → ℕ) (H : ℕ) (hist : List ℕ) (flag t : ℕ) : Type 0 where
-  pub history : HistoryHolds flags (length hist) H t hist
+-- The bytes at hand are those of the stream: the history holds the last h ticks before t, `flag` is the byte of t.
+pub record FlagsAtHand (flags : ℕ → ℕ) (h : ℕ) (hist : List ℕ) (flag t : ℕ) : Type 0 where
+  pub history : HistoryHolds flags (length hist) h t hist
   pub current : flag ≡ flags t
 
 -- And each variable's byte is saved.
-pub record AtHand (flags : ℕ → ℕ) (H : ℕ) (hist : List ℕ) (flag : ℕ) (variables : Variables) (t : ℕ) : Type 0 where
-  pub stream : FlagsAtHand flags H hist flag t
-  pub saved : (variable : ℕ) → variable < variables .bound → getD (variables .byte) variable 0 ≡ flags (getD (variables .pos) variable 0)
+pub record AtHand (flags : ℕ → ℕ) (h : ℕ) (history : List ℕ) (flag : ℕ) (variables : Variables) (t : ℕ) : Type 0 where
+  pub stream : FlagsAtHand flags h history flag t
+  pub saved : (variable : ℕ) → variable < variables .known → getD (variables .bytes) variable 0 ≡ flags (getD (variables .pos) variable 0)
 
 -- ---- what the functions require: nothing of what the cells hold
 
 pub record Fit (F : Tree) (variables : Variables) (t : ℕ) (len : ℕ) : Type 0 where
   pub pairs : List Pair
   pub fits : Fits (own-tick (places variables)) pairs (places variables)
-  pub size : length pairs ≡ variables .bound
+  pub size : length pairs ≡ variables .known
   pub formed : Formed pairs F
   pub room : words pairs F ≤ len
   pub low : t < 4294967296
   pub past : (variable : ℕ) → getD (variables .pos) variable 0 ≤ t
-  pub unbound : (variable : ℕ) → variables .bound ≤ variable → getD (variables .pos) variable 0 ≡ 0
+  pub unbound : (variable : ℕ) → variables .known ≤ variable → getD (variables .pos) variable 0 ≡ 0
   pub five-places : length (variables .pos) ≡ 5
-  pub five-bytes : length (variables .byte) ≡ 5
-  pub bound : variables .bound ≤ 5
-  pub some : 0 < variables .bound
+  pub five-bytes : length (variables .bytes) ≡ 5
+  pub few : variables .known ≤ 5
+  pub some : 0 < variables .known
 
 -- One position's slot.
 pub record SlotFit (F : Tree) (variables : Variables) (t q : ℕ) (len : ℕ) : Type 0 where
   pub pairs : List Pair
   pub fits : Fits (own-tick (with-position (places variables) q)) pairs (with-position (places variables) q)
-  pub size : length pairs ≡ suc (variables .bound)
+  pub size : length pairs ≡ suc (variables .known)
   pub formed : Formed pairs F
   pub room : 4 + words pairs F ≤ len
   pub low : t < 4294967296
   pub come : q ≤ t
   pub past : (variable : ℕ) → getD (variables .pos) variable 0 ≤ t
-  pub unbound : (variable : ℕ) → variables .bound ≤ variable → getD (variables .pos) variable 0 ≡ 0
+  pub unbound : (variable : ℕ) → variables .known ≤ variable → getD (variables .pos) variable 0 ≡ 0
   pub five-places : length (variables .pos) ≡ 5
-  pub five-bytes : length (variables .byte) ≡ 5
-  pub bound : variables .bound < 5
+  pub five-bytes : length (variables .bytes) ≡ 5
+  pub few : variables .known < 5
 
 pub record WalkFit (F : Tree) (variables : Variables) (t first leading positions size : ℕ) (len : ℕ) : Type 0 where
   pub slots : (index : ℕ) → index < positions → SlotFit F variables t (first + index) size
   pub room : positions * size ≤ len
   pub within : leading ≤ positions
 
--- The formula in the words from `start` to `end` of the run, its outcome in the words `word` and `word` + 2.
-pub record PartFit (F : Tree) (variables : Variables) (t word start end : ℕ) (len : ℕ) : Type 0 where
-  pub fit : Fit F variables t (end - start)
-  pub cell : word < 2
-  pub after-cell : 4 ≤ start
-  pub ordered : start ≤ end
-  pub inside : end ≤ len
+-- The formula in the words from `from` to `to` of the run, its outcome in the words `index` and `index` + 2.
+pub record PartFit (F : Tree) (variables : Variables) (t index from to : ℕ) (len : ℕ) : Type 0 where
+  pub fit : Fit F variables t (to - from)
+  pub cell : index < 2
+  pub after-cell : 4 ≤ from
+  pub ordered : from ≤ to
+  pub inside : to ≤ len
 
 -- ---- what they give: for every stream whose bytes are at hand and whose cells were ready, the meaning's outcome, and, where that is open, cells that
 -- hold it
 
-pub record Advanced (F : Tree) (hist : List ℕ) (flag : ℕ) (variables : Variables) (s t : ℕ) (run : List ℕ) (outcome : Outcome) (run′ : List ℕ) : Type 0 where
+pub record Advanced (F : Tree) (history : List ℕ) (flag : ℕ) (variables : Variables) (s t : ℕ) (run : List ℕ) (outcome : Outcome) (run′ : List ℕ) : Type 0 where
   pub gives :
-      (flags : ℕ → ℕ) (H : ℕ) → AtHand flags H hist flag variables t → Reach H flags (places variables) s (formula-of F) → RunReady flags t (places variables) s F run
+      (flags : ℕ → ℕ) (h : ℕ) → AtHand flags h history flag variables t → Reach h flags (places variables) s (formula-of F) → RunReady flags t (places variables) s F run
       → (outcome ≡ out flags t (places variables) s F) × (out flags t (places variables) s F ≡ Open → RunHolds flags t (places variables) s F run′)
 
-pub record PositionAdvanced (F : Tree) (hist : List ℕ) (flag : ℕ) (variables : Variables) (s t q : ℕ) (cell : List ℕ) (outcome : Outcome) (cell′ : List ℕ) : Type 0 where
+pub record PositionAdvanced (F : Tree) (history : List ℕ) (flag : ℕ) (variables : Variables) (s t q : ℕ) (cell : List ℕ) (outcome : Outcome) (cell′ : List ℕ) : Type 0 where
   pub gives :
-      (flags : ℕ → ℕ) (H : ℕ) → AtHand flags H hist flag variables t → (max s q ≤ q + H) × Reach H flags (with-position (places variables) q) (max s q) (formula-of F)
+      (flags : ℕ → ℕ) (h : ℕ) → AtHand flags h history flag variables t → (max s q ≤ q + h) × Reach h flags (with-position (places variables) q) (max s q) (formula-of F)
       → SlotReady flags t (places variables) s F q cell
       → (outcome ≡ out flags t (with-position (places variables) q) (max s q) F) × SlotHolds flags t (places variables) s F q cell′
 
 -- Of so many positions from `first` on, those after the leading ones: all of them; or the walk stopped at one that was false, and so is the outcome.
-pub record PositionsWalked (F : Tree) (hist : List ℕ) (flag : ℕ) (variables : Variables) (s t first leading positions : ℕ) (end : Outcome) (size : ℕ) (run : List ℕ) (outcome : Outcome) (run′ : List ℕ) : Type 0 where
+pub record PositionsWalked (F : Tree) (history : List ℕ) (flag : ℕ) (variables : Variables) (s t first leading positions : ℕ) (end : Outcome) (size : ℕ) (run : List ℕ) (outcome : Outcome) (run′ : List ℕ) : Type 0 where
   pub gives :
       ((index : ℕ) → index < leading → slot size index run′ ≡ slot size index run)
-      × ((flags : ℕ → ℕ) (H : ℕ) → AtHand flags H hist flag variables t
-      → ((index : ℕ) → leading ≤ index → index < positions → (max s (first + index) ≤ first + index + H) × Reach H flags (with-position (places variables) (first + index)) (max s (first + index)) (formula-of F))
+      × ((flags : ℕ → ℕ) (h : ℕ) → AtHand flags h history flag variables t
+      → ((index : ℕ) → leading ≤ index → index < positions → (max s (first + index) ≤ first + index + h) × Reach h flags (with-position (places variables) (first + index)) (max s (first + index)) (formula-of F))
       → ((index : ℕ) → leading ≤ index → index < positions → SlotReady flags t (places variables) s F (first + index) (slot size index run))
       → ((walk (λ q. out flags t (with-position (places variables) q) (max s q) F) positions first end ≡ walk (λ q. out flags t (with-position (places variables) q) (max s q) F) leading first outcome)
       × ((From s end → From s outcome)
@@ -124,23 +124,23 @@ pub record PositionsWalked (F : Tree) (hist : List ℕ) (flag : ℕ) (variables 
       × (walk (λ q. out flags t (with-position (places variables) q) (max s q) F) positions first end ≡ walk (λ q. out flags t (with-position (places variables) q) (max s q) F) index first outcome)))
 
 -- What moving a part leaves as it was.
-pub record Untouched (word start end : ℕ) (run run′ : List ℕ) : Type 0 where
+pub record Untouched (index from to : ℕ) (run run′ : List ℕ) : Type 0 where
   pub long : length run′ ≡ length run
-  pub other : (at : ℕ) → at < start → at ≢ word → at ≢ word + 2 → getD run′ at 0 ≡ getD run at 0
-  pub front : (from to : ℕ) → 4 ≤ from → to ≤ start → window from to run′ ≡ window from to run
-  pub back : drop end run′ ≡ drop end run
+  pub other : (at : ℕ) → at < from → at ≢ index → at ≢ index + 2 → getD run′ at 0 ≡ getD run at 0
+  pub front : (low high : ℕ) → 4 ≤ low → high ≤ from → window low high run′ ≡ window low high run
+  pub back : drop to run′ ≡ drop to run
 
 -- The outcome is decided now, or it stood in the cell already.
-abbrev pub DecidedNow : (p s t word : ℕ) → List ℕ → Outcome → List ℕ → Type 0
-DecidedNow p s t word run outcome run′ =
+abbrev pub DecidedNow : (p s t index : ℕ) → List ℕ → Outcome → List ℕ → Type 0
+DecidedNow p s t index run outcome run′ =
     ((verdict : Verdict) (step : ℕ) → outcome ≡ Decided verdict step → t ≡ step)
-    ⊎ ((run′ ≡ run) × ((t ≡ s → ⊥) × (outcome ≡ held p (getD run word 0) (getD run (word + 2) 0))))
+    ⊎ ((run′ ≡ run) × ((t ≡ s → ⊥) × (outcome ≡ held p (getD run index 0) (getD run (index + 2) 0))))
 
-pub record PartAdvanced (F : Tree) (hist : List ℕ) (flag : ℕ) (variables : Variables) (s t word start end : ℕ) (run : List ℕ) (outcome : Outcome) (run′ : List ℕ) : Type 0 where
+pub record PartAdvanced (F : Tree) (history : List ℕ) (flag : ℕ) (variables : Variables) (s t index from to : ℕ) (run : List ℕ) (outcome : Outcome) (run′ : List ℕ) : Type 0 where
   pub gives :
-      Untouched word start end run run′
-      × ((flags : ℕ → ℕ) (H : ℕ) → AtHand flags H hist flag variables t → Reach H flags (places variables) s (formula-of F)
-      → Before s t (λ tick. CellHolds (own-tick (places variables)) word (out flags tick (places variables) s F) (RunHolds flags tick (places variables) s F (window start end run)) run)
+      Untouched index from to run run′
+      × ((flags : ℕ → ℕ) (h : ℕ) → AtHand flags h history flag variables t → Reach h flags (places variables) s (formula-of F)
+      → Before s t (λ tick. CellHolds (own-tick (places variables)) index (out flags tick (places variables) s F) (RunHolds flags tick (places variables) s F (window from to run)) run)
       → (outcome ≡ out flags t (places variables) s F)
-      × (CellHolds (own-tick (places variables)) word (out flags t (places variables) s F) (RunHolds flags t (places variables) s F (window start end run′)) run′
-      × DecidedNow (own-tick (places variables)) s t word run outcome run′))
+      × (CellHolds (own-tick (places variables)) index (out flags t (places variables) s F) (RunHolds flags t (places variables) s F (window from to run′)) run′
+      × DecidedNow (own-tick (places variables)) s t index run outcome run′))

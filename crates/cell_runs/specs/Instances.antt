@@ -26,9 +26,9 @@ pub record InstanceFit (F : Tree) (t p len : ℕ) : Type 0 where
   pub low : t < 4294967295
   pub come : p ≤ t
 
-pub record InstanceMoved (F : Tree) (hist : List ℕ) (flag t p : ℕ) (cell : List ℕ) (outcome : Outcome) (cell′ : List ℕ) : Type 0 where
+pub record InstanceMoved (F : Tree) (history : List ℕ) (flag t p : ℕ) (cell : List ℕ) (outcome : Outcome) (cell′ : List ℕ) : Type 0 where
   pub gives :
-      (flags : ℕ → ℕ) (H : ℕ) → FlagsAtHand flags H hist flag t → Reach H flags (p ∷ []) p (formula-of F)
+      (flags : ℕ → ℕ) (h : ℕ) → FlagsAtHand flags h history flag t → Reach h flags (p ∷ []) p (formula-of F)
       → Before p t (λ tick. InstanceHolds flags F tick p cell)
       → (outcome ≡ rule (formula-of F) flags t p) × InstanceHolds flags F t p cell′
 
@@ -59,9 +59,9 @@ pub record Spared (count writable : ℕ) (table report₀ : List ℕ) (reported 
   pub few-live : live ≤ count
 
 -- The ticks from `low` to t were moved: for every stream whose flags are at hand and for which the cells stand.
-pub record TicksMoved (F : Tree) (count size : ℕ) (hist : List ℕ) (flag t low : ℕ) (table report₀ : List ℕ) (reported live : ℕ) (table′ report′ : List ℕ) : Type 0 where
+pub record TicksMoved (F : Tree) (count size : ℕ) (history : List ℕ) (flag t low : ℕ) (table report₀ : List ℕ) (reported live : ℕ) (table′ report′ : List ℕ) : Type 0 where
   pub gives :
-      (flags : ℕ → ℕ) (H : ℕ) → FlagsAtHand flags H hist flag t → ((p : ℕ) → Reach H flags (p ∷ []) p (formula-of F)) → InstancesHold F count size flags t table
+      (flags : ℕ → ℕ) (h : ℕ) → FlagsAtHand flags h history flag t → ((p : ℕ) → Reach h flags (p ∷ []) p (formula-of F)) → InstancesHold F count size flags t table
       → (reported ≡ length (passing (false-at t) (rule (formula-of F) flags t) (t + 1 - low) low))
       × ((report′ ≡ passing (false-at t) (rule (formula-of F) flags t) (t + 1 - low) low ++ drop reported report₀)
       × ((live ≡ length (passing is-open (rule (formula-of F) flags t) (t + 1 - low) low))

@@ -13,17 +13,17 @@ use Rattle.cell_runs.specs.Slots.{slot}
 
 -- The first `count` positions are true, and `latest` is the latest of s and their steps.
 unfoldable pub Leading : (ℕ → Outcome) → ℕ → ℕ → ℕ → ℕ → Type 0
-Leading outcome-at first s zero latest = latest ≡ s
-Leading outcome-at first s (suc count) latest = (earlier : ℕ) × (step : ℕ) × Leading outcome-at first s count earlier × (outcome-at (first + count) ≡ Decided True step) × (latest ≡ max earlier step)
+Leading outcomes first s zero latest = latest ≡ s
+Leading outcomes first s (suc count) latest = (earlier : ℕ) × (step : ℕ) × Leading outcomes first s count earlier × (outcomes (first + count) ≡ Decided True step) × (latest ≡ max earlier step)
 
 -- The head moved on over the slots, while they hold true.
 pub record MovedOn (p size positions : ℕ) (slots : List ℕ) (leading latest leading′ latest′ : ℕ) : Type 0 where
   pub low : leading ≤ leading′
   pub high : leading′ ≤ positions
   pub after-tick : ((leading′ ≡ leading) × (latest′ ≡ latest)) ⊎ (p ≤ latest′)
-  pub true-so-far : (outcome-at : ℕ → Outcome) (first s : ℕ)
-      → ((index : ℕ) → leading ≤ index → index < positions → getD (slot size index slots) 0 0 ≡ 1 → outcome-at (first + index) ≡ Decided True (p + getD (slot size index slots) 2 0))
-      → Leading outcome-at first s leading latest → Leading outcome-at first s leading′ latest′
+  pub true-so-far : (outcomes : ℕ → Outcome) (first s : ℕ)
+      → ((index : ℕ) → leading ≤ index → index < positions → getD (slot size index slots) 0 0 ≡ 1 → outcomes (first + index) ≡ Decided True (p + getD (slot size index slots) 2 0))
+      → Leading outcomes first s leading latest → Leading outcomes first s leading′ latest′
 
 -- A range's run whose head was moved on and written.
 pub record HeadMoved (p size positions : ℕ) (run : List ℕ) (leading latest : ℕ) (run′ : List ℕ) : Type 0 where

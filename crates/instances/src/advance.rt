@@ -34,29 +34,29 @@ use words::wide;
 // How many numbers a byte can hold.
 const BYTE_VALUES: u32 = 256;
 
-// Moves the formula whose run is the words from `start` to `end`, and whose outcome the words `word` and `word` + 2 hold.
+// Moves the formula whose run is the words from `from` to `to`, and whose outcome the words `index` and `index` + 2 hold.
 fn advance_part(
     nodes: &[u32; TABLE_WORDS],
     left: usize,
     node: usize,
     run: &mut [u32],
-    word: usize,
-    start: usize,
-    end: usize,
+    index: usize,
+    from: usize,
+    to: usize,
     history: &[u8],
     flag: u8,
-    bound: usize,
+    known: usize,
     pos: &[u64; 5],
-    byte: &[u8; 5],
+    bytes: &[u8; 5],
     s: u64,
     t: u64,
 ) -> Outcome
-    requires { ⌜ PartFit (tree-at left (now nodes) node) (variables-of bound (now pos) (now byte)) t word start end (length (now run)) ⌝ }
-    ensures { λ r. ⌜ PartAdvanced (tree-at left (now (nodes .entry)) node) (now (history .entry)) flag (variables-of bound (now (pos .entry)) (now (byte .entry))) s t word start end (now (run .entry)) r (now (run .exit)) ⌝ }
+    requires { ⌜ PartFit (tree-at left (now nodes) node) (variables-of known (now pos) (now bytes)) t index from to (length (now run)) ⌝ }
+    ensures { λ r. ⌜ PartAdvanced (tree-at left (now (nodes .entry)) node) (now (history .entry)) flag (variables-of known (now (pos .entry)) (now (bytes .entry))) s t index from to (now (run .entry)) r (now (run .exit)) ⌝ }
 {
     let p = own_tick(pos);
     if t != s {
-        let held = load_outcome(run, word, p);
+        let held = load_outcome(run, index, p);
         if let Outcome::Decided(_, _) = held {
             return held;
         }
@@ -65,16 +65,16 @@ fn advance_part(
         nodes,
         left,
         node,
-        &mut run[start..end],
+        &mut run[from..to],
         history,
         flag,
-        bound,
+        known,
         pos,
-        byte,
+        bytes,
         s,
         t,
     );
-    store_outcome(run, word, p, outcome);
+    store_outcome(run, index, p, outcome);
     outcome
 }
 
@@ -86,25 +86,25 @@ pub(crate) fn advance_position(
     slot: &mut [u32],
     history: &[u8],
     flag: u8,
-    bound: usize,
+    known: usize,
     pos: &[u64; 5],
-    byte: &[u8; 5],
+    bytes: &[u8; 5],
     s: u64,
     t: u64,
     q: u64,
 ) -> Outcome
-    requires { ⌜ SlotFit (tree-at left (now nodes) node) (variables-of bound (now pos) (now byte)) t q (length (now slot)) ⌝ }
-    ensures { λ r. ⌜ PositionAdvanced (tree-at left (now (nodes .entry)) node) (now (history .entry)) flag (variables-of bound (now (pos .entry)) (now (byte .entry))) s t q (now (slot .entry)) r (now (slot .exit)) ⌝ }
+    requires { ⌜ SlotFit (tree-at left (now nodes) node) (variables-of known (now pos) (now bytes)) t q (length (now slot)) ⌝ }
+    ensures { λ r. ⌜ PositionAdvanced (tree-at left (now (nodes .entry)) node) (now (history .entry)) flag (variables-of known (now (pos .entry)) (now (bytes .entry))) s t q (now (slot .entry)) r (now (slot .exit)) ⌝ }
 {
     let start = outcomes::later(s, q);
     if t == start {
         slot[1] = wide(byte_of(history, flag, t, q));
     }
     let saved = (slot[1] % BYTE_VALUES) as u8;
-    let mut places = *pos;
-    places[bound] = q;
-    let mut bytes = *byte;
-    bytes[bound] = saved;
+    let mut inner_pos = *pos;
+    inner_pos[known] = q;
+    let mut inner_bytes = *bytes;
+    inner_bytes[known] = saved;
     let length = slot.len();
     advance_part(
         nodes,
@@ -116,9 +116,9 @@ pub(crate) fn advance_position(
         length,
         history,
         flag,
-        bound + 1,
-        &places,
-        &bytes,
+        known + 1,
+        &inner_pos,
+        &inner_bytes,
         start,
         t,
     )
@@ -133,9 +133,9 @@ fn walk_positions(
     run: &mut [u32],
     history: &[u8],
     flag: u8,
-    bound: usize,
+    known: usize,
     pos: &[u64; 5],
-    byte: &[u8; 5],
+    bytes: &[u8; 5],
     s: u64,
     t: u64,
     first: u64,
@@ -144,14 +144,14 @@ fn walk_positions(
     end: Outcome,
     size: usize,
 ) -> Outcome
-    requires { ⌜ WalkFit (tree-at left (now nodes) node) (variables-of bound (now pos) (now byte)) t first leading positions size (length (now run)) ⌝ }
-    ensures { λ r. ⌜ PositionsWalked (tree-at left (now (nodes .entry)) node) (now (history .entry)) flag (variables-of bound (now (pos .entry)) (now (byte .entry))) s t first leading positions end size (now (run .entry)) r (now (run .exit)) ⌝ }
+    requires { ⌜ WalkFit (tree-at left (now nodes) node) (variables-of known (now pos) (now bytes)) t first leading positions size (length (now run)) ⌝ }
+    ensures { λ r. ⌜ PositionsWalked (tree-at left (now (nodes .entry)) node) (now (history .entry)) flag (variables-of known (now (pos .entry)) (now (bytes .entry))) s t first leading positions end size (now (run .entry)) r (now (run .exit)) ⌝ }
 {
     let mut acc = end;
-    let mut count = positions;
-    while leading < count {
-        count -= 1;
-        let at = (count as usize) * size;
+    let mut index = positions;
+    while leading < index {
+        index -= 1;
+        let at = (index as usize) * size;
         let top = at + size;
         let outcome = advance_position(
             nodes,
@@ -160,12 +160,12 @@ fn walk_positions(
             &mut run[at..top],
             history,
             flag,
-            bound,
+            known,
             pos,
-            byte,
+            bytes,
             s,
             t,
-            first + count,
+            first + index,
         );
         acc = outcomes::both(outcome, acc);
         if is_false(outcome) {
@@ -183,14 +183,14 @@ fn advance_range(
     run: &mut [u32],
     history: &[u8],
     flag: u8,
-    bound: usize,
+    known: usize,
     pos: &[u64; 5],
-    byte: &[u8; 5],
+    bytes: &[u8; 5],
     s: u64,
     t: u64,
 ) -> Outcome
-    requires { ⌜ (node < 768) × Fit (range-node (bound-at (now nodes) (node + 1)) (bound-at (now nodes) (node + 4)) (getD (now nodes) (node + 8) 0) (tree-at left (now nodes) (node + 12))) (variables-of bound (now pos) (now byte)) t (length (now run)) ⌝ }
-    ensures { λ r. ⌜ Advanced (range-node (bound-at (now (nodes .entry)) (node + 1)) (bound-at (now (nodes .entry)) (node + 4)) (getD (now (nodes .entry)) (node + 8) 0) (tree-at left (now (nodes .entry)) (node + 12))) (now (history .entry)) flag (variables-of bound (now (pos .entry)) (now (byte .entry))) s t (now (run .entry)) r (now (run .exit)) ⌝ }
+    requires { ⌜ (node < 768) × Fit (range-node (bound-at (now nodes) (node + 1)) (bound-at (now nodes) (node + 4)) (getD (now nodes) (node + 8) 0) (tree-at left (now nodes) (node + 12))) (variables-of known (now pos) (now bytes)) t (length (now run)) ⌝ }
+    ensures { λ r. ⌜ Advanced (range-node (bound-at (now (nodes .entry)) (node + 1)) (bound-at (now (nodes .entry)) (node + 4)) (getD (now (nodes .entry)) (node + 8) 0) (tree-at left (now (nodes .entry)) (node + 12))) (now (history .entry)) flag (variables-of known (now (pos .entry)) (now (bytes .entry))) s t (now (run .entry)) r (now (run .exit)) ⌝ }
 {
     let size = node_word(nodes, node, SLOT_WORDS) as usize;
     let span = ranges::range_at(nodes, node, pos);
@@ -207,9 +207,9 @@ fn advance_range(
         &mut run[CELL_WORDS..],
         history,
         flag,
-        bound,
+        known,
         pos,
-        byte,
+        bytes,
         s,
         t,
         first,
@@ -230,14 +230,14 @@ fn advance_then(
     run: &mut [u32],
     history: &[u8],
     flag: u8,
-    bound: usize,
+    known: usize,
     pos: &[u64; 5],
-    byte: &[u8; 5],
+    bytes: &[u8; 5],
     s: u64,
     t: u64,
 ) -> Outcome
-    requires { ⌜ (node < 768) × Fit (then-node (tree-at left (now nodes) (node + 12)) (tree-at left (now nodes) (getD (now nodes) (node + 7) 0))) (variables-of bound (now pos) (now byte)) t (length (now run)) ⌝ }
-    ensures { λ r. ⌜ Advanced (then-node (tree-at left (now (nodes .entry)) (node + 12)) (tree-at left (now (nodes .entry)) (getD (now (nodes .entry)) (node + 7) 0))) (now (history .entry)) flag (variables-of bound (now (pos .entry)) (now (byte .entry))) s t (now (run .entry)) r (now (run .exit)) ⌝ }
+    requires { ⌜ (node < 768) × Fit (then-node (tree-at left (now nodes) (node + 12)) (tree-at left (now nodes) (getD (now nodes) (node + 7) 0))) (variables-of known (now pos) (now bytes)) t (length (now run)) ⌝ }
+    ensures { λ r. ⌜ Advanced (then-node (tree-at left (now (nodes .entry)) (node + 12)) (tree-at left (now (nodes .entry)) (getD (now (nodes .entry)) (node + 7) 0))) (now (history .entry)) flag (variables-of known (now (pos .entry)) (now (bytes .entry))) s t (now (run .entry)) r (now (run .exit)) ⌝ }
 {
     let length = run.len();
     let outcome = advance_part(
@@ -250,9 +250,9 @@ fn advance_then(
         length,
         history,
         flag,
-        bound,
+        known,
         pos,
-        byte,
+        bytes,
         s,
         t,
     );
@@ -261,17 +261,17 @@ fn advance_then(
         Outcome::Decided(verdict, step) => match verdict {
             Verdict::False => outcome,
             Verdict::True => {
-                let second = node_word(nodes, node, SECOND_PART) as usize;
+                let second_node = node_word(nodes, node, SECOND_PART) as usize;
                 advance(
                     nodes,
                     left,
-                    second,
+                    second_node,
                     &mut run[CELL_WORDS..],
                     history,
                     flag,
-                    bound,
+                    known,
                     pos,
-                    byte,
+                    bytes,
                     step,
                     t,
                 )
@@ -288,14 +288,14 @@ fn advance_beside(
     run: &mut [u32],
     history: &[u8],
     flag: u8,
-    bound: usize,
+    known: usize,
     pos: &[u64; 5],
-    byte: &[u8; 5],
+    bytes: &[u8; 5],
     s: u64,
     t: u64,
 ) -> Outcome
-    requires { ⌜ (node < 768) × Fit (beside-node (getD (now nodes) (node + 9) 0) (tree-at left (now nodes) (node + 12)) (tree-at left (now nodes) (getD (now nodes) (node + 7) 0))) (variables-of bound (now pos) (now byte)) t (length (now run)) ⌝ }
-    ensures { λ r. ⌜ Advanced (beside-node (getD (now (nodes .entry)) (node + 9) 0) (tree-at left (now (nodes .entry)) (node + 12)) (tree-at left (now (nodes .entry)) (getD (now (nodes .entry)) (node + 7) 0))) (now (history .entry)) flag (variables-of bound (now (pos .entry)) (now (byte .entry))) s t (now (run .entry)) r (now (run .exit)) ⌝ }
+    requires { ⌜ (node < 768) × Fit (beside-node (getD (now nodes) (node + 9) 0) (tree-at left (now nodes) (node + 12)) (tree-at left (now nodes) (getD (now nodes) (node + 7) 0))) (variables-of known (now pos) (now bytes)) t (length (now run)) ⌝ }
+    ensures { λ r. ⌜ Advanced (beside-node (getD (now (nodes .entry)) (node + 9) 0) (tree-at left (now (nodes .entry)) (node + 12)) (tree-at left (now (nodes .entry)) (getD (now (nodes .entry)) (node + 7) 0))) (now (history .entry)) flag (variables-of known (now (pos .entry)) (now (bytes .entry))) s t (now (run .entry)) r (now (run .exit)) ⌝ }
 {
     let length = run.len();
     let mid = CELL_WORDS + node_word(nodes, node, FIRST_WORDS) as usize;
@@ -309,9 +309,9 @@ fn advance_beside(
         mid,
         history,
         flag,
-        bound,
+        known,
         pos,
-        byte,
+        bytes,
         s,
         t,
     );
@@ -329,9 +329,9 @@ fn advance_beside(
         length,
         history,
         flag,
-        bound,
+        known,
         pos,
-        byte,
+        bytes,
         s,
         t,
     );
@@ -346,30 +346,30 @@ fn advance_not(
     run: &mut [u32],
     history: &[u8],
     flag: u8,
-    bound: usize,
+    known: usize,
     pos: &[u64; 5],
-    byte: &[u8; 5],
+    bytes: &[u8; 5],
     s: u64,
     t: u64,
 ) -> Outcome
-    requires { ⌜ (left ≡ 0 → ⊥) × ((getD (now nodes) (node + 0) 0 ≡ 2) × Fit (tree-at left (now nodes) node) (variables-of bound (now pos) (now byte)) t (length (now run))) ⌝ }
-    ensures { λ r. ⌜ Advanced (tree-at left (now (nodes .entry)) node) (now (history .entry)) flag (variables-of bound (now (pos .entry)) (now (byte .entry))) s t (now (run .entry)) r (now (run .exit)) ⌝ }
+    requires { ⌜ (left ≡ 0 → ⊥) × ((getD (now nodes) (node + 0) 0 ≡ 2) × Fit (tree-at left (now nodes) node) (variables-of known (now pos) (now bytes)) t (length (now run))) ⌝ }
+    ensures { λ r. ⌜ Advanced (tree-at left (now (nodes .entry)) node) (now (history .entry)) flag (variables-of known (now (pos .entry)) (now (bytes .entry))) s t (now (run .entry)) r (now (run .exit)) ⌝ }
 {
-    let under = skip_nots(nodes, left, node);
+    let operand = skip_nots(nodes, left, node);
     let outcome = advance(
         nodes,
-        under.left,
-        under.node,
+        operand.left,
+        operand.node,
         run,
         history,
         flag,
-        bound,
+        known,
         pos,
-        byte,
+        bytes,
         s,
         t,
     );
-    outcomes::opposite_if(under.odd, outcome)
+    outcomes::opposite_if(operand.odd, outcome)
 }
 
 // Moves the formula at word `node`, started at s, to tick t. Flags come most often, and are looked for first.
@@ -380,17 +380,17 @@ fn advance(
     run: &mut [u32],
     history: &[u8],
     flag: u8,
-    bound: usize,
+    known: usize,
     pos: &[u64; 5],
-    byte: &[u8; 5],
+    bytes: &[u8; 5],
     s: u64,
     t: u64,
 ) -> Outcome
-    requires { ⌜ Fit (tree-at left (now nodes) node) (variables-of bound (now pos) (now byte)) t (length (now run)) ⌝ }
-    ensures { λ r. ⌜ Advanced (tree-at left (now (nodes .entry)) node) (now (history .entry)) flag (variables-of bound (now (pos .entry)) (now (byte .entry))) s t (now (run .entry)) r (now (run .exit)) ⌝ }
+    requires { ⌜ Fit (tree-at left (now nodes) node) (variables-of known (now pos) (now bytes)) t (length (now run)) ⌝ }
+    ensures { λ r. ⌜ Advanced (tree-at left (now (nodes .entry)) node) (now (history .entry)) flag (variables-of known (now (pos .entry)) (now (bytes .entry))) s t (now (run .entry)) r (now (run .exit)) ⌝ }
 {
     if is_flag(nodes, left, node) {
-        return flag_in(nodes, node, byte, s);
+        return flag_in(nodes, node, bytes, s);
     }
     let code = node_word(nodes, node, CODE);
     if code == NOT_CODE {
@@ -401,9 +401,9 @@ fn advance(
             run,
             history,
             flag,
-            bound,
+            known,
             pos,
-            byte,
+            bytes,
             s,
             t,
         );
@@ -416,9 +416,9 @@ fn advance(
             run,
             history,
             flag,
-            bound,
+            known,
             pos,
-            byte,
+            bytes,
             s,
             t,
         );
@@ -431,9 +431,9 @@ fn advance(
             run,
             history,
             flag,
-            bound,
+            known,
             pos,
-            byte,
+            bytes,
             s,
             t,
         );
@@ -445,9 +445,9 @@ fn advance(
         run,
         history,
         flag,
-        bound,
+        known,
         pos,
-        byte,
+        bytes,
         s,
         t,
     )

@@ -9,11 +9,11 @@ use nodes::node_word;
 use rule::Outcome;
 
 // The flag whose node starts at word `node`, at step s.
-pub(crate) fn flag_in(nodes: &[u32], node: usize, byte: &[u8; 5], s: u64) -> Outcome
+pub(crate) fn flag_in(nodes: &[u32], node: usize, bytes: &[u8; 5], s: u64) -> Outcome
     requires { ⌜ getD (now nodes) (node + 1) 0 < 5 ⌝ }
-    ensures { λ r. ⌜ r ≡ flagged (now (byte .entry)) (getD (now (nodes .entry)) (node + 1) 0) (getD (now (nodes .entry)) (node + 2) 0) s ⌝ }
+    ensures { λ r. ⌜ r ≡ flagged (now (bytes .entry)) (getD (now (nodes .entry)) (node + 1) 0) (getD (now (nodes .entry)) (node + 2) 0) s ⌝ }
 {
     let variable = node_word(nodes, node, VARIABLE) as usize;
     let k = node_word(nodes, node, FLAG);
-    outcomes::flag_outcome(byte[variable], k, s)
+    outcomes::flag_outcome(bytes[variable], k, s)
 }

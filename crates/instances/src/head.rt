@@ -31,22 +31,22 @@ fn leading_true(
     requires { ⌜ HeadFit size positions leading (4 + length (now slots)) ⌝ }
     ensures { λ r. ⌜ MovedOn p size positions (now (slots .entry)) leading latest (r .leading) (r .latest) ⌝ }
 {
-    let mut count = leading;
-    let mut step = latest;
-    while count < positions {
-        let at = (count as usize) * size;
+    let mut trues = leading;
+    let mut last = latest;
+    while trues < positions {
+        let at = (trues as usize) * size;
         if slots[at] != 1 {
             return Head {
-                leading: count,
-                latest: step,
+                leading: trues,
+                latest: last,
             };
         }
-        step = outcomes::later(step, step_after(p, slots[at + 2]));
-        count += 1;
+        last = outcomes::later(last, step_after(p, slots[at + 2]));
+        trues += 1;
     }
     Head {
-        leading: count,
-        latest: step,
+        leading: trues,
+        latest: last,
     }
 }
 

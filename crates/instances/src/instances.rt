@@ -46,8 +46,8 @@ fn move_instance(
         }
     }
     let pos = [0u64; 5];
-    let byte = [0u8; 5];
-    advance_position(nodes, left, 0, run, history, flag, 0, &pos, &byte, p, t, p)
+    let bytes = [0u8; 5];
+    advance_position(nodes, left, 0, run, history, flag, 0, &pos, &bytes, p, t, p)
 }
 
 // Writes p into the report where the outcome is false at step t, and answers the next place.

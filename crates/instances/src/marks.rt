@@ -8,31 +8,31 @@ use cells::outcome_of;
 use rule::Outcome;
 use rule::Verdict;
 
-// The outcome that the words `word` and `word` + 2 of a cell hold.
-pub(crate) fn load_outcome(cell: &[u32], word: usize, p: u32) -> Outcome
-    requires { ⌜ (4 ≤ length (now cell)) × (word < 2) ⌝ }
-    ensures { λ r. ⌜ r ≡ held p (getD (now (cell .entry)) word 0) (getD (now (cell .entry)) (word + 2) 0) ⌝ }
+// The outcome that the words `index` and `index` + 2 of a cell hold.
+pub(crate) fn load_outcome(cell: &[u32], index: usize, p: u32) -> Outcome
+    requires { ⌜ (4 ≤ length (now cell)) × (index < 2) ⌝ }
+    ensures { λ r. ⌜ r ≡ held p (getD (now (cell .entry)) index 0) (getD (now (cell .entry)) (index + 2) 0) ⌝ }
 {
-    outcome_of(cell[word], cell[word + 2], p)
+    outcome_of(cell[index], cell[index + 2], p)
 }
 
-// Writes an outcome into the words `word` and `word` + 2 of a cell.
-pub(crate) fn store_outcome(cell: &mut [u32], word: usize, p: u32, outcome: Outcome)
-    requires { ⌜ (4 ≤ length (now cell)) × (word < 2) ⌝ }
-    ensures { λ _. ⌜ now (cell .exit) ≡ mark p word outcome (now (cell .entry)) ⌝ }
+// Writes an outcome into the words `index` and `index` + 2 of a cell.
+pub(crate) fn store_outcome(cell: &mut [u32], index: usize, p: u32, outcome: Outcome)
+    requires { ⌜ (4 ≤ length (now cell)) × (index < 2) ⌝ }
+    ensures { λ _. ⌜ now (cell .exit) ≡ mark p index outcome (now (cell .entry)) ⌝ }
 {
     match outcome {
         Outcome::Open => {
-            cell[word] = 0;
+            cell[index] = 0;
         }
         Outcome::Decided(verdict, step) => {
-            cell[word + 2] = elapsed(p, step);
+            cell[index + 2] = elapsed(p, step);
             match verdict {
                 Verdict::True => {
-                    cell[word] = 1;
+                    cell[index] = 1;
                 }
                 Verdict::False => {
-                    cell[word] = 2;
+                    cell[index] = 2;
                 }
             }
         }

@@ -231,12 +231,12 @@ advance-flag-in-requires measure c κs =
     let run = s₀ .args .run .now in
     let left = s₀ .args .left in
     let node = s₀ .args .node in
-    let env = variables-of (s₀ .args .bound) (s₀ .args .pos .now) (s₀ .args .byte .now) in
+    let env = variables-of (s₀ .args .known) (s₀ .args .pos .now) (s₀ .args .bytes .now) in
     let t = s₀ .args .t in
     let at-is-flag = c .before .before .is-flag in
     let at-if1 = c .before .if1 in
     let fit = subst (λ (G : Tree). Fit G env t (length run)) (reads-flag nodes node left (sym (at-is-flag .ensures) ∙ at-if1 .taken)) (s₀ .pre .1) in
-    omega (arith, fit-flag fit, s₀ .pre .1 .bound)
+    omega (arith, fit-flag fit, s₀ .pre .1 .few)
 
 advance-returns : (t : ℕ) → advance-lts.Need-returns (advance-claims t) (advance-at t) advance.Post
 advance-returns measure c =
@@ -247,7 +247,7 @@ advance-returns measure c =
     let left = s₀ .args .left in
     let node = s₀ .args .node in
     let b = s₀ .args .flag in
-    let env = variables-of (s₀ .args .bound) (s₀ .args .pos .now) (s₀ .args .byte .now) in
+    let env = variables-of (s₀ .args .known) (s₀ .args .pos .now) (s₀ .args .bytes .now) in
     let s = s₀ .args .s in
     let t = s₀ .args .t in
     let at-is-flag = c .before .before .before .is-flag in
@@ -292,7 +292,7 @@ advance-advance-then-requires measure c κs =
     let run = s₀ .args .run .now in
     let left = s₀ .args .left in
     let node = s₀ .args .node in
-    let env = variables-of (s₀ .args .bound) (s₀ .args .pos .now) (s₀ .args .byte .now) in
+    let env = variables-of (s₀ .args .known) (s₀ .args .pos .now) (s₀ .args .bytes .now) in
     let t = s₀ .args .t in
     let at-is-flag = c .before .before .before .before .before .before .is-flag in
     let at-if1 = c .before .before .before .before .before .if1 in
@@ -318,7 +318,7 @@ advance-returns-3 measure c =
     let left = s₀ .args .left in
     let node = s₀ .args .node in
     let b = s₀ .args .flag in
-    let env = variables-of (s₀ .args .bound) (s₀ .args .pos .now) (s₀ .args .byte .now) in
+    let env = variables-of (s₀ .args .known) (s₀ .args .pos .now) (s₀ .args .bytes .now) in
     let s = s₀ .args .s in
     let t = s₀ .args .t in
     let at-is-flag = c .before .before .before .before .before .before .before .before .before .is-flag in
@@ -345,7 +345,7 @@ advance-advance-beside-requires measure c κs =
     let run = s₀ .args .run .now in
     let left = s₀ .args .left in
     let node = s₀ .args .node in
-    let env = variables-of (s₀ .args .bound) (s₀ .args .pos .now) (s₀ .args .byte .now) in
+    let env = variables-of (s₀ .args .known) (s₀ .args .pos .now) (s₀ .args .bytes .now) in
     let t = s₀ .args .t in
     let at-is-flag = c .before .before .before .before .before .before .before .is-flag in
     let at-if1 = c .before .before .before .before .before .before .if1 in
@@ -372,7 +372,7 @@ advance-returns-4 measure c =
     let left = s₀ .args .left in
     let node = s₀ .args .node in
     let b = s₀ .args .flag in
-    let env = variables-of (s₀ .args .bound) (s₀ .args .pos .now) (s₀ .args .byte .now) in
+    let env = variables-of (s₀ .args .known) (s₀ .args .pos .now) (s₀ .args .bytes .now) in
     let s = s₀ .args .s in
     let t = s₀ .args .t in
     let at-is-flag = c .before .before .before .before .before .before .before .before .before .before .is-flag in
@@ -400,7 +400,7 @@ advance-advance-range-requires measure c κs =
     let run = s₀ .args .run .now in
     let left = s₀ .args .left in
     let node = s₀ .args .node in
-    let env = variables-of (s₀ .args .bound) (s₀ .args .pos .now) (s₀ .args .byte .now) in
+    let env = variables-of (s₀ .args .known) (s₀ .args .pos .now) (s₀ .args .bytes .now) in
     let t = s₀ .args .t in
     let at-is-flag = c .before .before .before .before .before .before .before .is-flag in
     let at-if1 = c .before .before .before .before .before .before .if1 in
@@ -428,7 +428,7 @@ advance-returns-5 measure c =
     let left = s₀ .args .left in
     let node = s₀ .args .node in
     let b = s₀ .args .flag in
-    let env = variables-of (s₀ .args .bound) (s₀ .args .pos .now) (s₀ .args .byte .now) in
+    let env = variables-of (s₀ .args .known) (s₀ .args .pos .now) (s₀ .args .bytes .now) in
     let s = s₀ .args .s in
     let t = s₀ .args .t in
     let at-is-flag = c .before .before .before .before .before .before .before .before .before .before .is-flag in
@@ -467,7 +467,7 @@ advance-beside-advance-part-requires measure c κs =
     let run = s₀ .args .run .now in
     let left = s₀ .args .left in
     let node = s₀ .args .node in
-    let env = variables-of (s₀ .args .bound) (s₀ .args .pos .now) (s₀ .args .byte .now) in
+    let env = variables-of (s₀ .args .known) (s₀ .args .pos .now) (s₀ .args .bytes .now) in
     let t = s₀ .args .t in
     let at-node-word = c .before .node-word in
     let fit = fit-beside env t (length run) (tree-at left nodes (node + 12)) (tree-at left nodes) (at-node-word .ensures) refl (s₀ .pre .1 .1) in
@@ -488,7 +488,7 @@ advance-beside-returns measure c =
     let left = s₀ .args .left in
     let node = s₀ .args .node in
     let b = s₀ .args .flag in
-    let env = variables-of (s₀ .args .bound) (s₀ .args .pos .now) (s₀ .args .byte .now) in
+    let env = variables-of (s₀ .args .known) (s₀ .args .pos .now) (s₀ .args .bytes .now) in
     let s = s₀ .args .s in
     let t = s₀ .args .t in
     let at-node-word = c .before .before .before .before .before .before .node-word in
@@ -512,7 +512,7 @@ advance-beside-advance-part-requires-2 measure c κs =
     let run = s₀ .args .run .now in
     let left = s₀ .args .left in
     let node = s₀ .args .node in
-    let env = variables-of (s₀ .args .bound) (s₀ .args .pos .now) (s₀ .args .byte .now) in
+    let env = variables-of (s₀ .args .known) (s₀ .args .pos .now) (s₀ .args .bytes .now) in
     let t = s₀ .args .t in
     let at-advance-part = c .before .before .before .before .before .before .before .advance-part in
     let at-node-word = c .before .before .before .before .before .before .before .before .before .node-word in
@@ -535,7 +535,7 @@ advance-beside-returns-2 measure c =
     let left = s₀ .args .left in
     let node = s₀ .args .node in
     let b = s₀ .args .flag in
-    let env = variables-of (s₀ .args .bound) (s₀ .args .pos .now) (s₀ .args .byte .now) in
+    let env = variables-of (s₀ .args .known) (s₀ .args .pos .now) (s₀ .args .bytes .now) in
     let s = s₀ .args .s in
     let t = s₀ .args .t in
     let at-advance-part = c .before .before .before .before .before .before .before .before .before .before .before .advance-part in
@@ -598,17 +598,17 @@ advance-part-returns measure c =
     let left = s₀ .args .left in
     let node = s₀ .args .node in
     let b = s₀ .args .flag in
-    let env = variables-of (s₀ .args .bound) (s₀ .args .pos .now) (s₀ .args .byte .now) in
+    let env = variables-of (s₀ .args .known) (s₀ .args .pos .now) (s₀ .args .bytes .now) in
     let s = s₀ .args .s in
     let t = s₀ .args .t in
-    let word = s₀ .args .word in
-    let start = s₀ .args .start in
-    let end = s₀ .args .end in
+    let index = s₀ .args .index in
+    let from = s₀ .args .from in
+    let to = s₀ .args .to in
     let at-own-tick = c .before .before .before .before .before .own-tick in
     let at-if1 = c .before .before .before .before .if1 in
     let at-load-outcome = c .before .before .load-outcome in
     let at-enum-told = c .enum-told in
-    part-stays (tree-at left nodes node) hist b env s t word start end run (at-own-tick .result) (at-load-outcome .result) _ _ (at-own-tick .ensures ∙ tick-is env (s₀ .pre .1 .fit .some)) (at-if1 .taken) (at-load-outcome .ensures) (at-enum-told .given .1)
+    part-stays (tree-at left nodes node) hist b env s t index from to run (at-own-tick .result) (at-load-outcome .result) _ _ (at-own-tick .ensures ∙ tick-is env (s₀ .pre .1 .fit .some)) (at-if1 .taken) (at-load-outcome .ensures) (at-enum-told .given .1)
 
 advance-part-enum-told-2 : (t : ℕ) → advance-part-lts.Need-enum-told-2 (advance-part-claims t) (advance-part-at t) advance-part.Post
 advance-part-enum-told-2 t c = search needs
@@ -632,11 +632,11 @@ advance-part-advance-requires measure c κs =
     let run = s₀ .args .run .now in
     let left = s₀ .args .left in
     let node = s₀ .args .node in
-    let env = variables-of (s₀ .args .bound) (s₀ .args .pos .now) (s₀ .args .byte .now) in
+    let env = variables-of (s₀ .args .known) (s₀ .args .pos .now) (s₀ .args .bytes .now) in
     let t = s₀ .args .t in
-    let start = s₀ .args .start in
-    let end = s₀ .args .end in
-    (omega (arith, s₀ .pre .0), subst (Fit (tree-at left nodes node) env t) (sym (window-length start end run (s₀ .pre .1 .inside))) (s₀ .pre .1 .fit))
+    let from = s₀ .args .from in
+    let to = s₀ .args .to in
+    (omega (arith, s₀ .pre .0), subst (Fit (tree-at left nodes node) env t) (sym (window-length from to run (s₀ .pre .1 .inside))) (s₀ .pre .1 .fit))
 
 advance-part-store-outcome-requires : (t : ℕ) → advance-part-lts.Need-store-outcome-requires (advance-part-claims t) (advance-part-at t) advance-part.Post
 advance-part-store-outcome-requires t c κs = search needs
@@ -653,17 +653,17 @@ advance-part-returns-2 measure c =
     let left = s₀ .args .left in
     let node = s₀ .args .node in
     let b = s₀ .args .flag in
-    let env = variables-of (s₀ .args .bound) (s₀ .args .pos .now) (s₀ .args .byte .now) in
+    let env = variables-of (s₀ .args .known) (s₀ .args .pos .now) (s₀ .args .bytes .now) in
     let s = s₀ .args .s in
     let t = s₀ .args .t in
-    let word = s₀ .args .word in
-    let start = s₀ .args .start in
-    let end = s₀ .args .end in
+    let index = s₀ .args .index in
+    let from = s₀ .args .from in
+    let to = s₀ .args .to in
     let at-own-tick = c .before .before .before .before .before .before .before .before .before .own-tick in
     let at-if1 = c .before .before .before .before .before .before .before .before .if1 in
     let at-advance = c .before .before .before .before .before .before .advance in
     let at-store-outcome = c .before .before .store-outcome in
-    part-moved (tree-at left nodes node) hist b env s t word start end run (at-own-tick .result) (at-own-tick .ensures ∙ tick-is env (s₀ .pre .1 .fit .some)) (s₀ .pre .1) (fit-come (s₀ .pre .1 .fit))
+    part-moved (tree-at left nodes node) hist b env s t index from to run (at-own-tick .result) (at-own-tick .ensures ∙ tick-is env (s₀ .pre .1 .fit .some)) (s₀ .pre .1) (fit-come (s₀ .pre .1 .fit))
     (⊎-elim (λ x. inr (sym (x .4 .given .1) ∙ x .2 .ensures)) (λ x. inl (x .left)) (at-if1 .came))
     (at-advance .result) (at-advance .last .1 .1 .1 .0) (at-store-outcome .last .0) (at-advance .ensures) (at-advance .kept .1 .1 .1 .0) (at-store-outcome .ensures)
 
@@ -689,14 +689,14 @@ advance-position-slice-read-saved measure c =
 advance-position-cast-saved : (t : ℕ) → advance-position-lts.Need-cast-saved (advance-position-claims t) (advance-position-at t) advance-position.Post
 advance-position-cast-saved t c = search needs
 
-advance-position-mul-places : (t : ℕ) → advance-position-lts.Need-mul-places (advance-position-claims t) (advance-position-at t) advance-position.Post
-advance-position-mul-places t c = search needs
+advance-position-mul-inner-pos : (t : ℕ) → advance-position-lts.Need-mul-inner-pos (advance-position-claims t) (advance-position-at t) advance-position.Post
+advance-position-mul-inner-pos t c = search needs
 
-advance-position-array-write-places : (t : ℕ) → advance-position-lts.Need-array-write-places (advance-position-claims t) (advance-position-at t) advance-position.Post
-advance-position-array-write-places t c = search needs
+advance-position-array-write-inner-pos : (t : ℕ) → advance-position-lts.Need-array-write-inner-pos (advance-position-claims t) (advance-position-at t) advance-position.Post
+advance-position-array-write-inner-pos t c = search needs
 
-advance-position-array-write-bytes : (t : ℕ) → advance-position-lts.Need-array-write-bytes (advance-position-claims t) (advance-position-at t) advance-position.Post
-advance-position-array-write-bytes t c = search needs
+advance-position-array-write-inner-bytes : (t : ℕ) → advance-position-lts.Need-array-write-inner-bytes (advance-position-claims t) (advance-position-at t) advance-position.Post
+advance-position-array-write-inner-bytes t c = search needs
 
 advance-position-add-advance-part : (t : ℕ) → advance-position-lts.Need-add-advance-part (advance-position-claims t) (advance-position-at t) advance-position.Post
 advance-position-add-advance-part t c = search needs
@@ -708,7 +708,7 @@ advance-position-advance-part-requires measure c κs =
     let slot = s₀ .args .slot .now in
     let left = s₀ .args .left in
     let node = s₀ .args .node in
-    let env = variables-of (s₀ .args .bound) (s₀ .args .pos .now) (s₀ .args .byte .now) in
+    let env = variables-of (s₀ .args .known) (s₀ .args .pos .now) (s₀ .args .bytes .now) in
     let t = s₀ .args .t in
     let q = s₀ .args .q in
     let at-if1 = c .before .before .before .before .before .before .if1 in (
@@ -734,7 +734,7 @@ advance-position-returns measure c =
     let left = s₀ .args .left in
     let node = s₀ .args .node in
     let b = s₀ .args .flag in
-    let env = variables-of (s₀ .args .bound) (s₀ .args .pos .now) (s₀ .args .byte .now) in
+    let env = variables-of (s₀ .args .known) (s₀ .args .pos .now) (s₀ .args .bytes .now) in
     let s = s₀ .args .s in
     let t = s₀ .args .t in
     let q = s₀ .args .q in
@@ -742,7 +742,7 @@ advance-position-returns measure c =
     let at-if1 = c .before .before .before .before .before .before .before .before .before .if1 in
     let at-advance-part = c .before .before .advance-part in
     let l : length (at-if1 .slot) ≡ length slot = ⊎-elim (λ x. ap length (x .3) ∙ length-set slot 1 (x .2 .result)) (λ x. ap length (x .1)) (at-if1 .came) in
-    position-of (tree-at left nodes node) hist b env s t q (s₀ .pre .1 .bound) (s₀ .pre .1 .five-places) (s₀ .pre .1 .five-bytes) (s₀ .pre .1 .come) (at-later .result) (at-advance-part .result) slot (at-if1 .slot) (at-advance-part .last .1 .1 .1 .0) (at-later .ensures)
+    position-of (tree-at left nodes node) hist b env s t q (s₀ .pre .1 .few) (s₀ .pre .1 .five-places) (s₀ .pre .1 .five-bytes) (s₀ .pre .1 .come) (at-later .result) (at-advance-part .result) slot (at-if1 .slot) (at-advance-part .last .1 .1 .1 .0) (at-later .ensures)
     (omega (arith, s₀ .pre .1 .room)) (omega (arith, s₀ .pre .1 .room))
     (⊎-elim (λ x. inl (x .2 .result, x .0 .taken, x .3, x .2 .ensures .0 ∙ x .1 .ensures, x .2 .ensures .1)) (λ x. inr (x .0 .left, x .1)) (at-if1 .came)) (at-advance-part .ensures)
 
@@ -791,7 +791,7 @@ advance-range-walk-positions-requires measure c κs =
     let nodes = s₀ .args .nodes .now in
     let run = s₀ .args .run .now in
     let node = s₀ .args .node in
-    let env = variables-of (s₀ .args .bound) (s₀ .args .pos .now) (s₀ .args .byte .now) in
+    let env = variables-of (s₀ .args .known) (s₀ .args .pos .now) (s₀ .args .bytes .now) in
     let s = s₀ .args .s in
     let t = s₀ .args .t in
     let at-node-word = c .before .before .before .before .before .before .before .node-word in
@@ -811,7 +811,7 @@ advance-range-move-head-requires measure c κs =
     let nodes = s₀ .args .nodes .now in
     let run = s₀ .args .run .now in
     let node = s₀ .args .node in
-    let env = variables-of (s₀ .args .bound) (s₀ .args .pos .now) (s₀ .args .byte .now) in
+    let env = variables-of (s₀ .args .known) (s₀ .args .pos .now) (s₀ .args .bytes .now) in
     let s = s₀ .args .s in
     let t = s₀ .args .t in
     let at-node-word = c .before .before .before .before .before .before .before .before .before .before .before .node-word in
@@ -841,7 +841,7 @@ advance-range-returns measure c =
     let nodes = s₀ .args .nodes .now in
     let run = s₀ .args .run .now in
     let node = s₀ .args .node in
-    let env = variables-of (s₀ .args .bound) (s₀ .args .pos .now) (s₀ .args .byte .now) in
+    let env = variables-of (s₀ .args .known) (s₀ .args .pos .now) (s₀ .args .bytes .now) in
     let s = s₀ .args .s in
     let t = s₀ .args .t in
     let at-node-word = c .before .before .before .before .before .before .before .before .before .before .before .before .before .before .before .node-word in
@@ -883,8 +883,8 @@ advance-then-enum-told-3 t c = search needs
 advance-then-node-word-requires : (t : ℕ) → advance-then-lts.Need-node-word-requires (advance-then-claims t) (advance-then-at t) advance-then.Post
 advance-then-node-word-requires t c κs = search needs
 
-advance-then-cast-second : (t : ℕ) → advance-then-lts.Need-cast-second (advance-then-claims t) (advance-then-at t) advance-then.Post
-advance-then-cast-second t c = search needs
+advance-then-cast-second-node : (t : ℕ) → advance-then-lts.Need-cast-second-node (advance-then-claims t) (advance-then-at t) advance-then.Post
+advance-then-cast-second-node t c = search needs
 
 advance-then-sub-advance : (t : ℕ) → advance-then-lts.Need-sub-advance (advance-then-claims t) (advance-then-at t) advance-then.Post
 advance-then-sub-advance measure c =
@@ -906,7 +906,7 @@ advance-then-advance-requires measure c κs =
     let s₀ = c .before .before .before .before .before .before .before .before .before .before .before .before .before .before in
     let nodes = s₀ .args .nodes .now in
     let left = s₀ .args .left in
-    let env = variables-of (s₀ .args .bound) (s₀ .args .pos .now) (s₀ .args .byte .now) in
+    let env = variables-of (s₀ .args .known) (s₀ .args .pos .now) (s₀ .args .bytes .now) in
     let t = s₀ .args .t in
     let at-advance-part = c .before .before .before .before .before .before .before .before .before .before .advance-part in
     let at-node-word = c .before .node-word in
@@ -928,7 +928,7 @@ advance-then-returns measure c =
     let hist = s₀ .args .history .now in
     let left = s₀ .args .left in
     let b = s₀ .args .flag in
-    let env = variables-of (s₀ .args .bound) (s₀ .args .pos .now) (s₀ .args .byte .now) in
+    let env = variables-of (s₀ .args .known) (s₀ .args .pos .now) (s₀ .args .bytes .now) in
     let s = s₀ .args .s in
     let t = s₀ .args .t in
     let node = s₀ .args .node in
@@ -947,7 +947,7 @@ advance-then-returns-2 measure c =
     let hist = s₀ .args .history .now in
     let left = s₀ .args .left in
     let b = s₀ .args .flag in
-    let env = variables-of (s₀ .args .bound) (s₀ .args .pos .now) (s₀ .args .byte .now) in
+    let env = variables-of (s₀ .args .known) (s₀ .args .pos .now) (s₀ .args .bytes .now) in
     let s = s₀ .args .s in
     let t = s₀ .args .t in
     let node = s₀ .args .node in
@@ -968,7 +968,7 @@ advance-then-returns-3 measure c =
     let left = s₀ .args .left in
     let node = s₀ .args .node in
     let b = s₀ .args .flag in
-    let env = variables-of (s₀ .args .bound) (s₀ .args .pos .now) (s₀ .args .byte .now) in
+    let env = variables-of (s₀ .args .known) (s₀ .args .pos .now) (s₀ .args .bytes .now) in
     let s = s₀ .args .s in
     let t = s₀ .args .t in
     let at-advance-part = c .before .before .before .before .before .before .before .before .before .before .before .before .before .advance-part in
@@ -983,19 +983,19 @@ advance-then-returns-3 measure c =
     (omega (arith, fit-first (s₀ .pre .1 .1) .ordered, at-advance-part .kept .1 .1 .1 .0)) (tail-take mid) (at-advance .ensures) refl)
 
 abbrev walk-positions-Inv-loop : walk-positions-lts.InvT-loop
-walk-positions-Inv-loop nodes left node run₀ hist b bound pos byte s t first leading positions size acc₀ count₀ run acc count =
-    (count ≤ positions) × ((leading ≤ count) × ((length run ≡ length run₀) × WalkedTo (tree-at left nodes node) hist b (variables-of bound pos byte) s t first leading positions acc₀ size run₀ count acc run))
+walk-positions-Inv-loop nodes left node run₀ hist b known pos bytes s t first leading positions size acc₀ count₀ run acc index =
+    (index ≤ positions) × ((leading ≤ index) × ((length run ≡ length run₀) × WalkedTo (tree-at left nodes node) hist b (variables-of known pos bytes) s t first leading positions acc₀ size run₀ index acc run))
 
 abbrev walk-positions-μ-loop : walk-positions-lts.MeasureT-loop
-walk-positions-μ-loop nodes left node run₀ hist b bound pos byte s t first leading positions size acc₀ count₀ run acc count = count
+walk-positions-μ-loop nodes left node run₀ hist b known pos bytes s t first leading positions size acc₀ count₀ run acc index = index
 
 walk-positions-loop-holds : (t : ℕ) → walk-positions-lts.Need-loop-holds (walk-positions-claims t) (walk-positions-at t) walk-positions.Post walk-positions-Inv-loop walk-positions-μ-loop
 walk-positions-loop-holds measure c =
     let s₀ = c .before .before in
     (omega arith, (s₀ .pre .1 .within, (refl, walk-begun)))
 
-walk-positions-sub-count : (t : ℕ) → walk-positions-lts.Need-sub-count (walk-positions-claims t) (walk-positions-at t) walk-positions.Post walk-positions-Inv-loop walk-positions-μ-loop
-walk-positions-sub-count measure c =
+walk-positions-sub-index : (t : ℕ) → walk-positions-lts.Need-sub-index (walk-positions-claims t) (walk-positions-at t) walk-positions.Post walk-positions-Inv-loop walk-positions-μ-loop
+walk-positions-sub-index measure c =
     let at-loop-test = c .loop-test in
     omega (arith, at-loop-test .taken)
 
@@ -1006,7 +1006,7 @@ walk-positions-mul-at measure c =
     let positions = s₀ .args .positions in
     let at-loop = c .before .loop in
     let at-loop-test = c .loop-test in
-    omega (arith, slot-before size (at-loop .count - 1) positions (omega (arith, at-loop-test .taken, at-loop .inv .0)), at-loop .inv .1 .1 .0, s₀ .pre .1 .room, s₀ .good .1 .1 .1 .0)
+    omega (arith, slot-before size (at-loop .index - 1) positions (omega (arith, at-loop-test .taken, at-loop .inv .0)), at-loop .inv .1 .1 .0, s₀ .pre .1 .room, s₀ .good .1 .1 .1 .0)
 
 walk-positions-add-top : (t : ℕ) → walk-positions-lts.Need-add-top (walk-positions-claims t) (walk-positions-at t) walk-positions.Post walk-positions-Inv-loop walk-positions-μ-loop
 walk-positions-add-top measure c =
@@ -1015,7 +1015,7 @@ walk-positions-add-top measure c =
     let positions = s₀ .args .positions in
     let at-loop = c .before .loop in
     let at-loop-test = c .loop-test in
-    omega (arith, slot-before size (at-loop .count - 1) positions (omega (arith, at-loop-test .taken, at-loop .inv .0)), at-loop .inv .1 .1 .0, s₀ .pre .1 .room, s₀ .good .1 .1 .1 .0)
+    omega (arith, slot-before size (at-loop .index - 1) positions (omega (arith, at-loop-test .taken, at-loop .inv .0)), at-loop .inv .1 .1 .0, s₀ .pre .1 .room, s₀ .good .1 .1 .1 .0)
 
 walk-positions-mul-advance-position : (t : ℕ) → walk-positions-lts.Need-mul-advance-position (walk-positions-claims t) (walk-positions-at t) walk-positions.Post walk-positions-Inv-loop walk-positions-μ-loop
 walk-positions-mul-advance-position measure c =
@@ -1024,7 +1024,7 @@ walk-positions-mul-advance-position measure c =
     let positions = s₀ .args .positions in
     let at-loop = c .before .loop in
     let at-loop-test = c .loop-test in
-    omega (arith, slot-before size (at-loop .count - 1) positions (omega (arith, at-loop-test .taken, at-loop .inv .0)), at-loop .inv .1 .1 .0, s₀ .pre .1 .room, s₀ .good .1 .1 .1 .0)
+    omega (arith, slot-before size (at-loop .index - 1) positions (omega (arith, at-loop-test .taken, at-loop .inv .0)), at-loop .inv .1 .1 .0, s₀ .pre .1 .room, s₀ .good .1 .1 .1 .0)
 
 walk-positions-sub-advance-position : (t : ℕ) → walk-positions-lts.Need-sub-advance-position (walk-positions-claims t) (walk-positions-at t) walk-positions.Post walk-positions-Inv-loop walk-positions-μ-loop
 walk-positions-sub-advance-position measure c =
@@ -1033,7 +1033,7 @@ walk-positions-sub-advance-position measure c =
     let positions = s₀ .args .positions in
     let at-loop = c .before .loop in
     let at-loop-test = c .loop-test in
-    omega (arith, slot-before size (at-loop .count - 1) positions (omega (arith, at-loop-test .taken, at-loop .inv .0)), at-loop .inv .1 .1 .0, s₀ .pre .1 .room, s₀ .good .1 .1 .1 .0)
+    omega (arith, slot-before size (at-loop .index - 1) positions (omega (arith, at-loop-test .taken, at-loop .inv .0)), at-loop .inv .1 .1 .0, s₀ .pre .1 .room, s₀ .good .1 .1 .1 .0)
 
 walk-positions-part-advance-position-start :
     (t : ℕ) → walk-positions-lts.Need-part-advance-position-start (walk-positions-claims t) (walk-positions-at t) walk-positions.Post walk-positions-Inv-loop walk-positions-μ-loop
@@ -1043,7 +1043,7 @@ walk-positions-part-advance-position-start measure c =
     let positions = s₀ .args .positions in
     let at-loop = c .before .loop in
     let at-loop-test = c .loop-test in
-    omega (arith, slot-before size (at-loop .count - 1) positions (omega (arith, at-loop-test .taken, at-loop .inv .0)), at-loop .inv .1 .1 .0, s₀ .pre .1 .room, s₀ .good .1 .1 .1 .0)
+    omega (arith, slot-before size (at-loop .index - 1) positions (omega (arith, at-loop-test .taken, at-loop .inv .0)), at-loop .inv .1 .1 .0, s₀ .pre .1 .room, s₀ .good .1 .1 .1 .0)
 
 walk-positions-part-advance-position-end :
     (t : ℕ) → walk-positions-lts.Need-part-advance-position-end (walk-positions-claims t) (walk-positions-at t) walk-positions.Post walk-positions-Inv-loop walk-positions-μ-loop
@@ -1053,14 +1053,14 @@ walk-positions-part-advance-position-end measure c =
     let positions = s₀ .args .positions in
     let at-loop = c .before .loop in
     let at-loop-test = c .loop-test in
-    omega (arith, slot-before size (at-loop .count - 1) positions (omega (arith, at-loop-test .taken, at-loop .inv .0)), at-loop .inv .1 .1 .0, s₀ .pre .1 .room, s₀ .good .1 .1 .1 .0)
+    omega (arith, slot-before size (at-loop .index - 1) positions (omega (arith, at-loop-test .taken, at-loop .inv .0)), at-loop .inv .1 .1 .0, s₀ .pre .1 .room, s₀ .good .1 .1 .1 .0)
 
 walk-positions-add-advance-position : (t : ℕ) → walk-positions-lts.Need-add-advance-position (walk-positions-claims t) (walk-positions-at t) walk-positions.Post walk-positions-Inv-loop walk-positions-μ-loop
 walk-positions-add-advance-position measure c =
     let s₀ = c .before .before .before .before .before in
     let at-loop = c .before .before .loop in
     let at-loop-test = c .before .loop-test in
-    let fit = s₀ .pre .1 .slots (at-loop .count - 1) (omega (arith, at-loop-test .taken, at-loop .inv .0)) in omega (arith, fit .come, fit .low)
+    let fit = s₀ .pre .1 .slots (at-loop .index - 1) (omega (arith, at-loop-test .taken, at-loop .inv .0)) in omega (arith, fit .come, fit .low)
 
 walk-positions-advance-position-requires :
     (t : ℕ) → walk-positions-lts.Need-advance-position-requires (walk-positions-claims t) (walk-positions-at t) walk-positions.Post walk-positions-Inv-loop walk-positions-μ-loop
@@ -1069,14 +1069,14 @@ walk-positions-advance-position-requires measure c κs =
     let nodes = s₀ .args .nodes .now in
     let left = s₀ .args .left in
     let node = s₀ .args .node in
-    let env = variables-of (s₀ .args .bound) (s₀ .args .pos .now) (s₀ .args .byte .now) in
+    let env = variables-of (s₀ .args .known) (s₀ .args .pos .now) (s₀ .args .bytes .now) in
     let t = s₀ .args .t in
     let size = s₀ .args .size in
     let first = s₀ .args .first in
     let positions = s₀ .args .positions in
     let at-loop = c .before .before .loop in
     let at-loop-test = c .before .loop-test in
-    (omega (arith, s₀ .pre .0), subst (SlotFit (tree-at left nodes node) env t (first + (at-loop .count - 1))) (sym (slot-length size positions (at-loop .count - 1) (at-loop .run) (omega (arith, at-loop-test .taken, at-loop .inv .0)) (omega (arith, at-loop .inv .1 .1 .0, s₀ .pre .1 .room)))) (s₀ .pre .1 .slots (at-loop .count - 1) (omega (arith, at-loop-test .taken, at-loop .inv .0))))
+    (omega (arith, s₀ .pre .0), subst (SlotFit (tree-at left nodes node) env t (first + (at-loop .index - 1))) (sym (slot-length size positions (at-loop .index - 1) (at-loop .run) (omega (arith, at-loop-test .taken, at-loop .inv .0)) (omega (arith, at-loop .inv .1 .1 .0, s₀ .pre .1 .room)))) (s₀ .pre .1 .slots (at-loop .index - 1) (omega (arith, at-loop-test .taken, at-loop .inv .0))))
 
 walk-positions-both-requires : (t : ℕ) → walk-positions-lts.Need-both-requires (walk-positions-claims t) (walk-positions-at t) walk-positions.Post walk-positions-Inv-loop walk-positions-μ-loop
 walk-positions-both-requires t c κs = search needs
@@ -1090,7 +1090,7 @@ walk-positions-same-length measure c =
     let size = s₀ .args .size in
     let at-loop = c .before .before .before .before .before .before .before .before .loop in
     let at-advance-position = c .before .before .before .before .before .advance-position in
-    same-len-mid ((at-loop .count - 1) * size) ((at-loop .count - 1) * size + size - (at-loop .count - 1) * size) (at-loop .run) (at-advance-position .last .1 .1 .1 .0) (at-advance-position .kept .1 .1 .1 .0) ∙ at-loop .inv .1 .1 .0
+    same-len-mid ((at-loop .index - 1) * size) ((at-loop .index - 1) * size + size - (at-loop .index - 1) * size) (at-loop .run) (at-advance-position .last .1 .1 .1 .0) (at-advance-position .kept .1 .1 .1 .0) ∙ at-loop .inv .1 .1 .0
 
 walk-positions-returns : (t : ℕ) → walk-positions-lts.Need-returns (walk-positions-claims t) (walk-positions-at t) walk-positions.Post walk-positions-Inv-loop walk-positions-μ-loop
 walk-positions-returns measure c =
@@ -1102,8 +1102,8 @@ walk-positions-returns measure c =
     let at-is-false = c .before .is-false in
     let at-if1 = c .if1 in
     let o-false = false-step (at-advance-position .result) (sym (at-is-false .ensures) ∙ at-if1 .taken) in
-    walk-stopped (at-loop .acc) (at-both .result) (at-loop .run) (at-advance-position .last .1 .1 .1 .0) (at-advance-position .result) (at-loop .count) (at-loop-test .taken) (at-loop .inv .0) (omega (arith, at-loop .inv .1 .1 .0, s₀ .pre .1 .room))
-    (s₀ .pre .1 .slots (at-loop .count - 1) (omega (arith, at-loop-test .taken, at-loop .inv .0)) .come) (at-advance-position .kept .1 .1 .1 .0) (at-advance-position .ensures) (o-false .0) (o-false .1) (at-both .ensures) (at-loop .inv .1 .1 .1)
+    walk-stopped (at-loop .acc) (at-both .result) (at-loop .run) (at-advance-position .last .1 .1 .1 .0) (at-advance-position .result) (at-loop .index) (at-loop-test .taken) (at-loop .inv .0) (omega (arith, at-loop .inv .1 .1 .0, s₀ .pre .1 .room))
+    (s₀ .pre .1 .slots (at-loop .index - 1) (omega (arith, at-loop-test .taken, at-loop .inv .0)) .come) (at-advance-position .kept .1 .1 .1 .0) (at-advance-position .ensures) (o-false .0) (o-false .1) (at-both .ensures) (at-loop .inv .1 .1 .1)
 
 walk-positions-loop-less : (t : ℕ) → walk-positions-lts.Need-loop-less (walk-positions-claims t) (walk-positions-at t) walk-positions.Post walk-positions-Inv-loop walk-positions-μ-loop
 walk-positions-loop-less measure c =
@@ -1122,8 +1122,8 @@ walk-positions-loop-again measure c =
       (
         omega (arith, at-loop-test .taken),
         (
-          same-len-mid ((at-loop .count - 1) * size) ((at-loop .count - 1) * size + size - (at-loop .count - 1) * size) (at-loop .run) (at-advance-position .last .1 .1 .1 .0) (at-advance-position .kept .1 .1 .1 .0) ∙ at-loop .inv .1 .1 .0,
-          walk-more (at-loop .acc) (at-both .result) (at-loop .run) (at-advance-position .last .1 .1 .1 .0) (at-advance-position .result) (at-loop .count) (at-loop-test .taken) (at-loop .inv .0) (omega (arith, at-loop .inv .1 .1 .0, s₀ .pre .1 .room)) (at-advance-position .kept .1 .1 .1 .0) (at-advance-position .ensures) (at-both .ensures) (at-loop .inv .1 .1 .1),
+          same-len-mid ((at-loop .index - 1) * size) ((at-loop .index - 1) * size + size - (at-loop .index - 1) * size) (at-loop .run) (at-advance-position .last .1 .1 .1 .0) (at-advance-position .kept .1 .1 .1 .0) ∙ at-loop .inv .1 .1 .0,
+          walk-more (at-loop .acc) (at-both .result) (at-loop .run) (at-advance-position .last .1 .1 .1 .0) (at-advance-position .result) (at-loop .index) (at-loop-test .taken) (at-loop .inv .0) (omega (arith, at-loop .inv .1 .1 .0, s₀ .pre .1 .room)) (at-advance-position .kept .1 .1 .1 .0) (at-advance-position .ensures) (at-both .ensures) (at-loop .inv .1 .1 .1),
         ),
       ),
     )
@@ -1137,7 +1137,7 @@ walk-positions-returns-2 : (t : ℕ) → walk-positions-lts.Need-returns-2 (walk
 walk-positions-returns-2 measure c =
     let at-loop = c .before .loop in
     let at-loop-test = c .loop-test in
-    walk-done (at-loop .count) (at-loop .acc) (at-loop .run) (at-loop .inv .1 .0) (λ x. omega (arith, x, at-loop-test .left)) (at-loop .inv .1 .1 .1)
+    walk-done (at-loop .index) (at-loop .acc) (at-loop .run) (at-loop .inv .1 .0) (λ x. omega (arith, x, at-loop-test .left)) (at-loop .inv .1 .1 .1)
 
 pub +advance+advance-beside+advance-not+advance-part+advance-position+advance-range+advance-then+walk-positions-spec :
     {M : Type 1} → statement M
@@ -1224,9 +1224,9 @@ pub +advance+advance-beside+advance-not+advance-part+advance-position+advance-ra
     (advance-position-slice-write-slot t)
     (advance-position-slice-read-saved t)
     (advance-position-cast-saved t)
-    (advance-position-mul-places t)
-    (advance-position-array-write-places t)
-    (advance-position-array-write-bytes t)
+    (advance-position-mul-inner-pos t)
+    (advance-position-array-write-inner-pos t)
+    (advance-position-array-write-inner-bytes t)
     (advance-position-add-advance-part t)
     (advance-position-advance-part-requires t)
     (advance-position-same-length t)
@@ -1259,7 +1259,7 @@ pub +advance+advance-beside+advance-not+advance-part+advance-position+advance-ra
     (advance-then-enum-told-2 t)
     (advance-then-enum-told-3 t)
     (advance-then-node-word-requires t)
-    (advance-then-cast-second t)
+    (advance-then-cast-second-node t)
     (advance-then-sub-advance t)
     (advance-then-part-advance-start t)
     (advance-then-part-advance-end t)
@@ -1276,7 +1276,7 @@ pub +advance+advance-beside+advance-not+advance-part+advance-position+advance-ra
     walk-positions-Inv-loop
     walk-positions-μ-loop
     (walk-positions-loop-holds t)
-    (walk-positions-sub-count t)
+    (walk-positions-sub-index t)
     (walk-positions-mul-at t)
     (walk-positions-add-top t)
     (walk-positions-mul-advance-position t)

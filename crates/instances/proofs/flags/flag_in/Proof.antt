@@ -25,7 +25,7 @@ flag-outcome-requires c κs = search needs
 returns : tie.Need-returns
 returns c =
     let s₀ = c .before .before .before .before .before in
-    let bytes = s₀ .args .byte .now in
+    let bytes = s₀ .args .bytes .now in
     let variable = c .before .before .before .node-word in
     let k = c .before .before .node-word2 in
     c .flag-outcome .ensures ∙ ap (λ (n : ℕ). flagged bytes n (k .result) (s₀ .args .s)) (variable .ensures) ∙ ap (λ (n : ℕ). flagged bytes (getD (s₀ .args .nodes .now) (s₀ .args .node + 1) 0) n (s₀ .args .s)) (k .ensures)

@@ -9,38 +9,38 @@ use Rattle.instances.proofs.head.leading_true.Statement.{statement}
 use Rattle.instances.proofs.head.leading_true.Tie as tie
 
 abbrev Inv-loop : tie.InvT-loop
-Inv-loop slots leading positions size p latest count₀ step₀ count step = MovedOn p size positions slots leading latest count step
+Inv-loop slots leading positions size p latest count₀ last₀ trues last = MovedOn p size positions slots leading latest trues last
 
 abbrev μ-loop : tie.MeasureT-loop
-μ-loop slots leading positions size p latest count₀ step₀ count step = positions - count
+μ-loop slots leading positions size p latest count₀ last₀ trues last = positions - trues
 
--- slot `count` lies within the slots
-inside : (size positions leading len count : ℕ) → HeadFit size positions leading (4 + len) → count < positions → count * size + 4 ≤ len
-inside size positions leading len count f h = omega (arith, slot-before size count positions h, f .room, f .slots (omega arith))
+-- slot `trues` lies within the slots
+inside : (size positions leading len trues : ℕ) → HeadFit size positions leading (4 + len) → trues < positions → trues * size + 4 ≤ len
+inside size positions leading len trues f h = omega (arith, slot-before size trues positions h, f .room, f .slots (omega arith))
 
 loop-holds : tie.Need-loop-holds Inv-loop μ-loop
 loop-holds c = let s₀ = c .before in moved-none (s₀ .args .p) (s₀ .args .size) (s₀ .args .positions) (s₀ .args .slots .now) (s₀ .args .leading) (s₀ .args .latest) (s₀ .pre .within)
 
 mul-at : tie.Need-mul-at Inv-loop μ-loop
-mul-at c = let s₀ = c .before .before .before in omega (arith, inside (s₀ .args .size) (s₀ .args .positions) _ _ (c .before .loop .count) (s₀ .pre) (c .loop-test .taken), s₀ .good .0)
+mul-at c = let s₀ = c .before .before .before in omega (arith, inside (s₀ .args .size) (s₀ .args .positions) _ _ (c .before .loop .trues) (s₀ .pre) (c .loop-test .taken), s₀ .good .0)
 
 mul-if1 : tie.Need-mul-if1 Inv-loop μ-loop
-mul-if1 c = let s₀ = c .before .before .before in omega (arith, inside (s₀ .args .size) (s₀ .args .positions) _ _ (c .before .loop .count) (s₀ .pre) (c .loop-test .taken), s₀ .good .0)
+mul-if1 c = let s₀ = c .before .before .before in omega (arith, inside (s₀ .args .size) (s₀ .args .positions) _ _ (c .before .loop .trues) (s₀ .pre) (c .loop-test .taken), s₀ .good .0)
 
 shared-slice-read-if1 : tie.Need-shared-slice-read-if1 Inv-loop μ-loop
-shared-slice-read-if1 c = let s₀ = c .before .before .before .before in omega (arith, inside (s₀ .args .size) (s₀ .args .positions) _ _ (c .before .before .loop .count) (s₀ .pre) (c .before .loop-test .taken))
+shared-slice-read-if1 c = let s₀ = c .before .before .before .before in omega (arith, inside (s₀ .args .size) (s₀ .args .positions) _ _ (c .before .before .loop .trues) (s₀ .pre) (c .before .loop-test .taken))
 
 returns : tie.Need-returns Inv-loop μ-loop
 returns c = c .before .before .before .loop .inv
 
 add-step-after : tie.Need-add-step-after Inv-loop μ-loop
-add-step-after c = let s₀ = c .before .before .before .before .before in omega (arith, inside (s₀ .args .size) (s₀ .args .positions) _ _ (c .before .before .before .loop .count) (s₀ .pre) (c .before .before .loop-test .taken), s₀ .good .0)
+add-step-after c = let s₀ = c .before .before .before .before .before in omega (arith, inside (s₀ .args .size) (s₀ .args .positions) _ _ (c .before .before .before .loop .trues) (s₀ .pre) (c .before .before .loop-test .taken), s₀ .good .0)
 
 mul-step-after : tie.Need-mul-step-after Inv-loop μ-loop
-mul-step-after c = let s₀ = c .before .before .before .before .before in omega (arith, inside (s₀ .args .size) (s₀ .args .positions) _ _ (c .before .before .before .loop .count) (s₀ .pre) (c .before .before .loop-test .taken), s₀ .good .0)
+mul-step-after c = let s₀ = c .before .before .before .before .before in omega (arith, inside (s₀ .args .size) (s₀ .args .positions) _ _ (c .before .before .before .loop .trues) (s₀ .pre) (c .before .before .loop-test .taken), s₀ .good .0)
 
 shared-slice-read-step-after : tie.Need-shared-slice-read-step-after Inv-loop μ-loop
-shared-slice-read-step-after c = let s₀ = c .before .before .before .before .before .before in omega (arith, inside (s₀ .args .size) (s₀ .args .positions) _ _ (c .before .before .before .before .loop .count) (s₀ .pre) (c .before .before .before .loop-test .taken))
+shared-slice-read-step-after c = let s₀ = c .before .before .before .before .before .before in omega (arith, inside (s₀ .args .size) (s₀ .args .positions) _ _ (c .before .before .before .before .loop .trues) (s₀ .pre) (c .before .before .before .loop-test .taken))
 
 step-after-requires : tie.Need-step-after-requires Inv-loop μ-loop
 step-after-requires c κs = search needs
@@ -48,8 +48,8 @@ step-after-requires c κs = search needs
 later-requires : tie.Need-later-requires Inv-loop μ-loop
 later-requires c κs = search needs
 
-add-count : tie.Need-add-count Inv-loop μ-loop
-add-count c = omega (arith, c .before .before .before .before .before .loop-test .taken)
+add-trues : tie.Need-add-trues Inv-loop μ-loop
+add-trues c = omega (arith, c .before .before .before .before .before .loop-test .taken)
 
 loop-less : tie.Need-loop-less Inv-loop μ-loop
 loop-less c = omega (arith, c .before .before .before .before .before .loop-test .taken)
@@ -59,7 +59,7 @@ loop-again c =
     let s₀ = c .before .before .before .before .before .before .before .before in
     let now = c .before .before .before .before .before .before .loop in
     let more = c .before .before .before .before .before .loop-test .taken in
-    moved-more (s₀ .args .p) (s₀ .args .size) (s₀ .args .positions) (s₀ .args .slots .now) (s₀ .args .leading) (s₀ .args .latest) (now .count) (now .step) (c .before .step-after .result) (c .later .result)
+    moved-more (s₀ .args .p) (s₀ .args .size) (s₀ .args .positions) (s₀ .args .slots .now) (s₀ .args .leading) (s₀ .args .latest) (now .trues) (now .last) (c .before .step-after .result) (c .later .result)
     more (s₀ .pre .slots (omega (arith, more))) (omega (arith, c .before .before .before .if1 .left)) (c .before .step-after .ensures) (c .later .ensures) (now .inv)
 
 returns-2 : tie.Need-returns-2 Inv-loop μ-loop
@@ -81,7 +81,7 @@ leading-true-spec =
     shared-slice-read-step-after
     step-after-requires
     later-requires
-    add-count
+    add-trues
     loop-less
     loop-again
     returns-2)
