@@ -53,7 +53,7 @@ scope-pop s names (suc m) = ap (scope-of s names) (sym (natural m))
 module _ (s frames names out : List ℕ) (p : Cursor) (w : CursorFits s p) (z : p .mode ≡ 1) where
   -- ---- with nothing open
 
-  module _ (d : p .frames ≡ 0) where
+  module _ (d : p .opened ≡ 0) where
     pub early-arm : (r : Cursor) → Nowhere r → (p .at ≡ length s → ⊥) → Moved s frames names out p frames names out r
     unfolding to-come after-formula finish
     early-arm r e n =
@@ -61,16 +61,16 @@ module _ (s frames names out : List ℕ) (p : Cursor) (w : CursorFits s p) (z : 
         wrong s frames names out p w r e (omega (arith, z)) (rw (z, d, drop-cons s (p .at) 0 l))
 
     pub whole-arm : p .at ≡ length s
-        → Moved s frames names out p frames names out (record { mode = 2; at = p .at; frames = 0; scope = p .scope; written = p .written; resolved = p .resolved })
+        → Moved s frames names out p frames names out (record { mode = 2; at = p .at; opened = 0; scope = p .scope; written = p .written; resolved = p .resolved })
     unfolding to-come after-formula finish
     whole-arm e =
-        stops s frames names out p w (record { mode = 2; at = p .at; frames = 0; scope = p .scope; written = p .written; resolved = p .resolved })
+        stops s frames names out p w (record { mode = 2; at = p .at; opened = 0; scope = p .scope; written = p .written; resolved = p .resolved })
         (omega (arith, z)) (omega arith) (rw (z, d, drop-of-length-le s {i = p .at} (omega (arith, e))))
         (record { place = w .place; frames-fit = omega arith; bytes-fit = w .bytes-fit; names-fit = w .names-fit })
 
   -- ---- with a frame open
 
-  module _ (d : ℕ) (one-less : p .frames ≡ suc d) where
+  module _ (d : ℕ) (one-less : p .opened ≡ suc d) where
     module _ (f : getD frames d 0 ≡ 0) where
       pub unclosed-arm : (r : Cursor) → Nowhere r → starts (41 ∷ []) (drop (p .at) s) ≡ false → Moved s frames names out p frames names out r
       unfolding to-come
@@ -80,11 +80,11 @@ module _ (s frames names out : List ℕ) (p : Cursor) (w : CursorFits s p) (z : 
 
       pub close-arm : starts (41 ∷ []) (drop (p .at) s) ≡ true
           → Moved s frames names out p frames names out
-          (record { mode = 1; at = p .at + 1; frames = d; scope = p .scope; written = p .written; resolved = p .resolved })
+          (record { mode = 1; at = p .at + 1; opened = d; scope = p .scope; written = p .written; resolved = p .resolved })
       unfolding to-come
       close-arm t =
           goes s frames names out p w frames names out
-          (record { mode = 1; at = p .at + 1; frames = d; scope = p .scope; written = p .written; resolved = p .resolved })
+          (record { mode = 1; at = p .at + 1; opened = d; scope = p .scope; written = p .written; resolved = p .resolved })
           (omega (arith, z)) (omega arith)
           (rw (z, one-less, ← drop-drop 1 (p .at) s) (after-close d frames (scope-of s names (p .scope)) (take (p .written) out) (p .resolved) (drop (p .at) s) f t))
           (omega (arith, one-less))
@@ -97,11 +97,11 @@ module _ (s frames names out : List ℕ) (p : Cursor) (w : CursorFits s p) (z : 
           refl refl refl
 
     pub range-over-arm : getD frames d 0 ≡ 1 → (m : ℕ) → m ≡ p .scope - 1
-        → Moved s frames names out p frames names out (record { mode = 1; at = p .at; frames = d; scope = m; written = p .written; resolved = p .resolved })
+        → Moved s frames names out p frames names out (record { mode = 1; at = p .at; opened = d; scope = m; written = p .written; resolved = p .resolved })
     unfolding to-come
     range-over-arm f m e =
         goes s frames names out p w frames names out
-        (record { mode = 1; at = p .at; frames = d; scope = m; written = p .written; resolved = p .resolved })
+        (record { mode = 1; at = p .at; opened = d; scope = m; written = p .written; resolved = p .resolved })
         (omega (arith, z)) (omega arith)
         (rw (z, one-less, e, ← scope-pop s names (p .scope)) (after-binding d frames (scope-of s names (p .scope)) (take (p .written) out) (p .resolved) (drop (p .at) s) f))
         (omega (arith, one-less))
@@ -119,16 +119,16 @@ module _ (s frames names out : List ℕ) (p : Cursor) (w : CursorFits s p) (z : 
           (rw (z, one-less) (after-unjoined d frames (scope-of s names (p .scope)) (take (p .written) out) (p .resolved) (drop (p .at) s) (top - 2) above
           (found-none s q (joint (drop (p .at) s)) n g)))
 
-      pub joint-arm : (q ≡ 0 → ⊥) → p .frames ≤ length frames → (code : ℕ) → ((j : Joint) (t : List ℕ) → joint (drop (p .at) s) ≡ got j t → code ≡ joint-code j)
+      pub joint-arm : (q ≡ 0 → ⊥) → p .opened ≤ length frames → (code : ℕ) → ((j : Joint) (t : List ℕ) → joint (drop (p .at) s) ≡ got j t → code ≡ joint-code j)
           → (out′ : List ℕ) → out′ ≡ set out (top - 2) code
           → Moved s frames names out p (set frames d 0) names out′
-          (record { mode = 0; at = q; frames = p .frames; scope = p .scope; written = p .written; resolved = p .resolved })
+          (record { mode = 0; at = q; opened = p .opened; scope = p .scope; written = p .written; resolved = p .resolved })
       unfolding to-come
       joint-arm n l code k out′ same =
           let h = found-some s q (joint (drop (p .at) s)) n g in
           let c = joint-ends s (p .at) q (h .2) (w .place) (h .0) (h .1) in
           goes s frames names out p w (set frames d 0) names out′
-          (record { mode = 0; at = q; frames = p .frames; scope = p .scope; written = p .written; resolved = p .resolved })
+          (record { mode = 0; at = q; opened = p .opened; scope = p .scope; written = p .written; resolved = p .resolved })
           (omega (arith, z)) (omega arith)
           (rw (z, same, take-set (p .written) out (top - 2) code, k (h .0) (drop q s) (h .1)) (joined (h .0) (h .1)))
           (omega (arith, c))
@@ -136,8 +136,8 @@ module _ (s frames names out : List ℕ) (p : Cursor) (w : CursorFits s p) (z : 
           (length-set frames d 0) refl (ap length same ∙ length-set out (top - 2) code)
         where
           joined : (j : Joint) → joint (drop (p .at) s) ≡ got j (drop q s)
-              → after-formula (p .frames) frames (scope-of s names (p .scope)) (take (p .written) out) (p .resolved) (drop (p .at) s)
-              ≡ before-formula (p .frames) (set frames d 0) (scope-of s names (p .scope)) (set (take (p .written) out) (top - 2) (joint-code j)) (p .resolved) (drop q s)
+              → after-formula (p .opened) frames (scope-of s names (p .scope)) (take (p .written) out) (p .resolved) (drop (p .at) s)
+              ≡ before-formula (p .opened) (set frames d 0) (scope-of s names (p .scope)) (set (take (p .written) out) (top - 2) (joint-code j)) (p .resolved) (drop q s)
           joined j e =
               ap (λ (n : ℕ). after-formula n frames (scope-of s names (p .scope)) (take (p .written) out) (p .resolved) (drop (p .at) s)) one-less
               ∙ after-joint d frames (scope-of s names (p .scope)) (take (p .written) out) (p .resolved) (drop (p .at) s) (drop q s) (top - 2) j (omega (arith, one-less, l)) above e

@@ -49,7 +49,7 @@ frame-same f g h (suc (suc p)) sc l u s =
     close-same v (f sc (set l p (joint-code j) ++ formula-bytes sc G) (u && all-bound sc G)) (g sc (set l p (joint-code j) ++ formula-bytes sc G) (u && all-bound sc G))
     (h sc (set l p (joint-code j) ++ formula-bytes sc G) (u && all-bound sc G))))
 
--- The frames above those that are open do not matter.
+-- The frames above the opened do not matter.
 pub after-below : (d e v : ℕ) (frames : List ℕ) (sc : List (List ℕ)) (l : List ℕ) (u : Bool) (s : List ℕ) → d ≤ e → after-formula d (set frames e v) sc l u s ≡ after-formula d frames sc l u s
 unfolding after-formula
 after-below zero e v frames sc l u s h = refl

@@ -12,30 +12,30 @@ use Rattle.text_to_body.specs.declared.cursor.Cursor.{Cursor}
 
 -- By the mode: 0 before a formula, 1 after one, 2 at the text's end with nothing open, 3 where the text is misspelt.
 unfoldable pub to-come : ℕ → ℕ → List ℕ → List (List ℕ) → List ℕ → Bool → List ℕ → Answer (List ℕ)
-to-come zero count frames scope bytes resolved text = before-formula count frames scope bytes resolved text
-to-come (suc zero) count frames scope bytes resolved text = after-formula count frames scope bytes resolved text
-to-come (suc (suc zero)) count frames scope bytes resolved text = if-bound resolved bytes
-to-come (suc (suc (suc above))) count frames scope bytes resolved text = refused 25
+to-come zero opened frames scope bytes resolved text = before-formula opened frames scope bytes resolved text
+to-come (suc zero) opened frames scope bytes resolved text = after-formula opened frames scope bytes resolved text
+to-come (suc (suc zero)) opened frames scope bytes resolved text = if-bound resolved bytes
+to-come (suc (suc (suc above))) opened frames scope bytes resolved text = refused 25
 
 -- What will be answered, from the text, the open frames, where the names in scope stand, the bytes written and the cursor.
 abbrev pub answer-at : List ℕ → List ℕ → List ℕ → List ℕ → Cursor → Answer (List ℕ)
 answer-at text frames names out cursor =
-    to-come (cursor .mode) (cursor .frames) frames (scope-of text names (cursor .scope)) (take (cursor .written) out) (cursor .resolved)
+    to-come (cursor .mode) (cursor .opened) frames (scope-of text names (cursor .scope)) (take (cursor .written) out) (cursor .resolved)
     (drop (cursor .at) text)
 
 -- Where the text is misspelt.
 abbrev pub Nowhere : Cursor → Type 0
-Nowhere cursor = (cursor .mode ≡ 3) × (cursor .at ≡ 0) × (cursor .frames ≡ 0) × (cursor .scope ≡ 0) × (cursor .written ≡ 0)
+Nowhere cursor = (cursor .mode ≡ 3) × (cursor .at ≡ 0) × (cursor .opened ≡ 0) × (cursor .scope ≡ 0) × (cursor .written ≡ 0)
 
 -- How far it is to the end: each step reads a byte or takes a frame away, and opens one frame at most.
 unfoldable pub left : List ℕ → Cursor → ℕ
-left text cursor = cond (ltb (cursor .mode) 2) (suc (2 * (length text - cursor .at) + cursor .frames)) 0
+left text cursor = cond (ltb (cursor .mode) 2) (suc (2 * (length text - cursor .at) + cursor .opened)) 0
 
 -- A frame takes at least one byte of text, and so does a byte of the body. A name takes 19, the rule's own 12; that is 16 each after 4 more, so that
 -- 256 names are enough.
 pub record CursorFits (text : List ℕ) (cursor : Cursor) : Type 0 where
   pub place : cursor .at ≤ length text
-  pub frames-fit : cursor .frames ≤ cursor .at
+  pub frames-fit : cursor .opened ≤ cursor .at
   pub bytes-fit : cursor .written ≤ cursor .at
   pub names-fit : 16 * cursor .scope ≤ cursor .at + 4
 

@@ -38,8 +38,8 @@ after-formula (suc inner) frames scope bytes resolved text = resume-frame (after
 
 -- Before a formula.
 unfoldable pub before-formula : ℕ → List ℕ → Next
-before-formula count frames scope bytes resolved text =
-    read-on (formula-read text) (λ F rest. after-formula count frames scope (bytes ++ formula-bytes scope F) (resolved && all-bound scope F) rest)
+before-formula opened frames scope bytes resolved text =
+    read-on (formula-read text) (λ F rest. after-formula opened frames scope (bytes ++ formula-bytes scope F) (resolved && all-bound scope F) rest)
 
 -- The names in scope, from the positions where they stand in the text.
 unfoldable pub scope-of : List ℕ → List ℕ → ℕ → List (List ℕ)

@@ -32,7 +32,7 @@ fn begin_flag(text: &[u8], names: &[usize], out: &mut [u8], cursor: Cursor, end:
     Cursor {
         mode: 1,
         at: end,
-        frames: cursor.frames,
+        opened: cursor.opened,
         scope: cursor.scope,
         written: cursor.written + 3,
         resolved: both(cursor.resolved, ok),
@@ -52,15 +52,15 @@ fn begin_range(
     ensures { λ r. ⌜ Moved (now (text .entry)) (now (frames .entry)) (now (names .entry)) (now (out .entry)) cursor (now (frames .exit)) (now (names .exit)) (now (out .exit)) r ⌝ }
 {
     let name = cursor.at + 7;
-    let count = cursor.frames;
+    let opened = cursor.opened;
     let scope = cursor.scope;
     let ok = write_forall(text, name, names, scope, out, cursor.written);
     names[scope] = name;
-    frames[count] = 1;
+    frames[opened] = 1;
     Cursor {
         mode: 0,
         at: end,
-        frames: count + 1,
+        opened: opened + 1,
         scope: scope + 1,
         written: cursor.written + 9,
         resolved: both(cursor.resolved, ok),
@@ -78,7 +78,7 @@ pub(crate) fn begin_formula(
     requires { ⌜ (cursor .mode ≡ 0) × CursorFits (now text) cursor × Rooms (now text) (now frames) (now names) (now out) ⌝ }
     ensures { λ r. ⌜ Moved (now (text .entry)) (now (frames .entry)) (now (names .entry)) (now (out .entry)) cursor (now (frames .exit)) (now (names .exit)) (now (out .exit)) r ⌝ }
 {
-    let count = cursor.frames;
+    let opened = cursor.opened;
     let written = cursor.written;
     let piece = piece_at(text, cursor.at);
     match piece {
@@ -90,19 +90,19 @@ pub(crate) fn begin_formula(
             Cursor {
                 mode: 0,
                 at: end,
-                frames: count,
+                opened,
                 scope: cursor.scope,
                 written: written + 1,
                 resolved: cursor.resolved,
             }
         }
         Piece::Open(end) => {
-            frames[count] = bracket_frame(written);
+            frames[opened] = bracket_frame(written);
             out[written] = 0;
             Cursor {
                 mode: 0,
                 at: end,
-                frames: count + 1,
+                opened: opened + 1,
                 scope: cursor.scope,
                 written: written + 1,
                 resolved: cursor.resolved,

@@ -8,7 +8,7 @@ ghost use Rattle.text_to_body.specs.Cursors.{Nowhere};
 pub(crate) struct Cursor {
     pub mode: u8,
     pub at: usize,
-    pub frames: usize,
+    pub opened: usize,
     pub scope: usize,
     pub written: usize,
     pub resolved: bool,
@@ -21,7 +21,7 @@ pub(crate) fn misspelt() -> Cursor
     Cursor {
         mode: 3,
         at: 0,
-        frames: 0,
+        opened: 0,
         scope: 0,
         written: 0,
         resolved: true,

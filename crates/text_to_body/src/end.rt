@@ -37,7 +37,7 @@ fn less_one(number: usize) -> usize
 
 // At the text's end nothing may be open.
 fn end_text(text: &[u8], cursor: Cursor) -> Cursor
-    requires { ⌜ (cursor .mode ≡ 1) × CursorFits (now text) cursor × (cursor .frames ≡ 0) ⌝ }
+    requires { ⌜ (cursor .mode ≡ 1) × CursorFits (now text) cursor × (cursor .opened ≡ 0) ⌝ }
     ensures { λ r. ⌜ ((frames names out : List ℕ) → Moved (now (text .entry)) frames names out cursor frames names out r) ⌝ }
 {
     if cursor.at != text.len() {
@@ -46,7 +46,7 @@ fn end_text(text: &[u8], cursor: Cursor) -> Cursor
     Cursor {
         mode: 2,
         at: cursor.at,
-        frames: 0,
+        opened: 0,
         scope: cursor.scope,
         written: cursor.written,
         resolved: cursor.resolved,
@@ -55,8 +55,8 @@ fn end_text(text: &[u8], cursor: Cursor) -> Cursor
 
 // After a bracket's second part.
 fn end_bracket(text: &[u8], cursor: Cursor) -> Cursor
-    requires { ⌜ (cursor .mode ≡ 1) × CursorFits (now text) cursor × (1 ≤ cursor .frames) ⌝ }
-    ensures { λ r. ⌜ ((frames names out : List ℕ) → getD frames (cursor .frames - 1) 0 ≡ 0 → Moved (now (text .entry)) frames names out cursor frames names out r) ⌝ }
+    requires { ⌜ (cursor .mode ≡ 1) × CursorFits (now text) cursor × (1 ≤ cursor .opened) ⌝ }
+    ensures { λ r. ⌜ ((frames names out : List ℕ) → getD frames (cursor .opened - 1) 0 ≡ 0 → Moved (now (text .entry)) frames names out cursor frames names out r) ⌝ }
 {
     if !starts_at(text, cursor.at, b")") {
         return misspelt();
@@ -64,7 +64,7 @@ fn end_bracket(text: &[u8], cursor: Cursor) -> Cursor
     Cursor {
         mode: 1,
         at: cursor.at + 1,
-        frames: cursor.frames - 1,
+        opened: cursor.opened - 1,
         scope: cursor.scope,
         written: cursor.written,
         resolved: cursor.resolved,
@@ -73,13 +73,13 @@ fn end_bracket(text: &[u8], cursor: Cursor) -> Cursor
 
 // After a quantifier's formula: its name goes out of scope.
 fn end_range(cursor: Cursor) -> Cursor
-    requires { ⌜ (cursor .mode ≡ 1) × (1 ≤ cursor .frames) ⌝ }
-    ensures { λ r. ⌜ ((text frames names out : List ℕ) → CursorFits text cursor → getD frames (cursor .frames - 1) 0 ≡ 1 → Moved text frames names out cursor frames names out r) ⌝ }
+    requires { ⌜ (cursor .mode ≡ 1) × (1 ≤ cursor .opened) ⌝ }
+    ensures { λ r. ⌜ ((text frames names out : List ℕ) → CursorFits text cursor → getD frames (cursor .opened - 1) 0 ≡ 1 → Moved text frames names out cursor frames names out r) ⌝ }
 {
     Cursor {
         mode: 1,
         at: cursor.at,
-        frames: cursor.frames - 1,
+        opened: cursor.opened - 1,
         scope: less_one(cursor.scope),
         written: cursor.written,
         resolved: cursor.resolved,
@@ -88,10 +88,10 @@ fn end_range(cursor: Cursor) -> Cursor
 
 // After a bracket's first part, whose frame is `top`: now it is known which code the bracket has.
 fn end_first(text: &[u8], frames: &mut [u16], out: &mut [u8], cursor: Cursor, top: usize) -> Cursor
-    requires { ⌜ (cursor .mode ≡ 1) × CursorFits (now text) cursor × (1 ≤ cursor .frames) × (cursor .frames ≤ length (now frames)) × (2 ≤ top) × (getD (now frames) (cursor .frames - 1) 0 ≡ top) ⌝ }
+    requires { ⌜ (cursor .mode ≡ 1) × CursorFits (now text) cursor × (1 ≤ cursor .opened) × (cursor .opened ≤ length (now frames)) × (2 ≤ top) × (getD (now frames) (cursor .opened - 1) 0 ≡ top) ⌝ }
     ensures { λ r. ⌜ ((names : List ℕ) → Moved (now (text .entry)) (now (frames .entry)) names (now (out .entry)) cursor (now (frames .exit)) names (now (out .exit)) r) ⌝ }
 {
-    let inner = cursor.frames - 1;
+    let inner = cursor.opened - 1;
     let end = joint_end(text, cursor.at);
     if end == 0 {
         return misspelt();
@@ -101,7 +101,7 @@ fn end_first(text: &[u8], frames: &mut [u16], out: &mut [u8], cursor: Cursor, to
     Cursor {
         mode: 0,
         at: end,
-        frames: cursor.frames,
+        opened: cursor.opened,
         scope: cursor.scope,
         written: cursor.written,
         resolved: cursor.resolved,
@@ -110,13 +110,13 @@ fn end_first(text: &[u8], frames: &mut [u16], out: &mut [u8], cursor: Cursor, to
 
 // By the innermost frame that is open.
 pub(crate) fn end_formula(text: &[u8], frames: &mut [u16], out: &mut [u8], cursor: Cursor) -> Cursor
-    requires { ⌜ (cursor .mode ≡ 1) × CursorFits (now text) cursor × (cursor .frames ≤ length (now frames)) ⌝ }
+    requires { ⌜ (cursor .mode ≡ 1) × CursorFits (now text) cursor × (cursor .opened ≤ length (now frames)) ⌝ }
     ensures { λ r. ⌜ ((names : List ℕ) → Moved (now (text .entry)) (now (frames .entry)) names (now (out .entry)) cursor (now (frames .exit)) names (now (out .exit)) r) ⌝ }
 {
-    if cursor.frames == 0 {
+    if cursor.opened == 0 {
         return end_text(text, cursor);
     }
-    let inner = cursor.frames - 1;
+    let inner = cursor.opened - 1;
     let top = word_value(frames[inner]);
     if top == 0 {
         return end_bracket(text, cursor);

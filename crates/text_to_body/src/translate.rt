@@ -79,7 +79,7 @@ pub(crate) fn translate(text: &[u8], out: &mut [u8]) -> Written
     let cursor = Cursor {
         mode: 0,
         at: start,
-        frames: 0,
+        opened: 0,
         scope: 1,
         written: 0,
         resolved: true,

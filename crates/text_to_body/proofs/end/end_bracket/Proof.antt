@@ -22,7 +22,7 @@ misspelt-requires c κs = search needs
 returns : tie.Need-returns
 returns c = let a = c .before .before .before .before .before .args in
     let pre = c .before .before .before .before .before .pre in
-    λ frames names out f. unclosed-arm (now (a .text)) frames names out (a .cursor) (pre .1) (pre .0) (a .cursor .frames - 1) (omega (arith, pre .2)) f (c .misspelt .result) (c .misspelt .ensures)
+    λ frames names out f. unclosed-arm (now (a .text)) frames names out (a .cursor) (pre .1) (pre .0) (a .cursor .opened - 1) (omega (arith, pre .2)) f (c .misspelt .result) (c .misspelt .ensures)
     (sym (c .before .before .starts-at .ensures) ∙ not-true (c .before .before .starts-at .result) (c .before .if1 .taken))
 
 add-t8 : tie.Need-add-t8
@@ -34,7 +34,7 @@ sub-t9 c = search needs
 returns-2 : tie.Need-returns-2
 returns-2 c = let a = c .before .before .before .before .before .before .args in
     let pre = c .before .before .before .before .before .before .pre in
-    λ frames names out f. close-arm (now (a .text)) frames names out (a .cursor) (pre .1) (pre .0) (a .cursor .frames - 1) (omega (arith, pre .2)) f
+    λ frames names out f. close-arm (now (a .text)) frames names out (a .cursor) (pre .1) (pre .0) (a .cursor .opened - 1) (omega (arith, pre .2)) f
     (sym (c .before .before .before .starts-at .ensures) ∙ not-false (c .before .before .before .starts-at .result) (c .before .before .if1 .left))
 
 pub end-bracket-spec : {M : Type 1} → statement M

@@ -20,7 +20,7 @@ misspelt-requires c κs = search needs
 returns : tie.Need-returns
 returns c = let a = c .before .before .before .before .before .before .before .args in
     let pre = c .before .before .before .before .before .before .before .pre in
-    λ names. unjoined-arm (now (a .text)) (now (a .frames)) names (now (a .out)) (a .cursor) (pre .1) (pre .0) (a .cursor .frames - 1) (omega (arith, pre .2)) (a .top) (pre .4) (pre .5) (c .before .before .joint-end .result) (c .before .before .joint-end .ensures) (c .misspelt .result) (c .misspelt .ensures) (c .before .if1 .taken)
+    λ names. unjoined-arm (now (a .text)) (now (a .frames)) names (now (a .out)) (a .cursor) (pre .1) (pre .0) (a .cursor .opened - 1) (omega (arith, pre .2)) (a .top) (pre .4) (pre .5) (c .before .before .joint-end .result) (c .before .before .joint-end .ensures) (c .misspelt .result) (c .misspelt .ensures) (c .before .if1 .taken)
 
 sub-put : tie.Need-sub-put
 sub-put c = search needs
@@ -46,7 +46,7 @@ same-length-2 c = search needs
 returns-2 : tie.Need-returns-2
 returns-2 c = let a = c .before .before .before .before .before .before .before .before .before .before .before .args in
     let pre = c .before .before .before .before .before .before .before .before .before .before .before .pre in
-    λ names. joint-arm (now (a .text)) (now (a .frames)) names (now (a .out)) (a .cursor) (pre .1) (pre .0) (a .cursor .frames - 1) (omega (arith, pre .2)) (a .top) (pre .4) (pre .5) (c .before .before .before .before .before .before .joint-end .result) (c .before .before .before .before .before .before .joint-end .ensures) (c .before .before .before .before .before .if1 .left) (pre .3) (c .before .before .before .joint-code .result) (c .before .before .before .joint-code .ensures) _ (c .before .before .put .ensures)
+    λ names. joint-arm (now (a .text)) (now (a .frames)) names (now (a .out)) (a .cursor) (pre .1) (pre .0) (a .cursor .opened - 1) (omega (arith, pre .2)) (a .top) (pre .4) (pre .5) (c .before .before .before .before .before .before .joint-end .result) (c .before .before .before .before .before .before .joint-end .ensures) (c .before .before .before .before .before .if1 .left) (pre .3) (c .before .before .before .joint-code .result) (c .before .before .before .joint-code .ensures) _ (c .before .before .put .ensures)
 
 pub end-first-spec : {M : Type 1} → statement M
 end-first-spec =

@@ -16,7 +16,7 @@ less-one-requires c κs = search needs
 returns : tie.Need-returns
 returns c = let a = c .before .before .args in
     let pre = c .before .before .pre in
-    λ s frames names out w f. range-over-arm s frames names out (a .cursor) w (pre .0) (a .cursor .frames - 1) (omega (arith, pre .1)) f (c .less-one .result) (c .less-one .ensures)
+    λ s frames names out w f. range-over-arm s frames names out (a .cursor) w (pre .0) (a .cursor .opened - 1) (omega (arith, pre .1)) f (c .less-one .result) (c .less-one .ensures)
 
 pub end-range-spec : {M : Type 1} → statement M
 end-range-spec = tie.close (tie.spec sub-t2 less-one-requires returns)

@@ -60,7 +60,7 @@ returns c =
       l .inv .4,
       record {
         past = c .if1 .left;
-        answer = l .inv .0 ∙ settles (l .cursor .mode) (l .cursor .frames) (l .frames) (scope-of s (l .names) (l .cursor .scope)) (take (l .cursor .written) (l .out)) (l .cursor .resolved) (drop (l .cursor .at) s) (c .if1 .left);
+        answer = l .inv .0 ∙ settles (l .cursor .mode) (l .cursor .opened) (l .frames) (scope-of s (l .names) (l .cursor .scope)) (take (l .cursor .written) (l .out)) (l .cursor .resolved) (drop (l .cursor .at) s) (c .if1 .left);
         room = omega (arith, l .inv .1 .bytes-fit, l .inv .1 .place, l .inv .4, r .short, r .bytes-room);
       },
     )
