@@ -70,6 +70,52 @@ pub record SetBatch : Type 0 where
   pub cells′ : List ℕ
   pub report′ : List ℕ
 
+-- An opening, a step and a batch that were answered so. An opening only measures the cell table: the first step sets up what it needs there.
+abbrev pub set-opening-of : Answer (List Running) → List ℕ → List Running → List ℕ → List ℕ → List Running → List ℕ → SetOpening
+set-opening-of answer sheet records history table records′ history′ =
+    record {
+      sheet = sheet;
+      records = records;
+      history = history;
+      table = table;
+      answer = answer;
+      records′ = records′;
+      history′ = history′;
+      table′ = table;
+    }
+
+abbrev pub set-step-of : Answer SetTaken → List ℕ → List Running → ℕ → List ℕ → List ℕ → List ℕ → List Running → List ℕ → List ℕ → List ℕ → SetStep
+set-step-of answer sheet records flag history cells report records′ history′ cells′ report′ =
+    record {
+      sheet = sheet;
+      records = records;
+      flag = flag;
+      history = history;
+      cells = cells;
+      report = report;
+      answer = answer;
+      records′ = records′;
+      history′ = history′;
+      cells′ = cells′;
+      report′ = report′;
+    }
+
+abbrev pub set-batch-of : Answer SetCounts → List ℕ → List Running → List ℕ → List ℕ → List ℕ → List ℕ → List Running → List ℕ → List ℕ → List ℕ → SetBatch
+set-batch-of answer sheet records flags history cells report records′ history′ cells′ report′ =
+    record {
+      sheet = sheet;
+      records = records;
+      flags = flags;
+      history = history;
+      cells = cells;
+      report = report;
+      answer = answer;
+      records′ = records′;
+      history′ = history′;
+      cells′ = cells′;
+      report′ = report′;
+    }
+
 -- ---- a running rule
 
 -- The record that stands for none.
@@ -356,3 +402,14 @@ SetBatchUnchanged batch =
 abbrev pub SetBatched : Invariant → (batch : SetBatch) → Answer SetCounts → Type 0
 SetBatched Stands batch (refused number) = (admit-set-batch batch ≡ refused number) × SetBatchUnchanged batch
 SetBatched Stands batch (accepted counts) = (figures : List Figures) × (admit-set-batch batch ≡ accepted figures) × SetSteps Stands batch figures counts
+
+-- ---- the promises of the functions
+
+abbrev pub SetOpenPromise : Invariant → SetOpening → Type 0
+SetOpenPromise Stands opening = SetOpened Stands opening (opening .answer)
+
+abbrev pub SetStepPromise : Invariant → SetStep → Type 0
+SetStepPromise Stands made = SetStepped Stands made (made .answer)
+
+abbrev pub SetBatchPromise : Invariant → SetBatch → Type 0
+SetBatchPromise Stands batch = SetBatched Stands batch (batch .answer)
