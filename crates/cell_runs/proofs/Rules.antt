@@ -165,6 +165,7 @@ module _ (ns : List ℕ) (f : Figures) (c : ℕ) (hist : List ℕ) (b t low : �
               cells-length = long;
               cells-rest = rw (← whole) (spared .table-rest);
               few = spared .few;
+              few-live = spared .few-live;
               report-length = same;
               report-rest = spared .report-rest;
               means = λ F r flags here kept stands.
