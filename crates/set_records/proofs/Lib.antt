@@ -1,2 +1,3 @@
 mod Again
+mod Lists
 mod Shared
