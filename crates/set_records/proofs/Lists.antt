@@ -5,7 +5,7 @@ use mathlib.Core.Logic.{_⊎_, inl, inr}
 use mathlib.Core.List.{List, [], _∷_, _++_, append-nil}
 use native.Mathlib.Omega.{arith}
 use lib.ListN.{length, getD, take, drop, set, replicate, length-replicate, length-append, drop-of-length-le, replicate-append-replicate, List·getD-append}
-use lib.Seq.{take-append-seam, take-append-add, take-at, drop-at, take-all}
+use lib.Seq.{take-append-seam, take-append-add, take-at, drop-at, take-all, length-front, length-take-le}
 use Rattle.rule.proofs.Order.{by-order}
 use Rattle.demand.specs.declared.Running.{Running}
 use Rattle.demand.specs.SetContract.{no-rule}
@@ -72,6 +72,9 @@ loading-all records n e = ap (λ (l : List Running). record { rules = l; lent = 
 -- The records after so many are saved.
 abbrev pub saving : List Running → RuleSet → ℕ → List Running
 saving records values n = mixed (values .rules) records n
+
+pub saving-length : (records : List Running) (values : RuleSet) (n : ℕ) → n ≤ length records → n ≤ length (values .rules) → length (saving records values n) ≡ length records
+saving-length records values n h k = length-front records (take n (values .rules)) n (length-take-le n (values .rules) k ∙ sym (length-take-le n records h))
 
 pub saving-all : (records : List Running) (values : RuleSet) (n : ℕ) → length (values .rules) ≡ 32 → n ≡ min (length records) 32 → saving records values n ≡ saved records values
 unfolding saved

@@ -55,11 +55,10 @@ loop-again c =
     let s₃ = s₂ .before in
     let values : RuleSet = s₃ .args .t1 in
     let words = s₃ .args .words .now in
-    let all : length (values .rules) ≡ 32 = search (needs, length-mapped) in
-    (
+    let all : length (values .rules) ≡ 32 = search (needs, length-mapped) in (
       values-turn (rules-in words) values (s₂ .loop .set) (s₂ .loop .index) (c .rule-at .result)
-      (omega (arith, s₁ .loop-test .taken, length-map words rule-in)) (omega (arith, s₁ .loop-test .taken, s₃ .pre, all))
-      (s₂ .loop .inv .0) (c .rule-at .ensures),
+          (omega (arith, s₁ .loop-test .taken, length-map words rule-in)) (omega (arith, s₁ .loop-test .taken, s₃ .pre, all))
+          (s₂ .loop .inv .0) (c .rule-at .ensures),
       omega (arith, s₁ .loop-test .taken),
     )
 

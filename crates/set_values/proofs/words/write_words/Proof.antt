@@ -47,11 +47,10 @@ loop-again c =
     let s₆ = s₅ .before in
     let values : RuleSet = s₆ .args .t1 in
     let words = s₆ .args .words .now in
-    let all : length (values .rules) ≡ 32 = search (needs, length-mapped) in
-    (
+    let all : length (values .rules) ≡ 32 = search (needs, length-mapped) in (
       mixed-turn (values .rules) (rules-in words) (rules-in (s₅ .loop .words)) (rules-in (c .before .store-rule .last .0)) (s₅ .loop .index) no-rule _
-      (omega (arith, s₄ .loop-test .taken, s₅ .loop .inv .1 .1, s₆ .pre, all)) (omega (arith, s₄ .loop-test .taken, s₅ .loop .inv .1 .1, length-map words rule-in))
-      (s₅ .loop .inv .0) (c .before .store-rule .ensures) refl,
+          (omega (arith, s₄ .loop-test .taken, s₅ .loop .inv .1 .1, s₆ .pre, all)) (omega (arith, s₄ .loop-test .taken, s₅ .loop .inv .1 .1, length-map words rule-in))
+          (s₅ .loop .inv .0) (c .before .store-rule .ensures) refl,
       (omega (arith, s₄ .loop-test .taken, c .before .store-rule .kept .0), c .before .store-rule .kept .0 ∙ s₅ .loop .inv .1 .1),
     )
 
