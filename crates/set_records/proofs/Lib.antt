@@ -1,3 +1,4 @@
 mod Again
+pub mod Further
 mod Lists
 mod Shared
