@@ -7,7 +7,7 @@ use native.Mathlib.Omega.{arith}
 use lib.ListN.{length, getD, drop, take-append-drop}
 use Rattle.refusal.specs.Answer.{accepted}
 use Rattle.refusal.proofs.Answers.{same-value}
-use Rattle.sheet.specs.Sheet.{rule-count, rule-body}
+use Rattle.sheet.specs.Sheet.{rule-body}
 use Rattle.sheet.proofs.Entries.{body-told}
 use Rattle.rule.specs.Formula.{Formula}
 use Rattle.rule.specs.Body.{body}
@@ -20,7 +20,7 @@ use Rattle.demand.specs.SetDemand.{set-stream, no-formula, reports, SetR
 use Rattle.demand.proofs.Theorem as one-rule
 use Rattle.demand.proofs.SetLists.{ticks-all-numbered}
 use Rattle.demand.proofs.SetRules.{sheet-told}
-use Rattle.demand.proofs.SetTheorem.{reports-length, reports-at, lives, lives-of, lives-at, set-demand-3}
+use Rattle.demand.proofs.SetTheorem.{reports-length, reports-at, lives-of, lives-at, set-demand-3}
 
 -- The ticks of rule i among the pairs of a step.
 ticks-told : (Fs : List Formula) (bytes : List ℕ) (t : ℕ) (k : SetStep) (a : SetTaken) → SetReport Fs bytes t k a → (i : ℕ) → i < length Fs

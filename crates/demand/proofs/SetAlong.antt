@@ -4,15 +4,15 @@ use mathlib.Core.Path.{_≡_, refl, sym, ap, subst, _∙_}
 use mathlib.Core.Logic.{_⊎_, inl, inr, _≢_}
 use mathlib.Core.Bool.{Bool, true, false, not, _&&_, _||_}
 use mathlib.Core.List.{List, [], _∷_, _++_, map}
-use native.Mathlib.Nat.{zero-add, not-suc-le-zero, le-of-suc-le-suc}
+use native.Mathlib.Nat.{zero-add, not-suc-le-zero}
 use native.Mathlib.Omega.{arith}
 use lib.Dec.{leb, eqb}
 use lib.ListN.{length, getD, take, drop, length-take, length-append, length-map, take-append-drop, List·getD-append}
 use lib.Seq.{take-all, take-nil, getD-take, length-take-le}
-use borrow.Author.Tests.{leb-true, leb-false, eqb-true, eqb-false, le-leb, lt-leb, eq-eqb, ne-eqb}
+use borrow.Author.Tests.{leb-true, leb-false, eqb-true, eqb-false, le-leb, lt-leb}
 use Rattle.refusal.specs.Answer.{Answer, refused, accepted}
 use Rattle.refusal.proofs.Answers.{not-accepted, same-refusal}
-use Rattle.sheet.specs.Sheet.{rule-count, body-offset, extent}
+use Rattle.sheet.specs.Sheet.{rule-count}
 use Rattle.rule.specs.declared.Figures.{Figures}
 use Rattle.rule.specs.Formula.{Formula}
 use Rattle.rule.specs.Figures.{body-figures}
@@ -22,7 +22,7 @@ use Rattle.demand.specs.Contract.{Invariant, must}
 use Rattle.demand.specs.SetContract.{SetOpening, SetTaken, SetStep, SetBatch, no-rule, body-at, next-rule, running-rules, opened-length, next-tick, all-cells, all-delays, figures-or-none, needs, all-run, fit-set, admit-records, admit-set-step, SetOpens, SetTakes, SetStepped, SetBatched}
 use Rattle.demand.specs.SetDemand.{no-figures, SetRefused, set-ticks-after, SetUnfit, SetRefusal, SetBatchRefusal, SetAcceptable}
 use Rattle.demand.proofs.SetLists.{history-inside, cells-prefix}
-use Rattle.demand.proofs.SetAdmission.{short-figures, delays-low, Placed, AllPlaced, all-run-there}
+use Rattle.demand.proofs.SetAdmission.{short-figures, delays-low, Placed, all-run-there}
 use Rattle.demand.proofs.SetRules.{SheetTold, sheet-told, opened-rule, opened-rules-length, opened-at, own-figures}
 
 -- ---- the tests of a step

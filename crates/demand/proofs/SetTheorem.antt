@@ -5,7 +5,7 @@ use mathlib.Core.Logic.{_⊎_, inl, inr, _≢_}
 use mathlib.Core.List.{List, [], _∷_, _++_, map, append-nil}
 use native.Mathlib.Nat.{add-zero, zero-add}
 use native.Mathlib.Omega.{arith}
-use lib.ListN.{length, getD, take, drop, set, replicate, length-append, length-take, length-drop, length-replicate, length-map, take-append-drop, drop-of-length-le, List·getD-map}
+use lib.ListN.{length, getD, take, drop, set, length-append, length-take, length-drop, length-replicate, length-map, take-append-drop, drop-of-length-le, List·getD-map}
 use lib.Seq.{take-take, take-append-seam, drop-append-seam, take-at, drop-at, ext-getD, getD-take}
 use borrow.Author.Tests.{le-leb}
 use Rattle.refusal.specs.Answer.{Answer, refused, accepted, and-then}
@@ -13,20 +13,19 @@ use Rattle.refusal.proofs.Answers.{not-accepted}
 use Rattle.sheet.specs.Sheet.{rule-body, body-part, rule-count}
 use Rattle.rule.specs.declared.Figures.{Figures}
 use Rattle.rule.specs.Formula.{Formula}
-use Rattle.rule.specs.Body.{body}
 use Rattle.rule.specs.Recording.{recorded}
 use Rattle.rule.specs.Steps.{live}
 use Rattle.demand.specs.declared.Running.{Running}
-use Rattle.demand.specs.Contract.{State, Opening, Taken, Step, must, room, admit-opening, fresh-state, HistoryHolds, Invariant, Opened, Takes, Stepped, OpenPromise, StepPromise}
+use Rattle.demand.specs.Contract.{State, Opening, must, room, admit-opening, fresh-state, Invariant, Opened, Takes, Stepped, OpenPromise, StepPromise}
 use Rattle.demand.specs.Demand.{Call, step, write, stream, Run, done, stepped, wrote, false-at-step, Decided-by, StepAsStated, Acceptable}
-use Rattle.demand.specs.SetContract.{SetOpening, SetTaken, SetStep, SetBatch, no-rule, rule-state, own-cells, next-tick, opened-length, sum, all-live, all-cells, largest, all-numbered, how-many, ticks-of, needs, SetOpens, SetOpened, SetStepped, SetBatched}
-use Rattle.demand.specs.SetDemand.{SetCall, set-step, refused-set-batch, set-write, SetRefused, set-ticks-after, set-added, set-stream, SetRun, no-figures, no-formula, SetRefusal, SetBatchRefusal, reports, live-counts, SetReport, SetDemand-3, SetAcceptable, as-state, own-opening, own-taken, own-report, own-step, own-call, own-calls, Alone, OwnParts, SetDemanded}
-use Rattle.demand.proofs.Admission.{StepAdmitted, step-admits, formula-of}
+use Rattle.demand.specs.SetContract.{SetOpening, SetTaken, SetStep, SetBatch, no-rule, rule-state, own-cells, next-tick, opened-length, sum, all-cells, largest, all-numbered, how-many, ticks-of, needs, SetOpens, SetOpened, SetStepped}
+use Rattle.demand.specs.SetDemand.{SetCall, set-step, refused-set-batch, set-write, SetRefused, set-ticks-after, set-added, set-stream, no-figures, no-formula, SetRefusal, SetBatchRefusal, reports, live-counts, SetReport, SetDemand-3, SetAcceptable, as-state, own-opening, own-taken, own-report, own-step, own-call, own-calls, Alone, OwnParts, SetDemanded}
+use Rattle.demand.proofs.Admission.{step-admits, formula-of}
 use Rattle.demand.proofs.Theorem as one-rule
 use Rattle.demand.proofs.SetLists.{part, part-length, part-take, part-append, cells-inside, cells-apart, history-inside, ticks-all-numbered, all-numbered-length}
 use Rattle.demand.proofs.SetAdmission.{Placed}
 use Rattle.demand.proofs.SetRules.{own-figures, set-opening-is, set-admitted}
-use Rattle.demand.proofs.SetAlong.{told, counted, Along, needs-at, Lent, SetFit, Took, took, refusal, lent-at, in-count, moved-at, after-at, same-records, next-along, batch-refusal, given-count, given-at, left-at, fresh}
+use Rattle.demand.proofs.SetAlong.{told, counted, Along, needs-at, Lent, Took, took, refusal, lent-at, in-count, moved-at, after-at, same-records, next-along, batch-refusal, given-count, given-at, left-at, fresh}
 use Rattle.demand.proofs.SetLines.{SetLine, end, own-history, other-history, turned-away, written, as-set-line}
 
 -- ---- lists of calls
