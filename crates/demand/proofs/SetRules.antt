@@ -75,7 +75,7 @@ opened-rule s L index first f =
 pub opened-rules-length : (s : List ℕ) (L index first : ℕ) (fs : List Figures) → length (opened-rules s L index first fs) ≡ length fs
 unfolding opened-rules
 opened-rules-length s L index first [] = refl
-opened-rules-length s L index first (f ∷ fs) = ap suc (opened-rules-length s L (suc index) (first + f .cells) fs)
+opened-rules-length s L index first (f ∷ fs) = ap suc (opened-rules-length s L (suc index) _ fs)
 
 pub opened-at : (s : List ℕ) (L index first : ℕ) (fs : List Figures) (i : ℕ) → i < length fs
     → getD (opened-rules s L index first fs) i no-rule ≡ opened-rule s L (index + i) (first + all-cells (take i fs)) (getD fs i no-figures)
