@@ -16,7 +16,7 @@
  * To write a sheet: sw_rule_from_text makes a rule's body from its text, sw_write_sheet a
  * sheet from bodies; sw_rule_to_text shows a body as text. Examples: examples/c.
  *
- * ANSWERS. Every function answers SW_OK (0) or the number of a refusal (1 to 26, below).
+ * ANSWERS. Every function answers SW_OK (0) or the number of a refusal (1 to 27, below).
  * On a refusal nothing that was lent is changed: no buffer, no state, and none of the
  * numbers that answers are written to.
  *
@@ -167,6 +167,11 @@ extern "C" {
  * own range. */
 #define SW_UNBOUND_NAME 26
 
+/* "more than 4,096 cells in all rules"
+ * Each rule of the sheet opens by itself, but not all together. Narrow or unnest ranges,
+ * or split the sheet. */
+#define SW_SET_CELLS_ABOVE_LIMIT 27
+
 /* ---- Limits ---- */
 
 /* A sheet: rules, bytes of a body, bytes of the whole. */
@@ -222,7 +227,7 @@ extern "C" {
 
 /* ---- Functions ---- */
 
-/* The sentence of a refusal, in ASCII. A number that is no refusal (SW_OK, 27 and more)
+/* The sentence of a refusal, in ASCII. A number that is no refusal (SW_OK, 28 and more)
  * has the sentence "no such refusal".
  * Answers 0, or 22.
  * After 0, *written is the sentence's length, `out` begins with the sentence and a 0

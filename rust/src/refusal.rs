@@ -71,6 +71,8 @@ pub enum Refusal {
     Misspelt,
     /// 26: a name that is not bound here.
     UnboundName,
+    /// 27: more than 4,096 cells in all rules.
+    SetCellsAboveLimit,
     /// A number that this version has no name for: the library that was linked is a
     /// later one. Only `from_number` makes it, so that no refusal has two forms:
     ///
@@ -85,7 +87,7 @@ pub enum Refusal {
 }
 
 /// Every refusal that has a name; number n stands at place n - 1.
-const NAMED: [Refusal; 26] = [
+const NAMED: [Refusal; 27] = [
     Refusal::RuleCount,
     Refusal::EntryLayout,
     Refusal::NoSuchRule,
@@ -112,6 +114,7 @@ const NAMED: [Refusal; 26] = [
     Refusal::OffsetOnInfinity,
     Refusal::Misspelt,
     Refusal::UnboundName,
+    Refusal::SetCellsAboveLimit,
 ];
 
 impl Refusal {

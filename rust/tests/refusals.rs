@@ -10,7 +10,7 @@ use station_watch::{
 use std::error::Error;
 
 /// The last number with a name.
-const LAST: u32 = 26;
+const LAST: u32 = 27;
 
 /// Numbers 1 to `LAST` have names, and the docs of each name are the library's sentence.
 #[test]

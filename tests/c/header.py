@@ -50,10 +50,10 @@ def functions():
 
 
 def sentences():
-    same("numbers of the refusals", list(range(1, 27)), list(SENTENCES))
+    same("numbers of the refusals", list(range(1, 28)), list(SENTENCES))
     for number, text in SENTENCES.items():
         same(f"sentence {number}", text, sentence(number))
-    for number in (constant("SW_OK"), 27, 4294967295):
+    for number in (constant("SW_OK"), 28, 4294967295):
         same(f"sentence {number}", "no such refusal", sentence(number))
 
 

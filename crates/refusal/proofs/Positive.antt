@@ -5,7 +5,7 @@ use native.Mathlib.Omega.{arith}
 use Rattle.refusal.specs.Answer.{KeptIfRefused}
 use Rattle.refusal.specs.Numbers.{number-of}
 use Rattle.refusal.specs.declared.Refusal.{Refusal}
-use Rattle.refusal.specs.declared.Refusal.the-variants.{RuleCount, EntryLayout, NoSuchRule, BodyEndsEarly, UnknownCode, UnboundVariable, NoSuchFlag, OffsetOutOfRange, BodyTooLarge, BytesLeftOver, DelayInfinite, DelayAboveLimit, HistoryInfinite, HistoryAboveLimit, CellsAboveLimit, NotInRecording, HistoryLength, CellTableTooShort, ReportTooShort, TicksUsedUp, StateNotOpened, BufferTooShort, VariableByteNotZero, OffsetOnInfinity, Misspelt, UnboundName}
+use Rattle.refusal.specs.declared.Refusal.the-variants.{RuleCount, EntryLayout, NoSuchRule, BodyEndsEarly, UnknownCode, UnboundVariable, NoSuchFlag, OffsetOutOfRange, BodyTooLarge, BytesLeftOver, DelayInfinite, DelayAboveLimit, HistoryInfinite, HistoryAboveLimit, CellsAboveLimit, NotInRecording, HistoryLength, CellTableTooShort, ReportTooShort, TicksUsedUp, StateNotOpened, BufferTooShort, VariableByteNotZero, OffsetOnInfinity, Misspelt, UnboundName, SetCellsAboveLimit}
 
 pub positive : (x : Refusal) → (m : ℕ) × (number-of x ≡ suc m)
 positive RuleCount = (0, refl)
@@ -34,6 +34,7 @@ positive VariableByteNotZero = (22, refl)
 positive OffsetOnInfinity = (23, refl)
 positive Misspelt = (24, refl)
 positive UnboundName = (25, refl)
+positive SetCellsAboveLimit = (26, refl)
 
 pub not-zero : (x : Refusal) → number-of x ≡ 0 → ⊥
 not-zero x e = let z = positive x in omega (arith, e, z .1)

@@ -44,7 +44,7 @@ past-none zero = inl refl
 past-none (suc n) = inr (omega arith)
 
 -- Past the last refusal.
-pub other : (n : ℕ) → Past 26 n → sentence-of n ≡ sentence-of 0
+pub other : (n : ℕ) → Past 27 n → sentence-of n ≡ sentence-of 0
 unfolding sentence-of
 other n (inl e) = ap sentence-of e
 other n (inr g) = ap ascii (List·getD-eq-default sentences unknown {n = n} (omega arith))

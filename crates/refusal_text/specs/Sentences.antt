@@ -45,6 +45,7 @@ sentences =
     ∷ "an infinity with an offset"  -- 24
     ∷ "the text is misspelt or above 4,096 bytes"  -- 25
     ∷ "a name that is not bound here"  -- 26
+    ∷ "more than 4,096 cells in all rules"  -- 27
     ∷ []
 
 -- The sentence of a number; every other number has that of 0.

@@ -14,6 +14,19 @@ fn put(text: &[u8], out: &mut [u8; 128]) -> usize
     bytes::copy(text, out)
 }
 
+// The rules of a set together.
+fn of_set(number: u32, out: &mut [u8; 128]) -> usize
+    requires { ⌜ Past 26 number ⌝ }
+    ensures { λ r. ⌜ r < 128 ⌝ }
+    ensures { λ r. ⌜ r ≡ length (sentence-of number) ⌝ }
+    ensures { λ r. ⌜ now (out .exit) ≡ sentence-of number ++ drop r (now (out .entry)) ⌝ }
+{
+    match number {
+        27 => put(b"more than 4,096 cells in all rules", out),
+        _ => put(b"no such refusal", out),
+    }
+}
+
 // A rule's text.
 fn of_text(number: u32, out: &mut [u8; 128]) -> usize
     requires { ⌜ Past 24 number ⌝ }
@@ -24,7 +37,7 @@ fn of_text(number: u32, out: &mut [u8; 128]) -> usize
     match number {
         25 => put(b"the text is misspelt or above 4,096 bytes", out),
         26 => put(b"a name that is not bound here", out),
-        _ => put(b"no such refusal", out),
+        _ => of_set(number, out),
     }
 }
 

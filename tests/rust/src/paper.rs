@@ -20,7 +20,7 @@ pub use text::{body_of_text, text_of_body};
 pub type Refusal = u32;
 
 /// The last one.
-pub const LAST_REFUSAL: Refusal = 26;
+pub const LAST_REFUSAL: Refusal = 27;
 /// What a rule is refused with: for its bytes, then for its figures.
 pub const RULE_REFUSALS: &[Refusal] = &[4, 5, 6, 7, 8, 9, 10, 23, 24, 11, 12, 13, 14, 15];
 pub const BODY_REFUSALS: &[Refusal] = RULE_REFUSALS.split_at(9).0;

@@ -4,9 +4,12 @@ use denote.Ref.{now}
 use native.Mathlib.Omega.{arith}
 use borrow.Author.Needs.{needs}
 use Rattle.refusal_text.specs.Sentences.{sentence-of, ascii}
-use Rattle.refusal_text.proofs.Putting.{said, other, past}
+use Rattle.refusal_text.proofs.Putting.{said, past}
 use Rattle.refusal_text.proofs.of_text.Statement.{statement}
 use Rattle.refusal_text.proofs.of_text.Tie as tie
+
+of-set-requires : tie.Need-of-set-requires
+of-set-requires c κs = past 24 2 (c .before .before .args .number) (c .before .before .pre) (c .before .match .rest)
 
 returns : tie.Need-returns
 unfolding sentence-of ascii
@@ -21,11 +24,7 @@ returns-2 c =
     said 26 (s .number) (c .put2 .result) (now (s .out)) (c .put2 .last .1 .0) (ap sentence-of (c .before .before .before .match .keys2)) (omega arith) (c .put2 .ensures)
 
 returns-3 : tie.Need-returns-3
-unfolding sentence-of ascii
-returns-3 c =
-    let s = c .before .before .before .before in
-    let n = s .args .number in
-    said 0 n (c .put3 .result) (now (s .args .out)) (c .put3 .last .1 .0) (other n (past 24 2 n (s .pre) (c .before .before .before .match .rest))) (omega arith) (c .put3 .ensures)
+returns-3 c = c .of-set .ensures
 
 pub of-text-spec : {M : Type 1} → statement M
 of-text-spec =
@@ -35,8 +34,7 @@ of-text-spec =
     (λ c κs. search needs)
     (λ c. search needs)
     (λ c κs. search needs)
-    (λ c. search needs)
-    (λ c κs. search needs)
+    of-set-requires
     returns
     returns-2
     returns-3)

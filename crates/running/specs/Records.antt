@@ -1,0 +1,21 @@
+-- The running rules that lent words hold: eight words to a record, in the order of the struct's fields.
+use Prim.Native.Nat.{ℕ}
+use mathlib.Core.List.{List, map}
+use lib.ListN.{getD}
+use Rattle.demand.specs.declared.Running.{Running}
+
+abbrev pub rule-in : List ℕ → Running
+rule-in words =
+    record {
+      start = getD words 0 0;
+      size = getD words 1 0;
+      first = getD words 2 0;
+      cells = getD words 3 0;
+      delay = getD words 4 0;
+      opened = getD words 5 0;
+      next = getD words 6 0;
+      live = getD words 7 0;
+    }
+
+abbrev pub rules-in : List (List ℕ) → List Running
+rules-in records = map rule-in records
