@@ -1,0 +1,3 @@
+pub mod InPlace
+pub mod OneRule
+pub mod AllRules
