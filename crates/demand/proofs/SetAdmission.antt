@@ -67,7 +67,7 @@ same-told rule (accepted f) e =
       same-history = leb-true (f .history) (rule .opened) (b .1);
     }
 
-runs-told : (sheet : List ℕ) (L t first : ℕ) (rule : Running) → runs sheet L t first rule ≡ true → Placed sheet L t first rule
+pub runs-told : (sheet : List ℕ) (L t first : ℕ) (rule : Running) → runs sheet L t first rule ≡ true → Placed sheet L t first rule
 unfolding runs
 runs-told sheet L t first rule e =
     let a = and-true (leb (rule .start + rule .size) (length sheet)) _ e in
