@@ -3,7 +3,6 @@ use Prim.Native.Nat.{ℕ, _+_, _*_, _≤_, _<_}
 use mathlib.Core.Path.{_≡_, refl, sym, ap, _∙_}
 use mathlib.Core.Bool.{Bool, true, false, _&&_}
 use mathlib.Core.List.{List}
-use native.Mathlib.Omega.{arith}
 use lib.Dec.{leb}
 use lib.ListN.{length}
 use borrow.Author.Tests.{leb-true, le-leb, lt-leb}
@@ -68,6 +67,7 @@ module _ (s : List ℕ) where
 
 -- Accepted figures: of a sheet that is laid out, as many as its rules, with few cells.
 pub record Together (s : List ℕ) (fs : List Figures) : Type 0 where
+  pub figures-are : set-figures s ≡ accepted fs
   pub laid : LaidOut s
   pub bodies-are : all-figures (bodies-from (rule-count s) s 0) ≡ accepted fs
   pub as-many : length fs ≡ rule-count s
@@ -83,6 +83,7 @@ together s fs e =
     let l = laid-told s (x .1) in
     let b : all-figures (bodies-from (rule-count s) s 0) ≡ accepted fs = ap all-figures (sym (l .1)) ∙ y .1 ∙ ap accepted same in
     record {
+      figures-are = e;
       laid = l .0;
       bodies-are = b;
       as-many = all-small (bodies-from (rule-count s) s 0) fs b .as-many ∙ length-bodies (rule-count s) s 0;
