@@ -4,10 +4,9 @@ use mathlib.Core.Path.{_≡_, refl, sym, ap, _∙_}
 use mathlib.Core.List.{List, [], _∷_, _++_, append-assoc}
 use native.Mathlib.Omega.{arith}
 use native.Mathlib.Nat.{add-zero, zero-add}
-use lib.ListN.{length, getD, take, drop, set, length-take}
+use lib.ListN.{length, getD, take, drop, set}
 use lib.Seq.{take-suc, take-all, drop-cons, set-at, length-take-le}
 use Rattle.refusal.specs.Answer.{accepted, and-then}
-use Rattle.refusal.proofs.Answers.{same-value}
 use Rattle.words.specs.Words.{Bytes, word}
 use Rattle.sheet.specs.declared.reader.Found.{Found}
 use Rattle.sheet.specs.declared.reader.Found.the-variants as place
