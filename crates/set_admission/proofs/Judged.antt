@@ -13,7 +13,7 @@ use Rattle.sheet.specs.Sheet.{rule-count, rule-body}
 use Rattle.rule.specs.declared.Figures.{Figures}
 use Rattle.rule.specs.Figures.{body-figures}
 use Rattle.demand.specs.Contract.{must}
-use Rattle.demand.specs.SetContract.{all-cells, largest, bodies-from, sheet-bodies, all-figures, set-room}
+use Rattle.demand.specs.SetContract.{SetOpening, all-cells, largest, bodies-from, sheet-bodies, all-figures, set-room, admit-set}
 use Rattle.demand.proofs.Admission.{must-passed}
 use Rattle.admission.specs.Admitted.{FiguresWithin}
 use Rattle.set_admission.specs.declared.sheet_figures.SetFigures.{SetFigures}
@@ -169,6 +169,11 @@ module _ (history table records : ℕ) where
                 le-leb (4 * all-cells fs) table (rw are at h₃),
                 le-leb (length fs) records (rw are at h),
               ))
+
+-- The refusals of crate demand's `admit-set` are these.
+pub admit-set-is : (o : SetOpening)
+    → admit-set o ≡ and-then (set-figures (o .sheet)) (opening-room (length (o .history)) (length (o .table)) (length (o .records)))
+admit-set-is o = opening-is (length (o .history)) (length (o .table)) (length (o .records)) (o .sheet)
 
 -- ---- an admitted opening
 
