@@ -26,6 +26,7 @@ pub enum SetOpenAnswer {
     Refused(Refusal),
 }
 
+// The record that stands for none.
 fn no_rule() -> Running
     ensures { λ r. ⌜ r ≡ no-rule ⌝ }
 {
