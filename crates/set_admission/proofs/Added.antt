@@ -1,6 +1,6 @@
 -- The figures and the sums of some rules and one rule more, and how large the sums can be.
 use Prim.Native.Nat.{ℕ, zero, suc, _+_, _*_, _≤_, max}
-use mathlib.Core.Path.{_≡_, refl, sym, ap, _∙_}
+use mathlib.Core.Path.{_≡_, refl, sym, ap}
 use mathlib.Core.List.{List, [], _∷_, _++_}
 use native.Mathlib.Omega.{arith}
 use native.Mathlib.Nat.{add-zero}

@@ -3,7 +3,6 @@ use Prim.Native.Nat.{ℕ, _+_, _*_, _≤_, _<_}
 use mathlib.Core.Path.{_≡_, refl, sym, ap, _∙_}
 use mathlib.Core.Bool.{Bool, true, false, _&&_}
 use mathlib.Core.List.{List}
-use native.Mathlib.Omega.{arith}
 use lib.Dec.{leb}
 use lib.ListN.{length}
 use borrow.Author.Tests.{leb-true, le-leb, lt-leb}
@@ -14,7 +13,7 @@ use Rattle.sheet.specs.Sheet.{rule-count, rule-body}
 use Rattle.rule.specs.declared.Figures.{Figures}
 use Rattle.rule.specs.Figures.{body-figures}
 use Rattle.demand.specs.Contract.{must}
-use Rattle.demand.specs.SetContract.{all-cells, largest, bodies-from, sheet-bodies, all-figures, set-room}
+use Rattle.demand.specs.SetContract.{SetOpening, all-cells, largest, bodies-from, sheet-bodies, all-figures, set-room, admit-set}
 use Rattle.demand.proofs.Admission.{must-passed}
 use Rattle.admission.specs.Admitted.{FiguresWithin}
 use Rattle.set_admission.specs.declared.sheet_figures.SetFigures.{SetFigures}
@@ -68,6 +67,7 @@ module _ (s : List ℕ) where
 
 -- Accepted figures: of a sheet that is laid out, as many as its rules, with few cells.
 pub record Together (s : List ℕ) (fs : List Figures) : Type 0 where
+  pub figures-are : set-figures s ≡ accepted fs
   pub laid : LaidOut s
   pub bodies-are : all-figures (bodies-from (rule-count s) s 0) ≡ accepted fs
   pub as-many : length fs ≡ rule-count s
@@ -83,6 +83,7 @@ together s fs e =
     let l = laid-told s (x .1) in
     let b : all-figures (bodies-from (rule-count s) s 0) ≡ accepted fs = ap all-figures (sym (l .1)) ∙ y .1 ∙ ap accepted same in
     record {
+      figures-are = e;
       laid = l .0;
       bodies-are = b;
       as-many = all-small (bodies-from (rule-count s) s 0) fs b .as-many ∙ length-bodies (rule-count s) s 0;
@@ -168,6 +169,11 @@ module _ (history table records : ℕ) where
                 le-leb (4 * all-cells fs) table (rw are at h₃),
                 le-leb (length fs) records (rw are at h),
               ))
+
+-- The refusals of crate demand's `admit-set` are these.
+pub admit-set-is : (o : SetOpening)
+    → admit-set o ≡ and-then (set-figures (o .sheet)) (opening-room (length (o .history)) (length (o .table)) (length (o .records)))
+admit-set-is o = opening-is (length (o .history)) (length (o .table)) (length (o .records)) (o .sheet)
 
 -- ---- an admitted opening
 

@@ -58,7 +58,7 @@ with-figures sums figures =
       pairs = sums .pairs + (figures .delay + 1);
     }
 
--- The sums of at most 32 rules.
+-- The sums of at most 32 rules, each with at most 4,096 cells and a delay + 1 of at most 256.
 pub record SmallSums (sums : SetFigures) : Type 0 where
   pub some-rules : sums .rules ≤ 32
   pub some-cells : sums .cells ≤ 131072

@@ -104,7 +104,7 @@ fn sum_figures(sheet: &[u8]) -> SetFiguresAnswer
 }
 
 // 27 for more cells in all than a set can have.
-fn limit_cells(answer: SetFiguresAnswer) -> SetFiguresAnswer
+fn limit_all_cells(answer: SetFiguresAnswer) -> SetFiguresAnswer
     ensures { λ r. ⌜ set-figures-answer r ≡ and-then (set-figures-answer answer) few-cells ⌝ }
 {
     match answer {
@@ -125,12 +125,17 @@ pub fn set_figures(sheet: &[u8]) -> SetFiguresAnswer
     let place = sheet::find_rule(sheet, 0);
     match place {
         Found::Refused(refusal) => SetFiguresAnswer::Refused(refusal),
-        Found::At { start: _, size: _ } => limit_cells(sum_figures(sheet)),
+        Found::At { start: _, size: _ } => limit_all_cells(sum_figures(sheet)),
     }
 }
 
 // The opening of rules that need this, with a history, a table and records of these lengths: 17, 18.
-fn fit_opening(sums: SetFigures, history: usize, table: usize, records: usize) -> SetFiguresAnswer
+fn fit_set_opening(
+    sums: SetFigures,
+    history: usize,
+    table: usize,
+    records: usize,
+) -> SetFiguresAnswer
     requires { ⌜ sums .cells ≤ 4096 ⌝ }
     ensures { λ r. ⌜ ((figures : List Figures) → sums ≡ sums-of figures → set-figures-answer r ≡ summed (opening-room history table records figures)) ⌝ }
 {
@@ -156,6 +161,6 @@ pub fn admit_set(sheet: &[u8], history: usize, table: usize, records: usize) -> 
     let answer = set_figures(sheet);
     match answer {
         SetFiguresAnswer::Refused(refusal) => SetFiguresAnswer::Refused(refusal),
-        SetFiguresAnswer::Sized(sums) => fit_opening(sums, history, table, records),
+        SetFiguresAnswer::Sized(sums) => fit_set_opening(sums, history, table, records),
     }
 }

@@ -16,8 +16,8 @@ enum-known-answer c = search needs
 enum-known-answer-2 : tie.Need-enum-known-answer-2
 enum-known-answer-2 c = search needs
 
-fit-opening-requires : tie.Need-fit-opening-requires
-fit-opening-requires c κs =
+fit-set-opening-requires : tie.Need-fit-set-opening-requires
+fit-set-opening-requires c κs =
     let s₀ = c .before .before .before .before .before in
     let x = summed-accepted (set-figures (s₀ .args .sheet .now)) (sym (ap set-figures-answer (c .before .answer2 .given .1)) ∙ c .before .before .before .set-figures .ensures) in
     rw (x .2) (together _ _ (x .1) .few)
@@ -30,7 +30,7 @@ returns-2 : tie.Need-returns-2
 returns-2 c =
     let s₀ = c .before .before .before .before .before .before in
     let x = summed-accepted (set-figures (s₀ .args .sheet .now)) (sym (ap set-figures-answer (c .before .before .answer2 .given .1)) ∙ c .before .before .before .before .set-figures .ensures) in
-    opening-judged _ _ _ _ (x .0) _ (x .1) (c .fit-opening .ensures (x .0) (x .2))
+    opening-judged _ _ _ _ (x .0) _ (x .1) (c .fit-set-opening .ensures (x .0) (x .2))
 
 pub admit-set-spec : {M : Type 1} → statement M
 admit-set-spec =
@@ -39,6 +39,6 @@ admit-set-spec =
     set-figures-requires
     enum-known-answer
     enum-known-answer-2
-    fit-opening-requires
+    fit-set-opening-requires
     returns
     returns-2)

@@ -21,8 +21,8 @@ enum-told c = search needs
 sum-figures-requires : tie.Need-sum-figures-requires
 sum-figures-requires c κs = sheet-laid _ _ (sym (c .before .before .find-rule .ensures) ∙ ap found (c .enum-told .given .1))
 
-limit-cells-requires : tie.Need-limit-cells-requires
-limit-cells-requires c κs = search needs
+limit-all-cells-requires : tie.Need-limit-all-cells-requires
+limit-all-cells-requires c κs = search needs
 
 returns : tie.Need-returns
 returns c = no-figures-of _ _ (sheet-refused _ _ (sym (c .before .before .before .find-rule .ensures) ∙ ap found (c .before .place .given .1)))
@@ -30,7 +30,7 @@ returns c = no-figures-of _ _ (sheet-refused _ _ (sym (c .before .before .before
 returns-2 : tie.Need-returns-2
 returns-2 c =
     figures-of _ _ (sheet-laid _ _ (sym (c .before .before .before .before .find-rule .ensures) ∙ ap found (c .before .before .enum-told .given .1)))
-    (c .limit-cells .ensures ∙ ap (λ answer. and-then answer few-cells) (c .before .sum-figures .ensures))
+    (c .limit-all-cells .ensures ∙ ap (λ answer. and-then answer few-cells) (c .before .sum-figures .ensures))
 
 pub set-figures-spec : {M : Type 1} → statement M
 set-figures-spec =
@@ -40,6 +40,6 @@ set-figures-spec =
     enum-known-place
     enum-told
     sum-figures-requires
-    limit-cells-requires
+    limit-all-cells-requires
     returns
     returns-2)

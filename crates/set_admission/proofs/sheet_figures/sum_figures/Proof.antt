@@ -1,6 +1,6 @@
 -- `set_admission::sum_figures` meets its contract. Assumes nothing.
 use Prim.Native.Nat.{_≤_, _-_}
-use mathlib.Core.Path.{_≡_, refl, ap, _∙_}
+use mathlib.Core.Path.{_≡_, refl, _∙_}
 use native.Mathlib.Omega.{arith}
 use Rattle.refusal.specs.Answer.{and-then}
 use Rattle.sheet.specs.Sheet.{rule-count}

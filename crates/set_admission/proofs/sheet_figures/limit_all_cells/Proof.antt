@@ -1,10 +1,10 @@
--- `set_admission::limit_cells` meets its contract. Assumes nothing.
+-- `set_admission::limit_all_cells` meets its contract. Assumes nothing.
 use borrow.Author.Tests.{le-leb, lt-leb}
 use Rattle.refusal.specs.Answer.{and-then}
 use Rattle.demand.specs.Contract.{must}
 use borrow.Author.Needs.{needs}
-use Rattle.set_admission.proofs.sheet_figures.limit_cells.Statement.{statement}
-use Rattle.set_admission.proofs.sheet_figures.limit_cells.Tie as tie
+use Rattle.set_admission.proofs.sheet_figures.limit_all_cells.Statement.{statement}
+use Rattle.set_admission.proofs.sheet_figures.limit_all_cells.Tie as tie
 
 enum-known-answer : tie.Need-enum-known-answer
 enum-known-answer c = search needs
@@ -24,6 +24,6 @@ returns-3 : tie.Need-returns-3
 unfolding and-then must
 returns-3 c = simp (c .before .before .before .answer2 .given .1, le-leb _ _ (c .if1 .left))
 
-pub limit-cells-spec : {M : Type 1} → statement M
-limit-cells-spec =
+pub limit-all-cells-spec : {M : Type 1} → statement M
+limit-all-cells-spec =
     tie.close (tie.spec enum-known-answer enum-known-answer-2 returns returns-2 returns-3)

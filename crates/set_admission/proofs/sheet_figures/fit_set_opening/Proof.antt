@@ -1,8 +1,8 @@
--- `set_admission::fit_opening` meets its contract. Assumes nothing.
+-- `set_admission::fit_set_opening` meets its contract. Assumes nothing.
 use Rattle.set_admission.proofs.Judged.{opening-short, opening-long, opening-cells, opening-records, opening-fits}
 use borrow.Author.Needs.{needs}
-use Rattle.set_admission.proofs.sheet_figures.fit_opening.Statement.{statement}
-use Rattle.set_admission.proofs.sheet_figures.fit_opening.Tie as tie
+use Rattle.set_admission.proofs.sheet_figures.fit_set_opening.Statement.{statement}
+use Rattle.set_admission.proofs.sheet_figures.fit_set_opening.Tie as tie
 
 returns : tie.Need-returns
 returns c figures are = opening-short _ _ _ figures _ are (c .if1 .taken)
@@ -22,5 +22,5 @@ returns-4 c figures are = opening-records _ _ _ figures _ are (c .before .before
 returns-5 : tie.Need-returns-5
 returns-5 c figures are = opening-fits _ _ _ figures _ are (c .before .before .before .before .if1 .left) (c .before .before .before .if2 .left) (c .before .before .if3 .left) (c .if4 .left)
 
-pub fit-opening-spec : {M : Type 1} → statement M
-fit-opening-spec = tie.close (tie.spec returns returns-2 mul-if3 returns-3 returns-4 returns-5)
+pub fit-set-opening-spec : {M : Type 1} → statement M
+fit-set-opening-spec = tie.close (tie.spec returns returns-2 mul-if3 returns-3 returns-4 returns-5)
