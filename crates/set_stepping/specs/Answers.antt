@@ -7,6 +7,8 @@ use Rattle.demand.specs.declared.Running.{Running}
 use Rattle.demand.specs.SetContract.{SetTaken, SetCounts, running-rules}
 use Rattle.set_stepping.specs.declared.stepping.SetStepAnswer.{SetStepAnswer}
 use Rattle.set_stepping.specs.declared.stepping.SetStepAnswer.the-variants as steps
+use Rattle.set_stepping.specs.declared.batch.SetBatchAnswer.{SetBatchAnswer}
+use Rattle.set_stepping.specs.declared.batch.SetBatchAnswer.the-variants as batches
 
 -- With the running rules of this sheet, in the records as they are then; or the refusal's number.
 abbrev pub set-taken : ℕ → ℕ → List ℕ → List Running → SetTaken
@@ -18,3 +20,7 @@ set-counts taken triples live sheet records = record { taken = taken; triples = 
 abbrev pub set-step-answer : SetStepAnswer → List ℕ → List Running → Answer SetTaken
 set-step-answer (steps.Taken pairs live) sheet records = accepted (set-taken pairs live sheet records)
 set-step-answer (steps.Refused refusal) sheet records = refused (number-of refusal)
+
+abbrev pub set-batch-answer : SetBatchAnswer → List ℕ → List Running → Answer SetCounts
+set-batch-answer (batches.Taken taken triples live) sheet records = accepted (set-counts taken triples live sheet records)
+set-batch-answer (batches.Refused refusal) sheet records = refused (number-of refusal)
