@@ -12,6 +12,7 @@ mod outcome;
 mod rules;
 mod sheet;
 mod usage;
+mod watch;
 
 use answer::{Answer, Stop};
 use arguments::Command;
@@ -34,6 +35,7 @@ fn run(command: Command) -> Result<Answer, Stop> {
         }
         Command::Print { sheet } => rules::print(&sheet),
         Command::Sheet { out, bodies } => sheet::write(&out, &bodies),
+        Command::Watch { sheet } => watch::all_rules(&sheet),
         Command::Help(text) => Ok(Answer::given(text.to_string())),
         Command::Version => {
             Ok(Answer::given(format!("station-watch {}\n", station_watch::VERSION)))
