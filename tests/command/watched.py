@@ -18,8 +18,7 @@ sys.path[:0] = [os.path.join(HERE, "..", "rules"), os.path.join(HERE, "..", "ora
 
 from blocks import data  # noqa: E402
 from notation import compiled  # noqa: E402
-from watch import sheet_of  # noqa: E402
-from watch_sheet import watch_sheet  # noqa: E402
+from watch import sheet_of, watch_all  # noqa: E402
 
 RANDOM_SHEETS = 150
 
@@ -48,7 +47,7 @@ def cases():
 
 def due():
     """The lines of each case, below its name."""
-    return [line for name, sheet, flags in cases() for line in ["case " + name] + watch_sheet(sheet, flags)]
+    return [line for name, sheet, flags in cases() for line in ["case " + name] + watch_all(sheet, flags)]
 
 
 def stored():
@@ -115,7 +114,7 @@ def run_all(program):
     drawn, told, refusals = Random(20), 0, 0
     for _ in range(RANDOM_SHEETS):
         sheet, flags = drawn.sheet(), drawn.flags()
-        lines = watch_sheet(sheet, flags)
+        lines = watch_all(sheet, flags)
         run(program, sheet, flags, lines)
         told += sum(line.startswith("violation") for line in lines)
         refusals += len(lines) == 1
