@@ -83,12 +83,12 @@ pub fn write(path: &Path, bytes: &[u8]) -> Result<(), Failure> {
     File::create(path).and_then(|file| write_whole(file, bytes)).map_err(stop)
 }
 
-/// Writes to standard output, after which nothing more is written.
+/// Writes the last of what goes to standard output.
 pub fn write_output(bytes: &[u8]) -> Result<(), Failure> {
     own(io::stdout()).and_then(|output| write_whole(output, bytes)).map_err(no_output)
 }
 
-/// Writes to standard output what more will follow, so that it is not brought to the disk yet.
+/// Writes lines to standard output that others follow: they are not brought to the disk yet.
 pub fn write_lines(bytes: &[u8]) -> Result<(), Failure> {
     own(io::stdout()).and_then(|output| write_all(&output, bytes)).map_err(no_output)
 }
@@ -103,7 +103,7 @@ pub fn open_input() -> Result<File, Failure> {
 }
 
 /// What the input has now, at the front of the buffer: at least a byte, unless it has ended.
-pub fn read_some<'b>(mut input: impl Read, buffer: &'b mut [u8]) -> Result<&'b [u8], Failure> {
+pub fn read_some(mut input: impl Read, buffer: &mut [u8]) -> Result<&[u8], Failure> {
     let count = again(|| input.read(buffer)).map_err(no_input)?;
     Ok(&buffer[..count])
 }

@@ -1,6 +1,7 @@
 //! The command `station-watch`: what a C programmer calls, a person can type. It has no
-//! logic of its own, but for `column`: it reads arguments and files, asks the library, and
-//! writes what that answers. `usage` says what it takes, prints, and ends with.
+//! logic of its own, but for `column` and for the rule that `watch` names where a sheet is
+//! refused: it reads arguments and files, asks the library, and writes what that answers.
+//! `usage` says what it takes, prints, and ends with.
 
 mod answer;
 mod arguments;

@@ -12,7 +12,7 @@ mod watch;
 
 use answer::{Failure, Stop};
 use station_watch::{sheet_of, Refusal, WatchSet, MAX_TICKS};
-use std::io;
+use std::io::{self, Read};
 use std::str;
 
 /// Flag 0 at X, and flag 1 at X, which have no history and look at no cell of another tick.
@@ -26,7 +26,7 @@ fn near_the_end(left: u32) -> WatchSet {
 }
 
 /// What is written, and how it ends.
-fn followed(left: u32, flags: &[u8]) -> (String, Result<u64, Stop>) {
+fn followed(left: u32, flags: impl Read) -> (String, Result<u64, Stop>) {
     let mut written = String::new();
     let write = |bytes: &[u8]| {
         written += str::from_utf8(bytes).unwrap();
@@ -43,15 +43,16 @@ fn tick_numbers_are_used_up() {
                 violation 1 4294967293 at 4294967293\n\
                 violation 0 4294967294 at 4294967294\n\
                 violation 1 4294967294 at 4294967294\n";
-    let (written, ended) = followed(3, &[2, 1, 0, 0]);
+    let (written, ended) = followed(3, &[2, 1, 0, 0][..]);
     assert_eq!(written, told);
     assert!(matches!(ended, Err(Stop::Refused(Refusal::TicksUsedUp))));
     // The last tick is taken, and the input may end there.
-    let (written, ended) = followed(3, &[2, 1, 0]);
+    let (written, ended) = followed(3, &[2, 1, 0][..]);
     assert_eq!(written, told);
     assert!(matches!(ended, Ok(4)));
-    let (written, ended) = followed(0, &[0]);
-    assert_eq!(written, "");
+    // Two reads, and the second brings the byte that is refused.
+    let (written, ended) = followed(3, [2, 1, 0].chain(&[0, 0][..]));
+    assert_eq!(written, told);
     assert!(matches!(ended, Err(Stop::Refused(Refusal::TicksUsedUp))));
 }
 

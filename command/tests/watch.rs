@@ -6,7 +6,7 @@ mod common;
 
 use common::*;
 use std::fs::{self, File};
-use std::io::{BufRead, BufReader, ErrorKind, Read, Write};
+use std::io::{BufRead, BufReader, ErrorKind, Read, Seek, Write};
 use std::net::Shutdown;
 use std::os::fd::OwnedFd;
 use std::path::Path;
@@ -67,7 +67,7 @@ fn no_input() {
 #[test]
 fn a_long_input() {
     let folder = Folder::new("a_long_input");
-    let flags: Vec<u8> = (0..100_000_u32).map(|tick| (tick * tick >> 7) as u8).collect();
+    let flags: Vec<u8> = (0..100_000_u64).map(|tick| (tick * tick / 128) as u8).collect();
     let file = File::open(folder.file("flags", &flags)).unwrap();
     let mut command = command(&["watch", &folder.sheet(&EITHER)]);
     let said = said(command.stdin(file).output().unwrap());
@@ -112,10 +112,14 @@ fn no_sheet() {
 #[test]
 fn a_refused_rule_among_others() {
     let folder = Folder::new("a_refused_rule_among_others");
-    let of = |bodies: &[&str], rule: usize, stdout: &str| {
+    let mut flags = File::open(folder.file("flags", &FLAGS)).unwrap();
+    let mut of = |bodies: &[&str], rule: usize, stdout: &str| {
         let sheet = folder.sheet(bodies);
+        let mut command = command(&["watch", &sheet]);
+        let said = said(command.stdin(flags.try_clone().unwrap()).output().unwrap());
         let named = format!("station-watch: rule {rule} of {sheet} is refused\n");
-        assert_eq!(ask_with_input(&["watch", &sheet], &FLAGS), refused(&named, stdout));
+        assert_eq!(said, refused(&named, stdout));
+        assert_eq!(flags.stream_position().unwrap(), 0); // which both have
     };
     let many = "refused 15: more than 4,096 cells\n";
     of(&[EXAMPLE, WIDE, "010000"], 1, many);

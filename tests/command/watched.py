@@ -20,7 +20,7 @@ from blocks import data  # noqa: E402
 from notation import compiled  # noqa: E402
 from watch import sheet_of, watch_all  # noqa: E402
 
-RANDOM_SHEETS = 150
+RANDOM_SHEETS = 200
 
 
 # ---- the stored cases
@@ -65,10 +65,10 @@ def stored():
 
 
 class Random(random.Random):
-    """Rules of up to three formulas in one another."""
+    """Rules of up to four formulas in one another."""
 
     def bound(self, variables):
-        return "%s%+d" % (self.choice(variables), self.randint(-3, 3))
+        return "%s%+d" % (self.choice(variables), self.randint(-4, 4))
 
     def formula(self, variables, depth):
         form = self.choice(["flag", "not", "pair", "all", "all"]) if depth else "flag"
@@ -83,7 +83,7 @@ class Random(random.Random):
         return "forall %s in %s..%s : %s" % (name, first, last, self.formula(variables + [name], depth - 1))
 
     def sheet(self):
-        rules = ["monitor x : " + self.formula(["x"], 3) for _ in range(self.randint(1, 8))]
+        rules = ["monitor x : " + self.formula(["x"], 4) for _ in range(self.randint(1, 8))]
         return sheet_of([compiled(text) for text in rules])
 
     def flags(self):
@@ -119,7 +119,7 @@ def run_all(program):
         told += sum(line.startswith("violation") for line in lines)
         refusals += len(lines) == 1
     # So that not all of them come to nothing.
-    if told < 10_000 or not 1 <= refusals <= RANDOM_SHEETS // 4:
+    if told < 5_000 or refusals > RANDOM_SHEETS // 4:
         raise SystemExit("tests/command: the random sheets told %d violations and %d were refused" % (told, refusals))
     print("tests/command: %d cases, and %d random sheets with %d violations" % (len(cases()), RANDOM_SHEETS, told))
 
