@@ -20,7 +20,7 @@ mod ways;
 
 use cases::{ahead, behind, cases, find, stream, STREAMS};
 use rust_tests::paper::Formula;
-use sets::{open_rules, several, KINDS, RULE_COUNTS, SET_WAYS};
+use sets::{open_rules, several, KINDS, MIXED, RULE_COUNTS, SET_WAYS};
 use std::env;
 use ways::{open, rule_figures, Way, WAYS};
 
@@ -162,10 +162,14 @@ fn print_times() {
     });
 }
 
-/// A table of sets: all rules at once against each by itself.
+/// A table of several rules: all at once against each by itself.
 fn print_set_times() {
     println!("\nNanoseconds a step of all rules (median of rounds in turns).\n");
-    println!("| rules, stream | cells | set, step | singly, step | set, batch | singly, batch | step, set : singly | batch, set : singly |");
+    println!("- mixed: {}, again and again", MIXED.join("; "));
+    println!(
+        "\n| rules, stream | cells | set, step | singly, step | set, batch | singly, batch \
+         | step, set : singly | batch, set : singly |"
+    );
     println!("|---|---|---|---|---|---|---|---|");
     for (kind, count) in rule_sets() {
         let rules = several(kind, count);
@@ -174,7 +178,8 @@ fn print_set_times() {
             let ways = SET_WAYS.map(|way| open_rules(way, &rules));
             let [step, steps, batch, batches] = time::nanoseconds(ways, &stream(of, LENGTH));
             println!(
-                "| {count} {kind}, {of} | {cells} | {step:.0} | {steps:.0} | {batch:.0} | {batches:.0} | {:.2} | {:.2} |",
+                "| {count} {kind}, {of} | {cells} | {step:.0} | {steps:.0} | {batch:.0} \
+                 | {batches:.0} | {:.2} | {:.2} |",
                 step / steps,
                 batch / batches
             );

@@ -1,7 +1,7 @@
 //! Several rules on one stream: as a set, all of them in each call, and each by itself, one
 //! call after the other.
 
-use crate::cases::{ahead, behind, find};
+use crate::cases::find;
 use crate::ways::{Batch, Library, Single, Tally, Way};
 use rust_tests::paper::{write_body, Formula};
 use station_watch::{sheet_of, Triple, WatchSet};
@@ -12,17 +12,14 @@ pub const RULE_COUNTS: [usize; 3] = [1, 8, 32];
 /// What rules there are: a rule again and again, or eight of different sizes.
 pub const KINDS: [&str; 3] = ["flag", "example", "mixed"];
 
+/// Eight rules with 832 cells together, so that 32 of them can be opened as a set.
+pub const MIXED: [&str; 8] =
+    ["then", "flag", "example", "behind 15", "beside", "ahead 3", "nested, not", "ahead 7"];
+
 /// So many rules of a kind.
 pub fn several(kind: &str, count: usize) -> Vec<Formula> {
-    let all = if kind == "mixed" { mixed() } else { vec![find(kind)] };
-    all.iter().cycle().take(count).cloned().collect()
-}
-
-/// Eight rules with 832 cells together, so that 32 of them can be opened as a set.
-fn mixed() -> Vec<Formula> {
-    let [then, beside, example] = ["then", "beside", "example"].map(find);
-    let [flag, not] = ["flag", "nested, not"].map(find);
-    vec![then, flag, example, behind(15), beside, ahead(3), not, ahead(7)]
+    let names = if kind == "mixed" { MIXED.to_vec() } else { vec![kind] };
+    names.iter().map(|name| find(name)).cycle().take(count).collect()
 }
 
 pub const SET_WAYS: [&str; 4] = ["set, step", "singly, step", "set, batch", "singly, batch"];

@@ -11,11 +11,16 @@ use std::net::Shutdown;
 use std::os::fd::OwnedFd;
 use std::path::Path;
 use std::process::Stdio;
-use std::thread::sleep;
+use std::sync::mpsc;
+use std::thread::{self, sleep};
+use std::time::{Duration, Instant};
 
 /// Flag 0 at X, and not flag 0 at X: each flag byte breaks one of them, at its own step.
 const EITHER: [&str; 2] = ["010000", "02 010000"];
 const EITHER_FIGURES: &str = "rule 0 history 0 delay 0 cells 1\nrule 1 history 0 delay 0 cells 1\n";
+
+/// Longer than the command takes for anything here.
+const LONG: Duration = Duration::from_secs(60);
 
 /// What is told of these two rules.
 fn either(flags: &[u8]) -> String {
@@ -161,8 +166,10 @@ fn a_pipe_is_followed() {
     let folder = Folder::new("a_pipe_is_followed");
     let mut child = start(&["watch", &folder.sheet(&[EXAMPLE, EITHER[0]])]);
     let mut flags = child.stdin.take().unwrap();
-    let mut lines = BufReader::new(child.stdout.take().unwrap()).lines();
-    let mut line = || lines.next().unwrap().unwrap();
+    let lines = BufReader::new(child.stdout.take().unwrap()).lines();
+    let (tell, told) = mpsc::channel();
+    thread::spawn(move || lines.for_each(|line| tell.send(line.unwrap()).unwrap()));
+    let line = || told.recv_timeout(LONG).unwrap();
     assert_eq!(line(), "rule 0 history 1 delay 2 cells 21");
     assert_eq!(line(), "rule 1 history 0 delay 0 cells 1");
     for (tick, flag) in FLAGS.into_iter().enumerate() {
@@ -236,8 +243,12 @@ fn output_into_a_closed_pipe() {
     drop(child.stdout.take());
     flags.write_all(&FLAGS).unwrap();
     // It does not wait for the end of its input, which stays open.
+    let began = Instant::now();
+    while child.try_wait().unwrap().is_none() && began.elapsed() < LONG {
+        sleep(A_WHILE);
+    }
+    let still_read = flags.write_all(&FLAGS).map_err(|error| error.kind());
+    assert_eq!(still_read, Err(ErrorKind::BrokenPipe));
     let due = "station-watch: cannot write standard output: Broken pipe (os error 32)\n";
-    let output = child.wait_with_output().unwrap();
-    assert_eq!(said(output), failed(due));
-    assert_eq!(flags.write_all(&FLAGS).map_err(|error| error.kind()), Err(ErrorKind::BrokenPipe));
+    assert_eq!(said(child.wait_with_output().unwrap()), failed(due));
 }
