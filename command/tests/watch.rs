@@ -10,9 +10,9 @@ use std::io::{BufRead, BufReader, ErrorKind, Read, Seek, Write};
 use std::net::Shutdown;
 use std::os::fd::OwnedFd;
 use std::path::Path;
-use std::process::Stdio;
+use std::process::{Child, Stdio};
 use std::sync::mpsc;
-use std::thread::{self, sleep};
+use std::thread::{self, sleep, JoinHandle};
 use std::time::{Duration, Instant};
 
 /// Flag 0 at X, and not flag 0 at X: each flag byte breaks one of them, at its own step.
@@ -160,16 +160,21 @@ fn input_that_cannot_be_read() {
     assert_eq!(said, (EITHER_FIGURES.to_string(), due.to_string(), 2));
 }
 
+/// Gives so many lines of its output, each when it comes. Then the output is closed.
+fn lines_of(child: &mut Child, count: usize) -> (impl Fn() -> String, JoinHandle<()>) {
+    let lines = BufReader::new(child.stdout.take().unwrap()).lines().take(count);
+    let (tell, told) = mpsc::channel();
+    let tell_all = move || lines.for_each(|line| tell.send(line.unwrap()).unwrap());
+    (move || told.recv_timeout(LONG).unwrap(), thread::spawn(tell_all))
+}
+
 /// Each byte of a pipe that stays open gets its line before the next one comes.
 #[test]
 fn a_pipe_is_followed() {
     let folder = Folder::new("a_pipe_is_followed");
     let mut child = start(&["watch", &folder.sheet(&[EXAMPLE, EITHER[0]])]);
     let mut flags = child.stdin.take().unwrap();
-    let lines = BufReader::new(child.stdout.take().unwrap()).lines();
-    let (tell, told) = mpsc::channel();
-    thread::spawn(move || lines.for_each(|line| tell.send(line.unwrap()).unwrap()));
-    let line = || told.recv_timeout(LONG).unwrap();
+    let (line, _) = lines_of(&mut child, usize::MAX);
     assert_eq!(line(), "rule 0 history 1 delay 2 cells 21");
     assert_eq!(line(), "rule 1 history 0 delay 0 cells 1");
     for (tick, flag) in FLAGS.into_iter().enumerate() {
@@ -237,10 +242,9 @@ fn output_into_a_closed_pipe() {
     let folder = Folder::new("output_into_a_closed_pipe");
     let mut child = start(&["watch", &folder.sheet(&EITHER)]);
     let mut flags = child.stdin.take().unwrap();
-    let mut figures = vec![0; EITHER_FIGURES.len()];
-    child.stdout.as_mut().unwrap().read_exact(&mut figures).unwrap();
-    assert_eq!(figures, EITHER_FIGURES.as_bytes());
-    drop(child.stdout.take());
+    let (line, closing) = lines_of(&mut child, 2);
+    assert_eq!(line() + "\n" + &line() + "\n", EITHER_FIGURES);
+    closing.join().unwrap();
     flags.write_all(&FLAGS).unwrap();
     // It does not wait for the end of its input, which stays open.
     let began = Instant::now();
