@@ -3,7 +3,7 @@
 together (document 02, point 4).
 
   watch.py print SHEET FLAGS      what watch prints for these two files; one that is missing counts as empty
-  watch.py set SHEET FLAGS        what examples/c/sets.c prints for them: all rules at once
+  watch.py set SHEET FLAGS        what `station-watch watch` and examples/c/sets.c print for them: all rules at once
   watch.py refusals CASES         what crates/cases must print for the sheets of its file data/sheets.txt
   watch.py long FOLDER            makes the sheet and the flags of crates/watch_long in a folder
   watch.py large FOLDER           the same of crates/watch_large_sheet
