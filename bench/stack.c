@@ -140,11 +140,18 @@ static size_t sheet_size;
 static uint8_t state[SW_STATE_BYTES];
 static uint8_t history[SW_MAX_HISTORY];
 static uint32_t cells[SW_MAX_CELL_WORDS];
-static uint32_t report[SW_MAX_BATCH_REPORT];
+static uint32_t report[SW_MAX_SET_BATCH_REPORT];
 static const uint8_t flags[FLAGS] = { 0xFF, 0xFF, 0x00, 0xFF };
 static size_t numbers[4];
 static uint64_t figures[3];
 static uint32_t verdict;
+
+/* The same body as often as a set can have it, with cells of its own. */
+static uint8_t set_sheet[SW_MAX_SHEET];
+static size_t set_sheet_size;
+static sw_running records[SW_MAX_RULES];
+static uint8_t set_history[SW_MAX_HISTORY];
+static uint32_t set_cells[SW_MAX_CELL_WORDS];
 
 static uint32_t call_nothing(void)
 {
@@ -213,6 +220,35 @@ static uint32_t call_steps(void)
                     report, SW_MAX_BATCH_REPORT, &numbers[0], &numbers[1], &numbers[2]);
 }
 
+static uint32_t call_set_figures(void)
+{
+    return sw_set_figures(set_sheet, set_sheet_size, &numbers[0], &figures[0], &figures[1], &figures[2]);
+}
+
+static uint32_t call_set_open(void)
+{
+    return sw_set_open(set_sheet, set_sheet_size, records, SW_MAX_RULES, set_history, SW_MAX_HISTORY,
+                       set_cells, SW_MAX_CELL_WORDS);
+}
+
+static uint32_t call_set_step(void)
+{
+    uint32_t refusal = 0;
+
+    for (int k = 0; k < FLAGS && refusal == 0; k++)
+        refusal = sw_set_step(set_sheet, set_sheet_size, records, SW_MAX_RULES, flags[k],
+                              set_history, SW_MAX_HISTORY, set_cells, SW_MAX_CELL_WORDS,
+                              report, SW_MAX_SET_REPORT, &numbers[0], &numbers[1]);
+    return refusal;
+}
+
+static uint32_t call_set_steps(void)
+{
+    return sw_set_steps(set_sheet, set_sheet_size, records, SW_MAX_RULES, flags, FLAGS,
+                        set_history, SW_MAX_HISTORY, set_cells, SW_MAX_CELL_WORDS,
+                        report, SW_MAX_SET_BATCH_REPORT, &numbers[0], &numbers[1], &numbers[2]);
+}
+
 static uint32_t call_sentence(void)
 {
     static uint8_t out[SW_MAX_SENTENCE];
@@ -235,6 +271,10 @@ static struct function {
     { "sw_open", call_open, 0, "" },
     { "sw_step", call_step, 0, "" },
     { "sw_steps", call_steps, 0, "" },
+    { "sw_set_figures", call_set_figures, 0, "" },
+    { "sw_set_open", call_set_open, 0, "" },
+    { "sw_set_step", call_set_step, 0, "" },
+    { "sw_set_steps", call_set_steps, 0, "" },
     { "sw_sentence", call_sentence, 0, "" },
 };
 
@@ -312,7 +352,28 @@ static void measure(struct function *f, const char *name, uint32_t due)
     }
 }
 
-/* The body of one way, its text, its sheet, and its opening. */
+/* The sheet of as many of the body as a set can have, and its opening. */
+static void prepare_set(void)
+{
+    static uint8_t bodies[SW_MAX_RULES * MAX_BODY];
+    static uint16_t lengths[SW_MAX_RULES];
+    size_t count = SW_MAX_RULES;
+
+    if (call_figures() != 0)
+        fail("a body has no figures");
+    if (count > SW_MAX_CELLS / figures[2])
+        count = SW_MAX_CELLS / figures[2];
+    for (size_t k = 0; k < count; k++) {
+        lengths[k] = (uint16_t)body.size;
+        memcpy(bodies + k * body.size, body.bytes, body.size);
+    }
+    if (sw_write_sheet(lengths, count, bodies, count * body.size, set_sheet, sizeof set_sheet, &set_sheet_size) != 0)
+        fail("a set has no sheet");
+    if (call_set_open() != 0)
+        fail("a set cannot be opened");
+}
+
+/* The body of one way, its text, its sheets, and their openings. */
 static void prepare(const char *way)
 {
     body.size = 0;
@@ -323,6 +384,7 @@ static void prepare(const char *way)
     sheet_size = sheet_of(&body, sheet);
     if (call_open() != 0)
         fail("a body cannot be opened");
+    prepare_set();
 }
 
 static void measure_all(const char *way, const char *name)

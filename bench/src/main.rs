@@ -6,20 +6,23 @@
 //!     bench run WAY RULE STREAM STEPS
 //!
 //! Ways: the library step by step, the library in batches, the same incremental
-//! engine plainly in Rust, and evaluating every open tick anew at each step.
+//! engine plainly in Rust, and evaluating every open tick anew at each step. Of several
+//! rules: all at once, as a set, and each by itself, both step by step and in batches.
 
 mod anew;
 mod cases;
 mod instructions;
 mod outcome;
 mod plain;
+mod sets;
 mod time;
 mod ways;
 
 use cases::{ahead, behind, cases, find, stream, STREAMS};
 use rust_tests::paper::Formula;
+use sets::{open_rules, several, KINDS, MIXED, RULE_COUNTS, SET_WAYS};
 use std::env;
-use ways::{open, rule_figures, WAYS};
+use ways::{open, rule_figures, Way, WAYS};
 
 /// Flag bytes of a stream.
 const LENGTH: usize = 65_536;
@@ -33,9 +36,14 @@ fn main() {
     match words[..] {
         [] => {
             agree();
+            agree_on_sets();
             print_times();
+            print_set_times();
         }
-        ["agree"] => agree(),
+        ["agree"] => {
+            agree();
+            agree_on_sets();
+        }
         ["instructions"] => print_instructions(),
         ["run", way, rule, stream, steps] => run(way, rule, stream, steps),
         _ => panic!("bench [agree | instructions | run WAY RULE STREAM STEPS]"),
@@ -57,17 +65,21 @@ fn rules() -> Vec<(String, Formula)> {
     named.chain(before).chain(after).collect()
 }
 
-/// All four ways must report the same, and have the same ticks open.
+/// These ways must report the same, and have the same ticks open.
+fn agree_on(name: &str, of: &str, mut ways: [Box<dyn Way>; 4]) {
+    let flags = stream(of, 3_000);
+    let seen = ways.each_mut().map(|way| {
+        way.take(&flags);
+        (way.tally(), way.live())
+    });
+    assert!(seen.iter().all(|s| *s == seen[0]), "{name}, {of}: {seen:?}");
+}
+
+/// All four ways of one rule.
 fn agree() {
     for (name, rule) in rules() {
         for (of, _) in STREAMS {
-            let flags = stream(of, 3_000);
-            let seen = WAYS.map(|way| {
-                let mut watch = open(way, &rule);
-                watch.take(&flags);
-                (watch.tally(), watch.live())
-            });
-            assert!(seen.iter().all(|s| *s == seen[0]), "{name}, {of}: {WAYS:?} {seen:?}");
+            agree_on(&name, of, WAYS.map(|way| open(way, &rule)));
         }
     }
     println!(
@@ -75,6 +87,27 @@ fn agree() {
         rules().len(),
         STREAMS.len()
     );
+}
+
+/// All four ways of several rules.
+fn agree_on_sets() {
+    for (kind, count) in rule_sets() {
+        let rules = several(kind, count);
+        for (of, _) in STREAMS {
+            let name = format!("{count} rules, {kind}");
+            agree_on(&name, of, SET_WAYS.map(|way| open_rules(way, &rules)));
+        }
+    }
+    println!(
+        "All four ways of several rules agree: {} sets, {} streams, 3000 steps each.",
+        rule_sets().len(),
+        STREAMS.len()
+    );
+}
+
+/// The sets that are measured.
+fn rule_sets() -> Vec<(&'static str, usize)> {
+    KINDS.iter().flat_map(|kind| RULE_COUNTS.map(|count| (*kind, count))).collect()
 }
 
 fn print_head(first: &str) {
@@ -124,7 +157,34 @@ fn print_times() {
     println!("\nNanoseconds a step (median of rounds in turns).");
     let flags = STREAMS.map(|(of, _)| (of, stream(of, LENGTH)));
     let named = |of: &str| &flags.iter().find(|f| f.0 == of).expect("a stream").1;
-    print_tables(&STREAMS.map(|s| s.0), |_, rule, of| time::nanoseconds(rule, named(of)));
+    print_tables(&STREAMS.map(|s| s.0), |_, rule, of| {
+        time::nanoseconds(WAYS.map(|way| open(way, rule)), named(of))
+    });
+}
+
+/// A table of several rules: all at once against each by itself.
+fn print_set_times() {
+    println!("\nNanoseconds a step of all rules (median of rounds in turns).\n");
+    println!("- mixed: {}, again and again", MIXED.join("; "));
+    println!(
+        "\n| rules, stream | cells | set, step | singly, step | set, batch | singly, batch \
+         | step, set : singly | batch, set : singly |"
+    );
+    println!("|---|---|---|---|---|---|---|---|");
+    for (kind, count) in rule_sets() {
+        let rules = several(kind, count);
+        let cells: usize = rules.iter().map(|rule| rule_figures(rule).cells).sum();
+        for of in ["up", "noise"] {
+            let ways = SET_WAYS.map(|way| open_rules(way, &rules));
+            let [step, steps, batch, batches] = time::nanoseconds(ways, &stream(of, LENGTH));
+            println!(
+                "| {count} {kind}, {of} | {cells} | {step:.0} | {steps:.0} | {batch:.0} \
+                 | {batches:.0} | {:.2} | {:.2} |",
+                step / steps,
+                batch / batches
+            );
+        }
+    }
 }
 
 fn print_instructions() {

@@ -2,8 +2,7 @@
 //! so that what else the machine does falls on all of them; of the rounds the
 //! median is taken.
 
-use crate::ways::{open, Way, WAYS};
-use rust_tests::paper::Formula;
+use crate::ways::Way;
 use std::time::{Duration, Instant};
 
 const ROUNDS: usize = 31;
@@ -21,9 +20,8 @@ struct Runner<'a> {
 }
 
 impl<'a> Runner<'a> {
-    fn new(way: &str, rule: &Formula, flags: &'a [u8]) -> Runner<'a> {
-        let mut runner =
-            Runner { way: open(way, rule), flags, at: 0, steps: 1, rounds: Vec::new() };
+    fn new(way: Box<dyn Way>, flags: &'a [u8]) -> Runner<'a> {
+        let mut runner = Runner { way, flags, at: 0, steps: 1, rounds: Vec::new() };
         while runner.steps < flags.len() && runner.take() < ROUND / 2 {
             runner.steps *= 2;
         }
@@ -54,8 +52,8 @@ impl<'a> Runner<'a> {
 }
 
 /// Nanoseconds a step, for each way.
-pub fn nanoseconds(rule: &Formula, flags: &[u8]) -> [f64; WAYS.len()] {
-    let mut runners = WAYS.map(|way| Runner::new(way, rule, flags));
+pub fn nanoseconds<const N: usize>(ways: [Box<dyn Way>; N], flags: &[u8]) -> [f64; N] {
+    let mut runners = ways.map(|way| Runner::new(way, flags));
     for _ in 0..ROUNDS {
         runners.iter_mut().for_each(Runner::round);
     }

@@ -17,7 +17,22 @@ pub struct Tally {
 impl Tally {
     pub fn add(&mut self, tick: u64, step: u64) {
         self.violations += 1;
-        self.folded = self.folded.wrapping_mul(0x9E37_79B9_7F4A_7C15) ^ (tick << 32 | step);
+        self.fold(tick << 32 | step);
+    }
+
+    fn fold(&mut self, number: u64) {
+        self.folded = self.folded.wrapping_mul(0x9E37_79B9_7F4A_7C15) ^ number;
+    }
+
+    /// The violations of several rules, which a set brings in another order than each by
+    /// itself.
+    pub fn of_all(tallies: impl IntoIterator<Item = Tally>) -> Tally {
+        let mut all = Tally::default();
+        for tally in tallies {
+            all.violations += tally.violations;
+            all.fold(tally.folded);
+        }
+        all
     }
 }
 
@@ -50,13 +65,13 @@ pub fn rule_figures(rule: &Formula) -> Figures {
 }
 
 /// The library, with what it reported.
-struct Library {
+pub struct Library {
     watch: Watch,
     tally: Tally,
 }
 
 impl Library {
-    fn open(rule: &Formula) -> Library {
+    pub fn open(rule: &Formula) -> Library {
         let sheet = sheet_of(&[&write_body(rule)]).expect("a body of 1 to 512 bytes");
         let watch = Watch::open(&sheet, 0).expect("a rule that can be opened");
         Library { watch, tally: Tally::default() }
@@ -64,7 +79,7 @@ impl Library {
 }
 
 /// The library, a call for each flag byte.
-struct Single(Library);
+pub struct Single(pub Library);
 
 impl Way for Single {
     fn take(&mut self, flags: &[u8]) {
@@ -86,7 +101,7 @@ impl Way for Single {
 }
 
 /// The library, as many flag bytes a call as the report has room for.
-struct Batch(Library);
+pub struct Batch(pub Library);
 
 impl Way for Batch {
     fn take(&mut self, flags: &[u8]) {

@@ -72,12 +72,17 @@ fn print(answer: Answer) -> Result<u8, Failure> {
     Ok(if answer.refused { REFUSED } else { ANSWERED })
 }
 
-/// What went wrong, on standard error. Where even that fails, the exit status tells.
+/// What went wrong, on standard error.
 fn complain(failure: &Failure) {
     let text = match failure {
         Failure::Usage(said, usage) => format!("{said}\n{}", usage.trim_end()),
         Failure::Read(name, error) => format!("cannot read {name}: {error}"),
         Failure::Write(name, error) => format!("cannot write {name}: {error}"),
     };
+    remark(&text);
+}
+
+/// Says something on standard error. Where even that fails, the exit status tells.
+pub fn remark(text: &str) {
     let _ = writeln!(io::stderr(), "station-watch: {text}");
 }

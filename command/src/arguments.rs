@@ -13,6 +13,7 @@ pub enum Command {
     Outcome { sheet: PathBuf, rule: usize, flags: PathBuf, tick: usize },
     Print { sheet: PathBuf },
     Sheet { out: PathBuf, bodies: Vec<Vec<u8>> },
+    Watch { sheet: PathBuf },
     Help(&'static str),
     Version,
 }
@@ -58,6 +59,7 @@ fn command(name: &str, rest: &[OsString]) -> Result<Command, Failure> {
         ("sheet", [out, bodies @ ..]) => {
             Ok(Command::Sheet { out: out.into(), bodies: all_bytes(bodies, usage)? })
         }
+        ("watch", [sheet]) => Ok(Command::Watch { sheet: sheet.into() }),
         _ => Err(wrong_number(name, rest, usage::line(usage))),
     }
 }

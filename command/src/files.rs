@@ -15,6 +15,9 @@ use std::time::Duration;
 /// The most bytes of a file of rules: 32 of the longest texts, and much room for comments.
 const MAX_RULES_FILE: usize = 1 << 20;
 
+/// What standard input is called.
+const INPUT: &str = "standard input";
+
 /// How long to wait before a read or a write that would block is tried again.
 const WAIT: Duration = Duration::from_millis(5);
 
@@ -57,7 +60,7 @@ fn is_input(path: &Path) -> bool {
 
 fn input_name(path: &Path) -> String {
     if is_input(path) {
-        return "standard input".to_string();
+        return INPUT.to_string();
     }
     path.display().to_string()
 }
@@ -66,8 +69,7 @@ fn read_or_input(path: &Path, most: usize) -> Result<Vec<u8>, Failure> {
     if !is_input(path) {
         return read(path, most);
     }
-    let stop = |error| Failure::Read(input_name(path), error);
-    own(io::stdin()).and_then(|input| read_up_to(input, most)).map_err(stop)
+    own(io::stdin()).and_then(|input| read_up_to(input, most)).map_err(no_input)
 }
 
 fn read(path: &Path, most: usize) -> Result<Vec<u8>, Failure> {
@@ -81,10 +83,33 @@ pub fn write(path: &Path, bytes: &[u8]) -> Result<(), Failure> {
     File::create(path).and_then(|file| write_whole(file, bytes)).map_err(stop)
 }
 
-/// Writes to standard output.
+/// Writes the last of what goes to standard output.
 pub fn write_output(bytes: &[u8]) -> Result<(), Failure> {
-    let stop = |error| Failure::Write("standard output".to_string(), error);
-    own(io::stdout()).and_then(|output| write_whole(output, bytes)).map_err(stop)
+    own(io::stdout()).and_then(|output| write_whole(output, bytes)).map_err(no_output)
+}
+
+/// Writes lines to standard output that others follow: they are not brought to the disk yet.
+pub fn write_lines(bytes: &[u8]) -> Result<(), Failure> {
+    own(io::stdout()).and_then(|output| write_all(&output, bytes)).map_err(no_output)
+}
+
+fn no_output(error: io::Error) -> Failure {
+    Failure::Write("standard output".to_string(), error)
+}
+
+/// Standard input, whose bytes are taken as they come.
+pub fn open_input() -> Result<File, Failure> {
+    own(io::stdin()).map_err(no_input)
+}
+
+/// What the input has now, at the front of the buffer: at least a byte, unless it has ended.
+pub fn read_some(mut input: impl Read, buffer: &mut [u8]) -> Result<&[u8], Failure> {
+    let count = again(|| input.read(buffer)).map_err(no_input)?;
+    Ok(&buffer[..count])
+}
+
+fn no_input(error: io::Error) -> Failure {
+    Failure::Read(INPUT.to_string(), error)
 }
 
 /// Standard input or output as a file: with no buffer in between, and no error passed
@@ -106,7 +131,7 @@ fn read_up_to(mut from: impl Read, most: usize) -> io::Result<Vec<u8>> {
     Ok(bytes)
 }
 
-fn write_whole(mut to: File, bytes: &[u8]) -> io::Result<()> {
+fn write_all(mut to: &File, bytes: &[u8]) -> io::Result<()> {
     let mut rest = bytes;
     while !rest.is_empty() {
         match again(|| to.write(rest))? {
@@ -114,6 +139,11 @@ fn write_whole(mut to: File, bytes: &[u8]) -> io::Result<()> {
             some => rest = &rest[some..],
         }
     }
+    Ok(())
+}
+
+fn write_whole(to: File, bytes: &[u8]) -> io::Result<()> {
+    write_all(&to, bytes)?;
     to.sync_all().or_else(|error| match error.kind() {
         ErrorKind::InvalidInput | ErrorKind::Unsupported => Ok(()), // nothing to be brought to a disk
         _ => Err(error),

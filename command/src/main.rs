@@ -1,6 +1,7 @@
 //! The command `station-watch`: what a C programmer calls, a person can type. It has no
-//! logic of its own, but for `column`: it reads arguments and files, asks the library, and
-//! writes what that answers. `usage` says what it takes, prints, and ends with.
+//! logic of its own, but for `column` and for the rule that `watch` names where a sheet is
+//! refused: it reads arguments and files, asks the library, and writes what that answers.
+//! `usage` says what it takes, prints, and ends with.
 
 mod answer;
 mod arguments;
@@ -12,6 +13,7 @@ mod outcome;
 mod rules;
 mod sheet;
 mod usage;
+mod watch;
 
 use answer::{Answer, Stop};
 use arguments::Command;
@@ -34,6 +36,7 @@ fn run(command: Command) -> Result<Answer, Stop> {
         }
         Command::Print { sheet } => rules::print(&sheet),
         Command::Sheet { out, bodies } => sheet::write(&out, &bodies),
+        Command::Watch { sheet } => watch::all_rules(&sheet),
         Command::Help(text) => Ok(Answer::given(text.to_string())),
         Command::Version => {
             Ok(Answer::given(format!("station-watch {}\n", station_watch::VERSION)))

@@ -7,6 +7,7 @@ pub const FIGURES: &str = include_str!("../usage/figures.txt");
 pub const OUTCOME: &str = include_str!("../usage/outcome.txt");
 pub const PRINT: &str = include_str!("../usage/print.txt");
 pub const SHEET: &str = include_str!("../usage/sheet.txt");
+pub const WATCH: &str = include_str!("../usage/watch.txt");
 
 /// The usage of a command by its name.
 pub fn of(command: &str) -> Option<&'static str> {
@@ -16,6 +17,7 @@ pub fn of(command: &str) -> Option<&'static str> {
         "outcome" => Some(OUTCOME),
         "print" => Some(PRINT),
         "sheet" => Some(SHEET),
+        "watch" => Some(WATCH),
         _ => None,
     }
 }

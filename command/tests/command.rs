@@ -1,101 +1,22 @@
 //! The command as it is run: what it prints on standard output and standard error, and
 //! its exit status.
 
+mod common;
+
+use common::*;
 use std::fs::{self, File};
 use std::io::{ErrorKind, Read, Write};
 use std::net::Shutdown;
 use std::os::fd::OwnedFd;
-use std::os::unix::net::UnixStream;
-use std::path::{Path, PathBuf};
-use std::process::{self, Child, Command, Output, Stdio};
+use std::path::Path;
+use std::process::Stdio;
 use std::thread::sleep;
-use std::time::Duration;
 
-/// The scope document's example rule and its flag bytes.
-const EXAMPLE: &str = "02 04 010000 05 0200FFFF 02000200 010100";
 const TYPED: &str = "monitor x : ~(@x.0 /\\ forall y in x-1..x+2 : @y.0)";
-const FLAGS: [u8; 10] = [0, 1, 1, 0, 1, 1, 1, 1, 0, 0];
-/// For all Y from X to X + 63, flag 0 at Y: too many cells.
-const WIDE: &str = "05 02000000 02003F00 010100";
 /// For all Y from X to infinity, flag 0 at Y: no engine can watch it.
 const ALWAYS: &str = "05 02000000 01000000 010100";
 
 const USAGE_LINE: &str = "usage: station-watch outcome SHEET RULE FLAGS TICK\n";
-
-/// A folder for a test's files, which goes with it.
-struct Folder(PathBuf);
-
-impl Folder {
-    fn new(test: &str) -> Folder {
-        let path = std::env::temp_dir().join(format!("station-watch-{}-{test}", process::id()));
-        fs::create_dir(&path).unwrap();
-        Folder(path)
-    }
-
-    /// A file with these bytes.
-    fn file(&self, name: &str, bytes: &[u8]) -> String {
-        let path = self.path(name);
-        fs::write(&path, bytes).unwrap();
-        path
-    }
-
-    fn path(&self, name: &str) -> String {
-        self.0.join(name).display().to_string()
-    }
-
-    /// A sheet of these bodies.
-    fn sheet(&self, bodies: &[&str]) -> String {
-        let out = self.path("watch.sheet");
-        assert_eq!(ask(&[&["sheet", &out], bodies].concat()).2, 0);
-        out
-    }
-}
-
-impl Drop for Folder {
-    fn drop(&mut self) {
-        let _ = fs::remove_dir_all(&self.0);
-    }
-}
-
-fn command(words: &[&str]) -> Command {
-    let mut command = Command::new(env!("CARGO_BIN_EXE_station-watch"));
-    command.args(words);
-    command
-}
-
-/// Standard output, standard error and exit status.
-type Said = (String, String, i32);
-
-fn said(output: Output) -> Said {
-    let text = |bytes| String::from_utf8(bytes).unwrap();
-    (text(output.stdout), text(output.stderr), output.status.code().unwrap())
-}
-
-/// What is said with no input.
-fn ask(words: &[&str]) -> Said {
-    said(command(words).stdin(Stdio::null()).output().unwrap())
-}
-
-fn out(text: &str, status: i32) -> Said {
-    (text.to_string(), String::new(), status)
-}
-
-fn failed(text: &str) -> Said {
-    (String::new(), text.to_string(), 2)
-}
-
-/// Starts it with pipes at all three ends.
-fn start(words: &[&str]) -> Child {
-    let mut command = command(words);
-    command.stdin(Stdio::piped()).stdout(Stdio::piped()).stderr(Stdio::piped());
-    command.spawn().unwrap()
-}
-
-fn ask_with_input(words: &[&str], input: &[u8]) -> Said {
-    let mut child = start(words);
-    child.stdin.take().unwrap().write_all(input).unwrap();
-    said(child.wait_with_output().unwrap())
-}
 
 #[test]
 fn figures_of_the_example() {
@@ -251,7 +172,6 @@ fn typed_rules_are_compiled() {
     assert_eq!(fs::read(&again).unwrap(), sheet);
 }
 
-/// Rules that cannot be watched live are written; `figures` tells.
 /// A text is not lost to the sheet that is compiled from it, by whatever name.
 #[test]
 fn rules_are_not_written_over() {
@@ -267,6 +187,7 @@ fn rules_are_not_written_over() {
     }
 }
 
+/// Rules that cannot be watched live are written; `figures` tells.
 #[test]
 fn rules_without_figures_are_compiled() {
     let folder = Folder::new("rules_without_figures_are_compiled");
@@ -449,6 +370,9 @@ fn wrong_arguments() {
     let due = "station-watch: print: wrong number of arguments (0)\n\
                usage: station-watch print SHEET\n";
     assert_eq!(ask(&["print"]), failed(due));
+    let due = "station-watch: watch: wrong number of arguments (2)\n\
+               usage: station-watch watch SHEET\n";
+    assert_eq!(ask(&["watch", "watch.sheet", "flags"]), failed(due));
 }
 
 #[test]
@@ -462,6 +386,7 @@ fn usage() {
         "outcome SHEET RULE FLAGS TICK",
         "print SHEET",
         "sheet OUT BODY..",
+        "watch SHEET",
     ];
     for command in commands {
         assert!(all.contains(&format!("\n  {command} ")), "{command}");
@@ -614,15 +539,6 @@ fn nothing_can_be_said() {
         assert_eq!(status.code(), Some(2), "{words:?}");
     }
 }
-
-/// A stream whose own end does not wait, and the other, which does.
-fn stream() -> (UnixStream, UnixStream) {
-    let (own, other) = UnixStream::pair().unwrap();
-    own.set_nonblocking(true).unwrap();
-    (own, other)
-}
-
-const A_WHILE: Duration = Duration::from_millis(100);
 
 #[test]
 fn output_that_would_block_is_waited_for() {

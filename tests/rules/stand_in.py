@@ -6,6 +6,7 @@ of include/station_watch.h.
 """
 import os
 import sys
+from itertools import accumulate
 
 sys.path.insert(0, os.path.join(os.path.dirname(os.path.realpath(__file__)), "..", "oracle"))
 sys.dont_write_bytecode = True
@@ -15,7 +16,7 @@ from notation import Misspelt, compiled, printed, shown  # noqa: E402
 from outcomes import outcome_at  # noqa: E402
 from paper import OPEN, Refused  # noqa: E402
 from sentences import SENTENCES  # noqa: E402
-from watch import rule_0, sheet_of, watch  # noqa: E402
+from watch import bodies, sheet_of, watch, watch_all  # noqa: E402
 
 
 def refused(number):
@@ -28,13 +29,6 @@ def figures_line(body):
         return "history %d delay %d cells %d" % figures(body)
     except Refused as why:
         return refused(why.args[0])
-
-
-def bodies(sheet):
-    """All bodies of a sheet, after refusals 1 and 2."""
-    rule_0(sheet)
-    word = [sheet[1 + 2 * k] + 256 * sheet[2 + 2 * k] for k in range(2 * sheet[0])]
-    return [sheet[at:at + size] for at, size in zip(word[0::2], word[1::2])]
 
 
 def content(path):
@@ -121,6 +115,26 @@ def sheet_command(path, *digits):
     return write_sheet(path, parts)
 
 
+def rule_named(path, parts):
+    """What standard error says of a sheet that is refused for its rules: the first that is refused, or the first with which the cells are too many."""
+    for rule, body in enumerate(parts):
+        if figures_line(body).startswith("refused"):
+            return "rule %d of %s is refused" % (rule, path)
+    sums = accumulate(figures(body)[2] for body in parts)
+    rule, cells = next((rule, cells) for rule, cells in enumerate(sums) if cells > 4096)
+    return "rules 0 to %d of %s need %d cells" % (rule, path, cells)
+
+
+def watch_all_command(path):
+    sheet = content(path)
+    parts, said = bodies(sheet), watch_all(sheet, sys.stdin.buffer.read())
+    refusal = said[0].startswith("refused")
+    if refusal:
+        print("station-watch: " + rule_named(path, parts), file=sys.stderr)
+    print("\n".join(said))
+    return 1 if refusal else 0
+
+
 def watch_command():
     said = watch(content("watch.sheet") if os.path.exists("watch.sheet") else b"", sys.stdin.buffer.read())
     print("\n".join(said))
@@ -133,6 +147,7 @@ COMMANDS = {
     "outcome": outcome_command,
     "print": print_command,
     "sheet": sheet_command,
+    "watch": watch_all_command,
 }
 
 

@@ -2,12 +2,12 @@
 use Prim.Native.Nat.{ℕ, zero, suc, _+_, _*_, _≤_, _<_}
 use mathlib.Core.Path.{_≡_, refl, sym, ap, subst, _∙_}
 use mathlib.Core.Logic.{_≢_}
-use mathlib.Core.Bool.{Bool, true, false, not, _&&_, _||_, false≢true}
+use mathlib.Core.Bool.{Bool, true, not, _&&_, _||_, false≢true}
 use mathlib.Core.List.{List, [], _∷_, map}
 use native.Mathlib.Nat.{add-zero, zero-add, not-suc-le-zero, le-of-suc-le-suc, le-mul-of-pos-right}
 use native.Mathlib.Omega.{arith}
 use lib.Dec.{leb, eqb}
-use lib.ListN.{length, getD, take, length-map, List·getD-map}
+use lib.ListN.{length, getD, take, length-map}
 use lib.Seq.{length-take-le, getD-take}
 use borrow.Author.Tests.{leb-true, eqb-true, eqb-false, not-true, le-leb, eq-eqb, ne-eqb}
 use Rattle.refusal.specs.Answer.{Answer, refused, accepted}
@@ -67,7 +67,7 @@ same-told rule (accepted f) e =
       same-history = leb-true (f .history) (rule .opened) (b .1);
     }
 
-runs-told : (sheet : List ℕ) (L t first : ℕ) (rule : Running) → runs sheet L t first rule ≡ true → Placed sheet L t first rule
+pub runs-told : (sheet : List ℕ) (L t first : ℕ) (rule : Running) → runs sheet L t first rule ≡ true → Placed sheet L t first rule
 unfolding runs
 runs-told sheet L t first rule e =
     let a = and-true (leb (rule .start + rule .size) (length sheet)) _ e in

@@ -2,19 +2,18 @@
 use Prim.Native.Nat.{ℕ, zero, suc, _+_, _*_, _-_, _≤_, _<_}
 use mathlib.Core.Path.{_≡_, refl, sym, ap, subst, _∙_}
 use mathlib.Core.Bool.{Bool, true, false, cond}
-use mathlib.Core.List.{List, [], _∷_, _++_, map, append-assoc, append-nil}
+use mathlib.Core.List.{List, [], _∷_, _++_, append-assoc, append-nil}
 use native.Mathlib.Nat.{add-zero, zero-add, suc-add, not-suc-le-zero, le-of-suc-le-suc}
 use native.Mathlib.Omega.{arith}
 use lib.Dec.{eqb}
-use lib.ListN.{length, getD, take, drop, length-take, length-drop, length-append, length-map, List·getD-map}
+use lib.ListN.{length, getD, take, drop, length-take, length-drop, length-append}
 use lib.Seq.{take-take, take-append-le, take-at, drop-at, drop-drop, length-take-le}
 use borrow.Author.Tests.{eq-eqb, ne-eqb}
 use Rattle.refusal.specs.Answer.{accepted, and-then}
 use Rattle.refusal.proofs.Answers.{same-value, both-accepted}
 use Rattle.rule.specs.declared.Figures.{Figures}
 use Rattle.rule.specs.Figures.{body-figures}
-use Rattle.demand.specs.declared.Running.{Running}
-use Rattle.demand.specs.SetContract.{no-rule, all-cells, all-delays, largest, numbered, all-numbered, how-many, ticks-of, all-figures}
+use Rattle.demand.specs.SetContract.{all-cells, largest, numbered, all-numbered, how-many, ticks-of, all-figures}
 use Rattle.demand.specs.SetDemand.{no-figures}
 
 -- ---- a part of a list

@@ -2,7 +2,7 @@
 use Prim.Native.Nat.{ℕ, suc, _+_, _*_, _-_, _%_, _≤_, _<_}
 use mathlib.Core.Path.{_≡_, refl, sym, ap, subst, _∙_}
 use mathlib.Core.Logic.{_⊎_, inl, inr}
-use mathlib.Core.List.{List, [], _∷_, _++_, map, append-assoc, append-nil}
+use mathlib.Core.List.{List, [], _∷_, _++_, append-assoc, append-nil}
 use native.Mathlib.Nat.{add-zero, zero-add, not-suc-le-zero}
 use native.Mathlib.Omega.{arith}
 use lib.ListN.{length, getD, take, drop, set, length-append, length-drop, length-set, take-append-drop, List·getD-append}
@@ -13,7 +13,7 @@ use Rattle.rule.specs.declared.Figures.{Figures}
 use Rattle.rule.proofs.Order.{by-order}
 use Rattle.demand.specs.declared.Running.{Running}
 use Rattle.demand.specs.Contract.{Invariant}
-use Rattle.demand.specs.SetContract.{SetTaken, set-step-of, no-rule, rule-state, own-cells, next-rule, running-rules, opened-length, next-tick, sum, all-live, all-cells, all-delays, numbered, all-numbered, how-many, needs, Ticked, SetTakes}
+use Rattle.demand.specs.SetContract.{SetTaken, set-step-of, no-rule, rule-state, own-cells, next-rule, running-rules, opened-length, next-tick, all-live, all-cells, all-delays, numbered, all-numbered, how-many, needs, Ticked, SetTakes}
 use Rattle.demand.specs.SetDemand.{no-figures}
 use Rattle.demand.proofs.SetLists.{spliced, spliced-length, spliced-own, spliced-before, spliced-after, all-numbered-length}
 use Rattle.demand.proofs.SetAdmission.{SetAdmitted, figures-count, rule-placed, figure-at, own-inside, own-apart}

@@ -270,8 +270,8 @@ pub record SetDemanded-of (Stands : Invariant) (opening : SetOpening) : Type 0 w
       → SetRun Stands (largest figures) (length (opening .history)) (opening .sheet) (opening .records′) (opening .table′) (opening .history′) 0 calls
       → (i : ℕ) → i < length figures → Alone Stands opening given (getD Fs i no-formula) (getD figures i no-figures) calls i
   pub own-parts : (given : List Running) → opening .answer ≡ accepted given → (Fs : List Formula) (figures : List Figures) → SetAcceptable opening Fs figures
-      → (calls : List SetCall)
-      → SetRun Stands 0 (length (opening .history)) (opening .sheet) (opening .records′) (opening .table′) (opening .history′) 0 calls
+      → (h : ℕ) (calls : List SetCall)
+      → SetRun Stands h (length (opening .history)) (opening .sheet) (opening .records′) (opening .table′) (opening .history′) 0 calls
       → OwnParts given figures calls
   pub refusals : (given : List Running) → opening .answer ≡ accepted given → (Fs : List Formula) (figures : List Figures) → SetAcceptable opening Fs figures
       → (before : List SetCall) (made : SetStep) (after : List SetCall)
