@@ -11,6 +11,7 @@ use lib.ListN.{length, getD, take, drop, set, length-take, take-append-drop}
 use lib.Seq.{take-take, getD-take}
 use borrow.Author.Tests.{leb-true, le-leb, lt-leb, eq-eqb, ne-eqb}
 use Rattle.refusal.specs.Answer.{Answer, refused, accepted, and-then}
+use Rattle.refusal.specs.Numbers.{number-of}
 use Rattle.refusal.proofs.Answers.{same-value, both-accepted}
 use Rattle.refusal.proofs.Bools.{and-true}
 use Rattle.sheet.specs.Sheet.{rule-count, has-contents, laid-out}
@@ -22,6 +23,19 @@ use Rattle.demand.specs.SetContract.{no-rule, next-rule, rule-state, needs, own
 use Rattle.demand.proofs.Admission.{must-passed}
 use Rattle.demand.proofs.SetLists.{all-figures-told}
 use Rattle.demand.proofs.SetAdmission.{set-step-admitted}
+use Rattle.cell_runs.specs.Moves.{Stands}
+use Rattle.set_opening.specs.declared.SetOpenAnswer.{SetOpenAnswer}
+use Rattle.set_opening.specs.declared.SetOpenAnswer.the-variants as opens
+use Rattle.set_opening.specs.Opening.{set-open-answer}
+use Rattle.set_stepping.specs.declared.stepping.SetStepAnswer.{SetStepAnswer}
+use Rattle.set_stepping.specs.declared.stepping.SetStepAnswer.the-variants as steps
+use Rattle.set_stepping.specs.Answers.{set-step-answer}
+use Rattle.set_values.specs.declared.RuleSet.{RuleSet}
+use Rattle.set_values.specs.declared.opening.OpenedSet.{OpenedSet}
+use Rattle.set_values.specs.declared.stepping.SteppedSet.{SteppedSet}
+use Rattle.set_values.specs.Values.{held-rules, OthersKept}
+use Rattle.set_records.specs.Lent.{loaded, saved}
+use Rattle.set_records.proofs.Lists.{loaded-held, saved-first, saved-rest}
 
 -- ---- parts of lists
 
@@ -196,3 +210,45 @@ module _ (Stands : Invariant) (sheet : List ℕ) (ys zs : List Running) (flag : 
         subst (λ (running : List Running). SetTakes Stands (set-step-of (accepted (record { pairs = pairs; live-count = live; running = running })) sheet ys flag history cells report zs history′ cells′ report′) (p .0) (record { pairs = pairs; live-count = live; running = running })) (take-take (rule-count sheet) 32 zs most)
             (takes-all (record { pairs = pairs; live-count = live; running = running-rules sheet (take 32 zs) }) (p .0) most (p .2)),
       )
+
+-- ---- from the set by value to the lent records
+
+-- What is said of the records that a set holds, which was loaded and is then saved, is said of the first 32 lent ones.
+by-value : (P : List Running → List Running → Type 0) (ys zs : List Running) (values : RuleSet) → length (values .rules) ≡ 32 → zs ≡ saved ys values → OthersKept (loaded ys) values
+    → P (held-rules (loaded ys)) (held-rules values) → P (take 32 ys) (take 32 zs) × (drop 32 zs ≡ drop 32 ys)
+unfolding loaded
+by-value P ys zs values all e kept p =
+    let first : held-rules values ≡ take 32 zs = sym (ap (take 32) e ∙ saved-first ys values all (kept .0)) in (
+      subst (λ (l : List Running). P (take 32 ys) l) first (subst (λ (l : List Running). P l (held-rules values)) (loaded-held ys) p),
+      ap (drop 32) e ∙ saved-rest ys values all,
+    )
+
+-- What the by-value opening promises, in terms of the set, makes what the opening of lent records promises.
+pub open-whole : (sheet : List ℕ) (ys : List Running) (history table : List ℕ) (t : OpenedSet) (zs : List Running) (history′ : List ℕ)
+    → length (t .set .rules) ≡ 32 → zs ≡ saved ys (t .set)
+    → SetOpenPromise Stands (set-opening-of (set-open-answer (t .answer) sheet (held-rules (t .set))) sheet (held-rules (loaded ys)) history table (held-rules (t .set)) history′)
+    × OthersKept (loaded ys) (t .set)
+    → SetOpenPromise Stands (set-opening-of (set-open-answer (t .answer) sheet zs) sheet ys history table zs history′)
+open-whole sheet ys history table t zs history′ all e p =
+    let q = by-value (λ records records′. SetOpenPromise Stands (set-opening-of (set-open-answer (t .answer) sheet records′) sheet records history table records′ history′)) ys zs (t .set) all e (p .1) (p .0) in
+    go (t .answer) (q .0) (q .1)
+  where
+    go : (answer : SetOpenAnswer) → SetOpenPromise Stands (set-opening-of (set-open-answer answer sheet (take 32 zs)) sheet (take 32 ys) history table (take 32 zs) history′) → drop 32 zs ≡ drop 32 ys
+        → SetOpenPromise Stands (set-opening-of (set-open-answer answer sheet zs) sheet ys history table zs history′)
+    go opens.Opened h same = opening-accepted Stands sheet ys zs history table history′ same h
+    go (opens.Refused refusal) h same = opening-refused Stands sheet ys zs history table history′ same (number-of refusal) h
+
+-- Likewise a step.
+pub step-whole : (sheet : List ℕ) (ys : List Running) (history cells : List ℕ) (flag : ℕ) (report : List ℕ) (t : SteppedSet) (zs : List Running) (history′ cells′ report′ : List ℕ)
+    → length (t .set .rules) ≡ 32 → zs ≡ saved ys (t .set)
+    → SetStepPromise Stands (set-step-of (set-step-answer (t .answer) sheet (held-rules (t .set))) sheet (held-rules (loaded ys)) flag history cells report (held-rules (t .set)) history′ cells′ report′)
+    × OthersKept (loaded ys) (t .set)
+    → SetStepPromise Stands (set-step-of (set-step-answer (t .answer) sheet zs) sheet ys flag history cells report zs history′ cells′ report′)
+step-whole sheet ys history cells flag report t zs history′ cells′ report′ all e p =
+    let q = by-value (λ records records′. SetStepPromise Stands (set-step-of (set-step-answer (t .answer) sheet records′) sheet records flag history cells report records′ history′ cells′ report′)) ys zs (t .set) all e (p .1) (p .0) in
+    go (t .answer) (q .0) (q .1)
+  where
+    go : (answer : SetStepAnswer) → SetStepPromise Stands (set-step-of (set-step-answer answer sheet (take 32 zs)) sheet (take 32 ys) flag history cells report (take 32 zs) history′ cells′ report′)
+        → drop 32 zs ≡ drop 32 ys → SetStepPromise Stands (set-step-of (set-step-answer answer sheet zs) sheet ys flag history cells report zs history′ cells′ report′)
+    go (steps.Taken pairs live) h same = step-accepted Stands sheet ys zs flag history cells report history′ cells′ report′ same pairs live h
+    go (steps.Refused refusal) h same = step-refused Stands sheet ys zs flag history cells report history′ cells′ report′ same (number-of refusal) h

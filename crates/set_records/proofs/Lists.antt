@@ -4,13 +4,13 @@ use mathlib.Core.Path.{_≡_, refl, sym, ap, _∙_}
 use mathlib.Core.Logic.{_⊎_, inl, inr}
 use mathlib.Core.List.{List, [], _∷_, _++_, append-nil}
 use native.Mathlib.Omega.{arith}
-use lib.ListN.{length, getD, take, drop, set, replicate, length-replicate, length-append, drop-of-length-le, replicate-append-replicate, List·getD-append}
-use lib.Seq.{take-append-seam, take-append-add, take-at, drop-at, take-all, length-front, length-take-le}
+use lib.ListN.{length, getD, take, drop, set, replicate, length-replicate, length-append, length-take, drop-of-length-le, replicate-append-replicate, List·getD-append}
+use lib.Seq.{take-append-seam, take-append-add, take-at, drop-at, take-all, length-front, length-take-le, take-take, take-append-le}
 use Rattle.rule.proofs.Order.{by-order}
 use Rattle.demand.specs.declared.Running.{Running}
 use Rattle.demand.specs.SetContract.{no-rule}
 use Rattle.set_values.specs.declared.RuleSet.{RuleSet}
-use Rattle.set_values.specs.Values.{values-with}
+use Rattle.set_values.specs.Values.{held-rules, values-with}
 use Rattle.set_values.proofs.Lists.{mixed, mixed-turn}
 use Rattle.set_records.specs.Lent.{loaded, saved}
 
@@ -90,3 +90,41 @@ saving-all records values n all e = by-length (by-order (length records) 32)
         let n-is : n ≡ 32 = omega (arith, e, many) in
         ap (mixed (values .rules) records) n-is
         ∙ ap (λ (l : List Running). l ++ drop 32 records) (take-all 32 (values .rules) (omega (arith, all)) ∙ sym (take-all (length records) (values .rules) (omega (arith, all, many))))
+
+-- ---- what a set has of the records
+
+pub loaded-held : (records : List Running) → held-rules (loaded records) ≡ take 32 records
+unfolding loaded
+loaded-held records = by-length (by-order (length records) 32)
+  where
+    by-length : (length records ≤ 32) ⊎ (32 < length records) → take (length records) (take 32 (supply records)) ≡ take 32 records
+    by-length (inl few) =
+        take-take (length records) 32 (supply records) few ∙ take-append-seam records blanks ∙ sym (take-all 32 records few)
+    by-length (inr many) =
+        take-all (length records) (take 32 (supply records)) (omega (arith, many, length-take 32 (supply records)))
+        ∙ take-append-le 32 records blanks (omega (arith, many))
+
+pub saved-first : (records : List Running) (values : RuleSet) → length (values .rules) ≡ 32 → values .lent ≡ length records → take 32 (saved records values) ≡ held-rules values
+unfolding saved
+saved-first records values all e = by-length (by-order (length records) 32) ∙ ap (λ (n : ℕ). take n (values .rules)) (sym e)
+  where
+    by-length : (length records ≤ 32) ⊎ (32 < length records) → take 32 (take (length records) (values .rules) ++ drop 32 records) ≡ take (length records) (values .rules)
+    by-length (inl few) =
+        ap (λ (l : List Running). take 32 (take (length records) (values .rules) ++ l)) (drop-of-length-le records {i = 32} few)
+        ∙ ap (take 32) (append-nil (take (length records) (values .rules)))
+        ∙ take-all 32 (take (length records) (values .rules)) (omega (arith, few, length-take (length records) (values .rules)))
+    by-length (inr many) =
+        take-at (take (length records) (values .rules)) (drop 32 records) 32 (omega (arith, many, all, length-take (length records) (values .rules)))
+
+pub saved-rest : (records : List Running) (values : RuleSet) → length (values .rules) ≡ 32 → drop 32 (saved records values) ≡ drop 32 records
+unfolding saved
+saved-rest records values all = by-length (by-order (length records) 32)
+  where
+    by-length : (length records ≤ 32) ⊎ (32 < length records) → drop 32 (take (length records) (values .rules) ++ drop 32 records) ≡ drop 32 records
+    by-length (inl few) =
+        ap (λ (l : List Running). drop 32 (take (length records) (values .rules) ++ l)) (drop-of-length-le records {i = 32} few)
+        ∙ ap (drop 32) (append-nil (take (length records) (values .rules)))
+        ∙ drop-of-length-le (take (length records) (values .rules)) {i = 32} (omega (arith, few, length-take (length records) (values .rules)))
+        ∙ sym (drop-of-length-le records {i = 32} few)
+    by-length (inr many) =
+        drop-at (take (length records) (values .rules)) (drop 32 records) 32 (omega (arith, many, all, length-take (length records) (values .rules)))

@@ -2,14 +2,19 @@
 // its code: they are few and thin, and every decision stands in `set_values`.
 ghost use mathlib.Core.Path.{_≡_};
 ghost use lib.ListN.{length, getD, set};
-ghost use Rattle.demand.specs.SetContract.{no-rule};
+ghost use Rattle.demand.specs.SetContract.{no-rule, set-opening-of, set-step-of, SetOpenPromise, SetStepPromise};
+ghost use Rattle.cell_runs.specs.Moves.{Stands};
+ghost use Rattle.set_opening.specs.Opening.{set-open-answer};
+ghost use Rattle.set_stepping.specs.Answers.{set-step-answer};
 ghost use Rattle.set_records.specs.Lent.{loaded, saved};
 use demand::Running;
+use set_opening::SetOpenAnswer;
+use set_stepping::SetStepAnswer;
 use set_values::RuleSet;
 use set_values::empty_set;
 use set_values::held_count;
-use set_values::rule_of;
-use set_values::with_rule;
+use set_values::open_set;
+use set_values::step_set;
 
 // How many records there are.
 pub fn record_count(records: &[Running]) -> usize
@@ -55,7 +60,7 @@ pub fn load_records(records: &[Running]) -> RuleSet
     let mut set = empty_set(lent);
     let mut index: usize = 0;
     while index < count {
-        set = with_rule(set, index, record_at(records, index));
+        set.rules[index] = record_at(records, index);
         index += 1;
     }
     set
@@ -68,7 +73,39 @@ pub fn save_records(records: &mut [Running], set: RuleSet)
     let count = held_count(records.len());
     let mut index: usize = 0;
     while index < count {
-        store_record(records, index, rule_of(set, index));
+        store_record(records, index, set.rules[index]);
         index += 1;
     }
+}
+
+// Opens a set whose records are lent, as `set_opening::open` does.
+pub fn open_records(
+    sheet: &[u8],
+    records: &mut [Running],
+    history: &mut [u8],
+    cells: &[u32],
+) -> SetOpenAnswer
+    ensures { λ r. ⌜ SetOpenPromise Stands (set-opening-of (set-open-answer r (now (sheet .entry)) (now (records .exit))) (now (sheet .entry)) (now (records .entry)) (now (history .entry)) (now (cells .entry)) (now (records .exit)) (now (history .exit))) ⌝ }
+{
+    let set = load_records(records);
+    let opened = open_set(sheet, set, history, cells);
+    save_records(records, opened.set);
+    opened.answer
+}
+
+// Takes one flag byte with a set whose records are lent, as `set_stepping::step` does.
+pub fn step_records(
+    sheet: &[u8],
+    records: &mut [Running],
+    flag: u8,
+    history: &mut [u8],
+    cells: &mut [u32],
+    report: &mut [u32],
+) -> SetStepAnswer
+    ensures { λ r. ⌜ SetStepPromise Stands (set-step-of (set-step-answer r (now (sheet .entry)) (now (records .exit))) (now (sheet .entry)) (now (records .entry)) flag (now (history .entry)) (now (cells .entry)) (now (report .entry)) (now (records .exit)) (now (history .exit)) (now (cells .exit)) (now (report .exit))) ⌝ }
+{
+    let set = load_records(records);
+    let stepped = step_set(sheet, set, flag, history, cells, report);
+    save_records(records, stepped.set);
+    stepped.answer
 }

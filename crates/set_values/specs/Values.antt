@@ -1,5 +1,6 @@
 -- A set by value, and the records that it holds.
 use Prim.Native.Nat.{ℕ}
+use mathlib.Core.Path.{_≡_}
 use mathlib.Core.List.{List, _++_}
 use lib.ListN.{length, getD, take, drop, set, replicate}
 use Rattle.demand.specs.declared.Running.{Running}
@@ -25,3 +26,7 @@ over front whole = front ++ drop (length front) whole
 
 abbrev pub values-from : RuleSet → List Running → RuleSet
 values-from values front = record { rules = over front (values .rules); lent = values .lent }
+
+-- As many records are lent, and those after them are as they were.
+abbrev pub OthersKept : RuleSet → RuleSet → Type 0
+OthersKept old new = (new .lent ≡ old .lent) × (drop (old .lent) (new .rules) ≡ drop (old .lent) (old .rules))

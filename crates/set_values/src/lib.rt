@@ -5,7 +5,14 @@ ghost use Rattle.demand.specs.SetContract.{no-rule};
 ghost use Rattle.set_values.specs.Values.{empty-values, rule-of-values, values-with};
 use demand::Running;
 
+mod opening;
+mod stepping;
 mod words;
+
+pub use opening::OpenedSet;
+pub use opening::open_set;
+pub use stepping::SteppedSet;
+pub use stepping::step_set;
 
 // The most rules of a sheet, and so the most records of a set.
 pub const MOST_RULES: usize = 32;
