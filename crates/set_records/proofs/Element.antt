@@ -1,7 +1,7 @@
 -- An element of an array in a cell, at an index that is known only as a number: `types.Part`'s `sub` for an array. It says nothing of the crate.
 --     element k      element k of an array's cell that p finds, at its place
 -- Assumes `Given` (of it `at-elems` and `elems-at`).
-use mathlib.Core.Path.{_≡_, refl, sym, _∙_, ap, subst}
+use mathlib.Core.Path.{_≡_, _∙_, ap, subst}
 use Prim.Native.Nat.{ℕ, zero, suc, _+_, _<_}
 use native.Mathlib.Nat.{not-suc-le-zero, le-of-suc-le-suc}
 use mathlib.Core.List.{List, [], _∷_}

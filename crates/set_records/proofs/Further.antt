@@ -9,7 +9,7 @@ use native.Mathlib.Omega.{arith}
 use lib.Dec.{leb, eqb}
 use lib.ListN.{length, getD, take, drop, set, length-take, take-append-drop}
 use lib.Seq.{take-take, getD-take}
-use borrow.Author.Tests.{leb-true, le-leb, lt-leb, eq-eqb, ne-eqb}
+use borrow.Author.Tests.{leb-true, le-leb, lt-leb, ne-eqb}
 use Rattle.refusal.specs.Answer.{Answer, refused, accepted, and-then}
 use Rattle.refusal.specs.Numbers.{number-of}
 use Rattle.refusal.proofs.Answers.{same-value, both-accepted}

@@ -1,9 +1,6 @@
 -- `set_values::stepping::step_by_words` meets its contract. Assumes nothing.
-use mathlib.Core.Path.{_≡_, sym, _∙_}
-use mathlib.Core.List.{List}
-use native.Mathlib.Omega.{arith}
+use mathlib.Core.Path.{_≡_, _∙_}
 use lib.ListN.{length, length-map}
-use Rattle.demand.specs.declared.Running.{Running}
 use Rattle.demand.specs.SetContract.{set-step-of, SetStepPromise}
 use Rattle.cell_runs.specs.Moves.{Stands}
 use Rattle.running.specs.Records.{rule-in, rules-in}

@@ -1,10 +1,8 @@
 -- `set_values::words::write_words` meets its contract. Assumes nothing.
-use Prim.Native.Nat.{ℕ, _-_, _≤_, _<_}
-use mathlib.Core.Path.{_≡_, refl, sym, ap, _∙_}
-use mathlib.Core.List.{List}
+use Prim.Native.Nat.{_-_, _≤_}
+use mathlib.Core.Path.{_≡_, refl, ap, _∙_}
 use native.Mathlib.Omega.{arith}
 use lib.ListN.{length, length-map, set}
-use Rattle.demand.specs.declared.Running.{Running}
 use Rattle.demand.specs.SetContract.{no-rule}
 use Rattle.running.specs.Records.{rule-in, rules-in}
 use Rattle.set_values.specs.declared.RuleSet.{RuleSet}
