@@ -13,12 +13,16 @@
  * how much memory it needs, sw_open opens it, sw_step takes a flag byte. sw_steps takes
  * many at once. sw_outcome evaluates a rule at one tick of a recording.
  *
+ * To watch a stream by all rules of a sheet, as a set: sw_set_figures says how much memory
+ * they need together, sw_set_open opens them, sw_set_step takes a flag byte for all of
+ * them. sw_set_steps takes many.
+ *
  * To write a sheet: sw_rule_from_text makes a rule's body from its text, sw_write_sheet a
  * sheet from bodies; sw_rule_to_text shows a body as text. Examples: examples/c.
  *
  * ANSWERS. Every function answers SW_OK (0) or the number of a refusal (1 to 27, below).
- * On a refusal nothing that was lent is changed: no buffer, no state, and none of the
- * numbers that answers are written to.
+ * On a refusal nothing that was lent is changed: no buffer, no state, no record, and none
+ * of the numbers that answers are written to.
  *
  * MEMORY. What is lent is a pointer and how many elements it points to. No pointer may
  * be NULL, also where the length is 0 (any other pointer of the type will do then). Each
@@ -122,23 +126,28 @@ extern "C" {
 #define SW_NOT_IN_RECORDING 16
 
 /* "the history has a wrong length"
- * To open: from the figure `history` to 4,096 bytes. To step: as many as were opened. */
+ * To open: from the figure `history` (of a set, the largest) to 4,096 bytes. To step: as
+ * many as were opened. */
 #define SW_HISTORY_LENGTH 17
 
 /* "the cell table is too short"
- * Lend four words for each of the figure `cells`, and every step the same table. */
+ * Lend four words for each of the figure `cells` (of a set, the sum), and every step the
+ * same table. A set also: lend a record for each rule of the sheet. */
 #define SW_CELL_TABLE_TOO_SHORT 18
 
 /* "the report is too short"
- * Lend delay + 1 words; SW_MAX_REPORT are enough for every rule. */
+ * Lend delay + 1 words; SW_MAX_REPORT are enough for every rule. sw_set_step: lend two for
+ * each of the figure `pairs`; SW_MAX_SET_REPORT are enough for every sheet. */
 #define SW_REPORT_TOO_SHORT 19
 
 /* "tick numbers are used up"
- * Tick 4,294,967,295 is not taken (13 years at ten a second). Open the rule anew. */
+ * Tick 4,294,967,295 is not taken (13 years at ten a second). Open the rule or the set
+ * anew. */
 #define SW_TICKS_USED_UP 20
 
 /* "state and cells were not left by one opening and its steps"
- * Open the rule anew, and hand on state and cells untouched. */
+ * Open the rule anew, and hand on state and cells untouched. A set: open it anew, hand on
+ * records and cells untouched, and lend every step the sheet that was opened. */
 #define SW_STATE_NOT_OPENED 21
 
 /* "the buffer is too short"
@@ -198,6 +207,11 @@ extern "C" {
 #define SW_MAX_REPORT 256
 #define SW_MAX_BATCH_REPORT 512
 
+/* The same of a set, whose rules have at most SW_MAX_CELLS cells together: report words for
+ * sw_set_step (a pair each), and for sw_set_steps (a triple each). */
+#define SW_MAX_SET_REPORT 8192
+#define SW_MAX_SET_BATCH_REPORT 12288
+
 /* A sentence in bytes, its 0 byte included. */
 #define SW_MAX_SENTENCE 128
 
@@ -218,6 +232,39 @@ extern "C" {
  * needed cells, the report's first delay + 1 words, and next tick and live count in the
  * state. But what it reports means nothing. */
 #define SW_STATE_BYTES 544
+
+/* A running rule of a set, 32 bytes. The set of a sheet of n rules has n of these records,
+ * that of rule i at place i; together they are its state. They are plain numbers, which may
+ * be copied, stored and moved. They belong to the sheet that was opened, which is lent to
+ * every step again, and to the cell table that its steps wrote. */
+typedef struct {
+    uint32_t start;  /* its body in the sheet: the position of the first byte, .. */
+    uint32_t size;   /* .. and how many bytes */
+    uint32_t first;  /* its own part of the cell table: how many cells are before it, .. */
+    uint32_t cells;  /* .. and how many it has, of SW_CELL_WORDS words each */
+    uint32_t delay;  /* its delay in ticks */
+    uint32_t opened; /* the opened history's length, the same in all records */
+    uint32_t next;   /* the next tick, the same in all records */
+    uint32_t live;   /* its live count: how many of its ticks are still open */
+} sw_running;
+
+/* Every step looks at sheet and records anew. It answers SW_STATE_NOT_OPENED where no
+ * opening of this sheet gives such records:
+ *
+ * - the sheet is empty, or its first byte n is not 1 to 32;
+ * - the first record's opened length is above 4096;
+ * - one of the first n records, as far as they are lent, does not lie in the sheet (start
+ *   + size is above its length), or its body does not open, or its cells or its delay are
+ *   not the body's figures, or the body's history figure is above the opened length, or
+ *   its first cell is not where the cells of the record before it end, or its opened
+ *   length or next tick is not that of the first record;
+ * - these records have more than 4096 cells together.
+ *
+ * Further records are not looked at. Any other sheet, records or cell table that were not
+ * left by one opening and its steps are not noticed. A step on them still ends and writes
+ * only what a step may: one history byte, the needed cells, the report's first 2 * (sum of
+ * all delay + 1) words, and next tick and live count of the first n records. But what it
+ * reports means nothing. */
 
 /* ---- Verdicts: what sw_outcome answers ---- */
 
@@ -368,6 +415,80 @@ uint32_t sw_steps(uint8_t state[SW_STATE_BYTES],
                   uint32_t *cells, size_t cells_len,
                   uint32_t *report, size_t report_len,
                   size_t *taken, size_t *pairs, size_t *live);
+
+/* What all rules of a sheet need together: how many rules there are, and so records; the
+ * largest of their history figures (at most 4096); the sum of their cells (at most 4096);
+ * and the most pairs that a step can report, the sum of all delay + 1 (at most 4096).
+ * Answers 0, or 1, 2, then the first that sw_figures answers for a rule, in rule order
+ * (4 to 15, 23, 24), then 27.
+ * After 0 the four numbers are set. */
+uint32_t sw_set_figures(const uint8_t *sheet, size_t sheet_len,
+                        size_t *rules, uint64_t *history, uint64_t *cells, uint64_t *pairs);
+
+/* Opens all rules of a sheet over one history, whose length is from the figure of
+ * sw_set_figures to 4096 bytes, and one cell table of at least four times its cells, which
+ * is only measured: its content does not matter.
+ * Answers 0, or those of sw_set_figures in their order, then 17, 18 (18 also for fewer
+ * records than rules).
+ * After 0 every history byte is 0, and the first n records are set, n being how many rules
+ * the sheet has: where the rule's body lies, its own part of the cell table, which begins
+ * where that of the rule before it ends, its delay, the history's length, next tick 0, 0
+ * live. Further records are as they were. */
+uint32_t sw_set_open(const uint8_t *sheet, size_t sheet_len,
+                     sw_running *records, size_t records_len,
+                     uint8_t *history, size_t history_len,
+                     const uint32_t *cells, size_t cells_len);
+
+/* Takes one flag byte for all rules of a set, at its next tick t. The sheet is the one that
+ * was opened, the history has the opened length, the cell table the needed words as the
+ * last step left them, the report at least 2 * (sum of all delay + 1) words.
+ * Answers 0, or 21, 17, 18, 19, 20, in this order (18 also for fewer records than rules;
+ * where no record is lent, no opened length is known and 17 does not come).
+ * After 0, the first 2 * *pairs words of the report are pairs, the number of a rule and a
+ * tick whose outcome by this rule is false at step t, ascending by rule and then by tick,
+ * and the words after them are as they were. *live is how many ticks up to t are still
+ * open, the sum over all rules. History byte t mod (history length) is the flag byte and no
+ * other changed (none, where the length is 0). Cell table words after the needed ones are
+ * as they were. In each of the first n records the next tick is t + 1 and the live count is
+ * its rule's; their other numbers, and further records, are as they were.
+ * Each rule reports what it reports when it is opened by itself and takes the same flags:
+ * it has its own part of the cell table, which no other rule touches.
+ * The last h flags, h being the largest history figure, must still be in the history, each
+ * at byte tick mod (history length); the other history bytes may be overwritten between
+ * steps. Where one of the last h was overwritten, steps still end and write only what they
+ * may, but from then on what they report means nothing. */
+uint32_t sw_set_step(const uint8_t *sheet, size_t sheet_len,
+                     sw_running *records, size_t records_len, uint8_t flag,
+                     uint8_t *history, size_t history_len,
+                     uint32_t *cells, size_t cells_len,
+                     uint32_t *report, size_t report_len,
+                     size_t *pairs, size_t *live);
+
+/* Takes flag bytes one after another, each as sw_set_step does, and writes a triple of
+ * words, rule number, tick and deciding step, for each pair that a step reports, end to end
+ * from the report's start: by step, then by rule, then by tick. It stops where the flags
+ * end; before a step for which fewer than 3 * (sum of all delay + 1) report words are left,
+ * since so many a step can need; and before a step that would be refused, which after the
+ * first can only be by 20.
+ * Answers 0, or 21, 17, 18, 20, in this order: what sw_set_step would answer for the first
+ * of these flags if its report were long enough. It asks this also where there are no
+ * flags. It never answers 19: with a report of fewer than 3 * (sum of all delay + 1) words
+ * it answers 0 and takes no flag.
+ * After 0, *taken is how many flags were taken and *triples how many triples were written;
+ * report words after them are as they were. Records, history and cell table are what so
+ * many calls of sw_set_step leave, and *live is the sum of the records' live counts.
+ *
+ * To take all flags, call it again with those that were not taken, as in the loop of
+ * sw_steps. This ends for every sheet with a report of SW_MAX_SET_BATCH_REPORT words, and
+ * for a known sheet with one of 3 * (sum of all delay + 1): each call takes a flag or is
+ * refused. With a shorter report it would go on for ever. */
+uint32_t sw_set_steps(const uint8_t *sheet, size_t sheet_len,
+                      sw_running *records, size_t records_len,
+                      const uint8_t *flags, size_t flags_len,
+                      uint8_t *history, size_t history_len,
+                      uint32_t *cells, size_t cells_len,
+                      uint32_t *report, size_t report_len,
+                      size_t *taken, size_t *triples, size_t *live);
 
 #ifdef __cplusplus
 }

@@ -24,19 +24,23 @@
 //! # Ok::<(), Refusal>(())
 //! ```
 //!
-//! [`State`] is the same over memory that the caller lends, as in C. [`figures`] says
-//! what a rule needs, [`outcome`] how it stands at a tick of a recording,
-//! [`rule_body`], [`bodies`] and [`write_sheet`] read and write sheets, [`rule_from_text`] and
-//! [`rule_to_text`] rules as text. A call that cannot be answered gives a [`Refusal`] and has
-//! changed nothing; only [`Watch::steps`] may have taken some of its flags before tick
-//! numbers were used up.
+//! [`WatchSet`] runs all rules of a sheet on one stream, and reports each violation with
+//! its rule's number.
+//!
+//! [`State`] is a watch over memory that the caller lends, as in C, and so are [`set_open`],
+//! [`set_step`] and [`set_steps`] a set. [`figures`] says what a rule needs, [`set_figures`]
+//! what all rules of a sheet need together, [`outcome`] how a rule stands at a tick of a
+//! recording, [`rule_body`], [`bodies`] and [`write_sheet`] read and write sheets,
+//! [`rule_from_text`] and [`rule_to_text`] rules as text. A call that cannot be answered gives
+//! a [`Refusal`] and has changed nothing; only [`Watch::steps`] and [`WatchSet::steps`] may
+//! have taken some of their flags before tick numbers were used up.
 //!
 //! The crate needs no `std`. Without its feature `alloc`, which is on unless it is
-//! turned off, `Watch`, `sheet_of`, `body_from_text` and `text_from_body` are gone and
-//! nothing is allocated.
+//! turned off, `Watch`, `WatchSet`, `sheet_of`, `body_from_text` and `text_from_body` are
+//! gone and nothing is allocated.
 //!
 //! [`raw`] has the functions as C sees them. All `unsafe` of this crate are calls of
-//! these with the pointer and length of a slice, and one view of pairs as words.
+//! these with the pointer and length of a slice, and one view of a report as words.
 
 #![no_std]
 #![deny(missing_docs)]
@@ -51,6 +55,7 @@ mod outcome;
 pub mod raw;
 mod refusal;
 mod report;
+mod set;
 mod sheet;
 mod state;
 #[cfg(feature = "alloc")]
@@ -58,6 +63,8 @@ mod stored;
 mod text;
 #[cfg(feature = "alloc")]
 mod watch;
+#[cfg(feature = "alloc")]
+mod watch_set;
 
 /// The version of this crate, which is that of the library.
 ///
@@ -70,7 +77,8 @@ pub use figures::{figures, Figures};
 pub use limits::*;
 pub use outcome::{outcome, Outcome, Verdict};
 pub use refusal::Refusal;
-pub use report::{Pair, Step, Steps};
+pub use report::{Pair, RuleTick, SetStep, SetSteps, Step, Steps, Triple};
+pub use set::{set_figures, set_open, set_step, set_steps, Running, SetFigures};
 #[cfg(feature = "alloc")]
 pub use sheet::sheet_of;
 pub use sheet::{bodies, rule_body, write_sheet};
@@ -80,3 +88,5 @@ pub use text::{body_from_text, text_from_body};
 pub use text::{rule_from_text, rule_to_text};
 #[cfg(feature = "alloc")]
 pub use watch::Watch;
+#[cfg(feature = "alloc")]
+pub use watch_set::WatchSet;

@@ -47,6 +47,11 @@ pub const MAX_CELL_WORDS: usize = CELL_WORDS * MAX_CELLS;
 /// ```
 pub const MAX_REPORT: usize = MAX_DELAY + 1;
 
+/// The longest report that a set of rules can need: so many pairs for a step, and so
+/// many triples for a batch of steps. A rule has at least delay + 1 cells, and all rules
+/// of a set have at most `MAX_CELLS`.
+pub const MAX_SET_REPORT: usize = MAX_CELLS;
+
 /// How many ticks a rule can take: 0 to 4,294,967,294. The next one is refusal 20.
 ///
 /// ```

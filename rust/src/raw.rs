@@ -15,6 +15,8 @@
 //! assert_eq!((answer, history, delay, cells), (0, 0, 0, 1));
 //! ```
 
+use crate::set::Running;
+
 /// What `sw_outcome` answers as a verdict: open.
 pub const OPEN: u32 = 0;
 /// What `sw_outcome` answers as a verdict: true.
@@ -120,6 +122,64 @@ extern "C" {
         report_len: usize,
         taken: *mut usize,
         pairs: *mut usize,
+        live: *mut usize,
+    ) -> u32;
+
+    /// What all rules of a sheet need together.
+    pub fn sw_set_figures(
+        sheet: *const u8,
+        sheet_len: usize,
+        rules: *mut usize,
+        history: *mut u64,
+        cells: *mut u64,
+        pairs: *mut u64,
+    ) -> u32;
+
+    /// Opens all rules of a sheet.
+    pub fn sw_set_open(
+        sheet: *const u8,
+        sheet_len: usize,
+        records: *mut Running,
+        records_len: usize,
+        history: *mut u8,
+        history_len: usize,
+        cells: *const u32,
+        cells_len: usize,
+    ) -> u32;
+
+    /// Takes one flag byte for all rules.
+    pub fn sw_set_step(
+        sheet: *const u8,
+        sheet_len: usize,
+        records: *mut Running,
+        records_len: usize,
+        flag: u8,
+        history: *mut u8,
+        history_len: usize,
+        cells: *mut u32,
+        cells_len: usize,
+        report: *mut u32,
+        report_len: usize,
+        pairs: *mut usize,
+        live: *mut usize,
+    ) -> u32;
+
+    /// Takes flag bytes one after another for all rules.
+    pub fn sw_set_steps(
+        sheet: *const u8,
+        sheet_len: usize,
+        records: *mut Running,
+        records_len: usize,
+        flags: *const u8,
+        flags_len: usize,
+        history: *mut u8,
+        history_len: usize,
+        cells: *mut u32,
+        cells_len: usize,
+        report: *mut u32,
+        report_len: usize,
+        taken: *mut usize,
+        triples: *mut usize,
         live: *mut usize,
     ) -> u32;
 

@@ -6,7 +6,8 @@ use core::error::Error;
 use core::fmt;
 
 /// Why a call was refused, with its number. Nothing that was lent to
-/// the call has changed; only `Watch::steps` may have taken some of its flags.
+/// the call has changed; only `Watch::steps` and `WatchSet::steps` may have taken some of
+/// their flags.
 ///
 /// ```
 /// use station_watch::{figures, Refusal};

@@ -3,7 +3,7 @@
 use crate::limits::{MAX_BODY, STATE_BYTES};
 use crate::raw;
 use crate::refusal::Refusal;
-use crate::report::{Pair, Step, Steps};
+use crate::report::{as_words, Pair, Step, Steps};
 use core::fmt;
 
 /// Where the numbers lie in a state, after the body's 512 bytes.
@@ -138,7 +138,7 @@ impl State {
         report: &'r mut [Pair],
     ) -> Result<Steps<'r>, Refusal> {
         let (mut taken, mut pairs, mut live) = (0, 0, 0);
-        let words = Pair::as_words(report);
+        let words = as_words(report);
         // SAFETY: pointers and lengths of slices, an array of a state's size, and three
         // numbers of this frame; all but the flags are written, and each is borrowed alone.
         Refusal::unless_0(unsafe {

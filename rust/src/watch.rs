@@ -3,7 +3,7 @@
 use crate::figures::{figures, Figures};
 use crate::limits::MAX_REPORT;
 use crate::refusal::Refusal;
-use crate::report::{Pair, Step};
+use crate::report::{as_words, Pair, Step};
 use crate::sheet::rule_body;
 use crate::state::State;
 use alloc::vec;
@@ -68,7 +68,7 @@ impl Watch {
     /// # Ok::<(), Refusal>(())
     /// ```
     pub fn step(&mut self, flag: u8) -> Result<Step<'_>, Refusal> {
-        let words = Pair::as_words(&mut self.report);
+        let words = as_words(&mut self.report);
         self.state.step(flag, &mut self.history, &mut self.cells, words)
     }
 

@@ -223,6 +223,7 @@ fn limits() {
     assert_eq!((MAX_RULES, MAX_BODY, MAX_SHEET), (32, 512, 16_513));
     assert_eq!((MAX_HISTORY, MAX_DELAY, MAX_CELLS), (4_096, 255, 4_096));
     assert_eq!((CELL_WORDS, MAX_CELL_WORDS, MAX_REPORT), (4, 16_384, 256));
+    assert_eq!(MAX_SET_REPORT, 4_096);
     assert_eq!((MAX_RECORDING, MAX_TICKS, MAX_TEXT), (65_535, 4_294_967_295, 4_096));
     assert_eq!((STATE_BYTES, MAX_SENTENCE, VERSION), (544, 128, "0.4.4"));
 }

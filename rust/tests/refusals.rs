@@ -2,10 +2,11 @@
 
 mod common;
 
-use common::{sheet, BODY, FLAG, TEXT};
+use common::{sheet, sheet_of_rules, BODY, FLAG, LATE, TEXT, WIDE};
 use station_watch::{
-    figures, outcome, rule_body, rule_from_text, rule_to_text, write_sheet, Pair, Refusal, State,
-    MAX_BODY, MAX_RECORDING, MAX_TEXT, MAX_TICKS, STATE_BYTES,
+    figures, outcome, rule_body, rule_from_text, rule_to_text, set_figures, set_open, set_step,
+    set_steps, write_sheet, Pair, Refusal, RuleTick, Running, State, MAX_BODY, MAX_HISTORY,
+    MAX_RECORDING, MAX_TEXT, MAX_TICKS, STATE_BYTES,
 };
 use std::error::Error;
 
@@ -179,4 +180,144 @@ fn of_a_batch() {
     assert_eq!(steps, Err(Refusal::CellTableTooShort));
     let mut none = State::from_bytes([0; STATE_BYTES]);
     assert_eq!(none.steps(&[], &mut [], &mut [], &mut []), Err(Refusal::StateNotOpened));
+}
+
+/// "27, after all the rules' own 4 to 15 in rule order and before 17."
+#[test]
+fn of_the_figures_of_a_set() {
+    let refused = |bodies: &[&[u8]]| set_figures(&sheet_of_rules(bodies)).unwrap_err();
+    assert_eq!(set_figures(&[]), Err(Refusal::RuleCount));
+    assert_eq!(set_figures(&sheet(&BODY)[..4]), Err(Refusal::RuleCount));
+    assert_eq!(set_figures(&sheet(&BODY)[..21]), Err(Refusal::EntryLayout));
+    let (wider, unknown) = ([5, 2, 0, 0, 0, 2, 0, 63, 0, 1, 1, 0], [6, 0, 0]);
+    assert_eq!(refused(&[&BODY, &unknown, &wider]), Refusal::UnknownCode);
+    assert_eq!(refused(&[&BODY, &wider, &unknown]), Refusal::CellsAboveLimit);
+    // 4,095 cells and 1; 2 are above the limit, but not where a later rule has its own.
+    assert_eq!(set_figures(&sheet_of_rules(&[&WIDE, &FLAG])).map(|needs| needs.cells), Ok(4_096));
+    assert_eq!(refused(&[&WIDE, &FLAG, &FLAG]), Refusal::SetCellsAboveLimit);
+    assert_eq!(refused(&[&FLAG, &FLAG, &WIDE]), Refusal::SetCellsAboveLimit);
+    assert_eq!(refused(&[&FLAG, &FLAG, &WIDE, &unknown]), Refusal::UnknownCode);
+}
+
+#[test]
+fn of_the_opening_of_a_set() {
+    let mut records = [Running::default(); 2];
+    let mut open = |sheet: &[u8], rules: usize, history: usize, words: usize| {
+        set_open(sheet, &mut records[..rules], &mut vec![0; history], &vec![0; words])
+    };
+    assert_eq!(open(&[], 0, 0, 0), Err(Refusal::RuleCount));
+    let wide = sheet_of_rules(&[&WIDE, &BODY]);
+    assert_eq!(open(&wide, 0, 0, 0), Err(Refusal::SetCellsAboveLimit));
+    let sheet = sheet_of_rules(&[&FLAG, &BODY]);
+    assert_eq!(open(&sheet, 2, 1, 88), Ok(()));
+    assert_eq!(open(&sheet, 2, MAX_HISTORY, 88), Ok(()));
+    assert_eq!(open(&sheet, 0, 0, 0), Err(Refusal::HistoryLength));
+    assert_eq!(open(&sheet, 2, MAX_HISTORY + 1, 88), Err(Refusal::HistoryLength));
+    assert_eq!(open(&sheet, 2, 1, 87), Err(Refusal::CellTableTooShort));
+    assert_eq!(open(&sheet, 1, 1, 88), Err(Refusal::CellTableTooShort));
+}
+
+#[test]
+fn of_the_step_of_a_set() {
+    let sheet = sheet_of_rules(&[&FLAG, &BODY]);
+    let (mut records, mut history, mut cells) = ([Running::default(); 2], [0], [0; 88]);
+    set_open(&sheet, &mut records, &mut history, &cells).unwrap();
+    let mut step = |rules: usize, history: usize, words: usize, pairs: usize| {
+        let (records, report) = (&mut records[..rules], &mut [RuleTick::default(); 4][..pairs]);
+        set_step(&sheet, records, 1, &mut vec![0; history], &mut cells[..words], report)
+            .map(|step| step.step)
+    };
+    assert_eq!(step(2, 0, 0, 0), Err(Refusal::HistoryLength));
+    assert_eq!(step(2, 1, 87, 0), Err(Refusal::CellTableTooShort));
+    assert_eq!(step(1, 1, 88, 0), Err(Refusal::CellTableTooShort));
+    assert_eq!(step(0, 9, 88, 0), Err(Refusal::CellTableTooShort));
+    assert_eq!(step(2, 1, 88, 3), Err(Refusal::ReportTooShort));
+    assert_eq!(step(2, 1, 88, 4), Ok(0));
+    records.iter_mut().for_each(|record| record.next = MAX_TICKS as u32);
+    let mut last = |pairs: usize| {
+        let report = &mut [RuleTick::default(); 4][..pairs];
+        set_step(&sheet, &mut records, 1, &mut history, &mut cells, report).unwrap_err()
+    };
+    assert_eq!(last(3), Refusal::ReportTooShort);
+    assert_eq!(last(4), Refusal::TicksUsedUp);
+}
+
+#[test]
+fn of_a_batch_of_a_set() {
+    let sheet = sheet_of_rules(&[&FLAG, &BODY]);
+    let (mut records, mut history, mut cells) = ([Running::default(); 2], [0], [0; 88]);
+    set_open(&sheet, &mut records, &mut history, &cells).unwrap();
+    let mut steps = |sheet: &[u8], history: &mut [u8], words: usize, flags: &[u8]| {
+        set_steps(sheet, &mut records, flags, history, &mut cells[..words], &mut [])
+            .map(|steps| steps.taken)
+    };
+    assert_eq!(steps(&sheet[..1], &mut [], 0, &[]), Err(Refusal::StateNotOpened));
+    assert_eq!(steps(&sheet, &mut [], 0, &[]), Err(Refusal::HistoryLength));
+    assert_eq!(steps(&sheet, &mut history, 87, &[1]), Err(Refusal::CellTableTooShort));
+    assert_eq!(steps(&sheet, &mut history, 88, &[1]), Ok(0)); // never 19
+    records.iter_mut().for_each(|record| record.next = MAX_TICKS as u32);
+    let answer = set_steps(&sheet, &mut records, &[], &mut history, &mut cells, &mut []);
+    assert_eq!(answer, Err(Refusal::TicksUsedUp));
+}
+
+/// "Records are state to 21": every number of a record but its live count.
+#[test]
+fn of_records_that_no_opening_gives() {
+    let sheet = sheet_of_rules(&[&FLAG, &BODY, &FLAG]);
+    let (mut opened, mut history, mut cells) = ([Running::default(); 3], [0; 2], [0; 92]);
+    set_open(&sheet, &mut opened, &mut history, &cells).unwrap();
+    let mut answer = |sheet: &[u8], records: &[Running]| {
+        let (mut records, mut report) = (records.to_vec(), [RuleTick::default(); 5]);
+        set_step(sheet, &mut records, 1, &mut history, &mut cells, &mut report).err()
+    };
+    assert_eq!(answer(&sheet, &opened), None);
+    let changes: [fn(&mut Running); 7] = [
+        |record| record.start += 1,
+        |record| record.size += 1,
+        |record| record.first += 1,
+        |record| record.cells += 1,
+        |record| record.delay += 1,
+        |record| record.opened += 1,
+        |record| record.next += 1,
+    ];
+    for change in changes {
+        for rule in 0..3 {
+            let mut records = opened;
+            change(&mut records[rule]);
+            assert_eq!(answer(&sheet, &records), Some(Refusal::StateNotOpened), "{records:?}");
+        }
+    }
+    // Opened lengths that no opening gives, in all records.
+    for length in [0, 4_097, u32::MAX] {
+        let records = opened.map(|record| Running { opened: length, ..record });
+        assert_eq!(answer(&sheet, &records), Some(Refusal::StateNotOpened), "{records:?}");
+    }
+    // A live count is not looked at, and records after the rules' are not.
+    let lively = opened.map(|record| Running { live: u32::MAX, ..record });
+    assert_eq!(answer(&sheet, &lively), None);
+    let mark = Running { start: u32::MAX, size: u32::MAX, ..opened[0] };
+    assert_eq!(answer(&sheet, &[&opened[..], &[mark]].concat()), None);
+    // No rule, too many, and another sheet.
+    let counted = |count: u8| [&[count], &sheet[1..]].concat();
+    for sheet in [vec![], counted(0), counted(33), sheet_of_rules(&[&BODY, &FLAG, &FLAG])] {
+        assert_eq!(answer(&sheet, &opened), Some(Refusal::StateNotOpened), "{sheet:?}");
+    }
+}
+
+/// Six rules of 768 cells each that lie side by side, which no opening gives: 4,608 cells.
+#[test]
+fn of_records_with_too_many_cells() {
+    let sheet = sheet_of_rules(&[&LATE[..]; 6]);
+    let record = |rule: u32| {
+        let (start, first) = (25 + 12 * rule, 768 * rule);
+        Running { start, size: 12, first, cells: 768, delay: 255, ..Running::default() }
+    };
+    let step = |sheet: &[u8], count: u32| {
+        let mut records: Vec<Running> = (0..count).map(record).collect();
+        let (mut cells, mut report) = (vec![0; 4 * 4_608], vec![RuleTick::default(); 6 * 256]);
+        set_step(sheet, &mut records, 1, &mut [], &mut cells, &mut report).err()
+    };
+    assert_eq!(step(&sheet, 6), Some(Refusal::StateNotOpened));
+    assert_eq!(step(&sheet, 5), Some(Refusal::CellTableTooShort)); // a record too few
+    assert_eq!(step(&[&[5], &sheet[1..]].concat(), 6), None); // five rules are looked at
 }

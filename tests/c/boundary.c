@@ -417,12 +417,204 @@ static void batches(void)
     SAME(SW_STATE_NOT_OPENED, sw_steps(state, down, 2, history, 0, cells, AHEAD_WORDS, report, SW_MAX_BATCH_REPORT, &taken, &pairs, &live));
 }
 
+/* ---- 27, 17 to 21: sets of rules ---- */
+
+/* for all Y from X to X+62: flag 0 at Y: 0, 62, 4095; and flag 0 at X: 0, 0, 1 */
+static const uint8_t wide[] = {5, 2, 0, 0, 0, 2, 0, 62, 0, 1, 1, 0};
+static const uint8_t flag[] = {1, 0, 0};
+
+enum { SET_CELLS = 1 + EXAMPLE_CELLS + AHEAD_CELLS, SET_WORDS = SW_CELL_WORDS * SET_CELLS, SET_PAIRS = 1 + 3 + 256 };
+
+static sw_running records[4];
+static uint32_t set_report[SW_MAX_SET_BATCH_REPORT];
+
+/* The sheet of three rules; of two, where the last is empty. */
+static void write_three(const uint8_t *first, size_t first_len, const uint8_t *second, size_t second_len,
+                        const uint8_t *third, size_t third_len)
+{
+    static uint8_t bodies[3 * SW_MAX_BODY];
+    const uint16_t lengths[] = {(uint16_t)first_len, (uint16_t)second_len, (uint16_t)third_len};
+    memcpy(bodies, first, first_len);
+    memcpy(bodies + first_len, second, second_len);
+    memcpy(bodies + first_len + second_len, third, third_len);
+    SAME(SW_OK, sw_write_sheet(lengths, third_len > 0 ? 3 : 2, bodies, first_len + second_len + third_len,
+                               sheet, sizeof sheet, &sheet_len));
+}
+
+static uint32_t set_figures_are(size_t n, uint64_t h, uint64_t c, uint64_t p)
+{
+    size_t rules = 81;
+    uint64_t history_figure = 82, cells_figure = 83, pairs = 84;
+    uint32_t number = sw_set_figures(sheet, sheet_len, &rules, &history_figure, &cells_figure, &pairs);
+    SAME(number == SW_OK ? n : 81, rules);
+    SAME(number == SW_OK ? h : 82, history_figure);
+    SAME(number == SW_OK ? c : 83, cells_figure);
+    SAME(number == SW_OK ? p : 84, pairs);
+    return number;
+}
+
+static void set_figures(void)
+{
+    write_three(flag, sizeof flag, example, sizeof example, ahead, sizeof ahead);
+    SAME(SW_OK, set_figures_are(3, 1, SET_CELLS, SET_PAIRS));
+    sheet_len--;
+    SAME(SW_ENTRY_LAYOUT, set_figures_are(0, 0, 0, 0));
+    sheet_len = 0;
+    SAME(SW_RULE_COUNT, set_figures_are(0, 0, 0, 0));
+
+    /* Together 4,096 cells, and 4,097; a later rule's own refusal comes before 27. */
+    write_three(wide, sizeof wide, flag, sizeof flag, flag, 0);
+    SAME(SW_OK, set_figures_are(2, 0, SW_MAX_CELLS, 64));
+    write_three(wide, sizeof wide, flag, sizeof flag, flag, sizeof flag);
+    SAME(SW_SET_CELLS_ABOVE_LIMIT, set_figures_are(0, 0, 0, 0));
+    write_three(wide, sizeof wide, example, sizeof example, example, 1);
+    SAME(SW_BODY_ENDS_EARLY, set_figures_are(0, 0, 0, 0));
+}
+
+static uint32_t set_open_with(size_t records_len, size_t history_len, size_t cells_len)
+{
+    return sw_set_open(sheet, sheet_len, records, records_len, history, history_len, cells, cells_len);
+}
+
+static uint32_t set_step_with(size_t records_len, size_t history_len, size_t cells_len, size_t report_len)
+{
+    size_t pairs = 85, live = 86;
+    uint32_t number = sw_set_step(sheet, sheet_len, records, records_len, 0, history, history_len, cells, cells_len,
+                                  set_report, report_len, &pairs, &live);
+    if (number != SW_OK) {
+        SAME(85, pairs);
+        SAME(86, live);
+    }
+    return number;
+}
+
+static void set_opening(void)
+{
+    SAME(32, sizeof(sw_running));
+    write_three(flag, sizeof flag, example, sizeof example, ahead, sizeof ahead);
+    memset(records, 0xEE, sizeof records);
+    SAME(SW_HISTORY_LENGTH, set_open_with(3, 0, SET_WORDS));
+    SAME(SW_HISTORY_LENGTH, set_open_with(3, SW_MAX_HISTORY + 1, SET_WORDS));
+    SAME(SW_CELL_TABLE_TOO_SHORT, set_open_with(3, 1, SET_WORDS - 1));
+    SAME(SW_CELL_TABLE_TOO_SHORT, set_open_with(2, 1, SET_WORDS));
+    SAME(0xEEEEEEEE, records[0].start);
+    SAME(SW_OK, set_open_with(4, SW_MAX_HISTORY, SW_MAX_CELL_WORDS));
+    SAME(SW_MAX_HISTORY, records[2].opened);
+
+    /* The places of the bodies, the parts of the table, and what an opening sets to 0. */
+    memset(history, 0xEE, 2);
+    SAME(SW_OK, set_open_with(4, 1, SET_WORDS));
+    const sw_running due[] = {{13, 3, 0, 1, 0, 1, 0, 0},
+                              {16, sizeof example, 1, EXAMPLE_CELLS, 2, 1, 0, 0},
+                              {16 + sizeof example, sizeof ahead, 1 + EXAMPLE_CELLS, AHEAD_CELLS, SW_MAX_DELAY, 1, 0, 0}};
+    SAME(0, memcmp(due, records, sizeof due));
+    SAME(0xEEEEEEEE, records[3].start);
+    SAME(0xEEEEEEEE, records[3].live);
+    SAME(0, history[0]);
+    SAME(0xEE, history[1]);
+}
+
+static void set_stepping(void)
+{
+    SAME(SW_MAX_SET_REPORT, 2 * SW_MAX_CELLS);
+    SAME(SW_MAX_SET_BATCH_REPORT, 3 * SW_MAX_CELLS);
+    SAME(SW_OK, set_open_with(3, 1, SET_WORDS));
+    SAME(SW_HISTORY_LENGTH, set_step_with(3, 2, SET_WORDS, 2 * SET_PAIRS));
+    SAME(SW_CELL_TABLE_TOO_SHORT, set_step_with(3, 1, SET_WORDS - 1, 2 * SET_PAIRS));
+    SAME(SW_CELL_TABLE_TOO_SHORT, set_step_with(2, 1, SET_WORDS, 2 * SET_PAIRS));
+    SAME(SW_CELL_TABLE_TOO_SHORT, set_step_with(0, 9, SET_WORDS, 2 * SET_PAIRS));
+    SAME(SW_REPORT_TOO_SHORT, set_step_with(3, 1, SET_WORDS, 2 * SET_PAIRS - 1));
+    SAME(0, records[0].next);
+    SAME(SW_OK, set_step_with(3, 1, SET_WORDS, 2 * SET_PAIRS));
+    SAME(1, records[0].next);
+
+    for (int i = 0; i < 3; i++)
+        records[i].next = UINT32_MAX - 1;
+    SAME(SW_OK, set_step_with(3, 1, SET_WORDS, SW_MAX_SET_REPORT));
+    SAME(SW_TICKS_USED_UP, set_step_with(3, 1, SET_WORDS, SW_MAX_SET_REPORT));
+    records[1].next--;
+    SAME(SW_STATE_NOT_OPENED, set_step_with(3, 1, SET_WORDS, SW_MAX_SET_REPORT));
+    SAME(SW_OK, set_open_with(3, 1, SET_WORDS));
+    sheet[0] = SW_MAX_RULES + 1;
+    SAME(SW_STATE_NOT_OPENED, set_step_with(3, 1, SET_WORDS, SW_MAX_SET_REPORT));
+    sheet[0] = 3;
+    memset(records, 0, sizeof records);
+    SAME(SW_STATE_NOT_OPENED, set_step_with(3, 1, SET_WORDS, SW_MAX_SET_REPORT));
+}
+
+/* Rule 0 wants flag 0, rule 1 is the example: the scope document's flags by single steps and
+ * in a batch. */
+static void set_reports(void)
+{
+    static const uint32_t due[][3] = {{0, 0, 0}, {0, 3, 3}, {1, 5, 7}, {0, 8, 8}, {0, 9, 9}};
+    size_t taken = 87, triples = 88, live = 89, pairs, seen = 0;
+    write_three(flag, sizeof flag, example, sizeof example, flag, 0);
+    SAME(SW_OK, set_open_with(2, 1, SW_MAX_CELL_WORDS));
+    for (uint32_t t = 0; t < sizeof flags; t++) {
+        memset(set_report, 0xDD, 9 * sizeof set_report[0]);
+        SAME(SW_OK, sw_set_step(sheet, sheet_len, records, 2, flags[t], history, 1, cells, SW_MAX_CELL_WORDS,
+                                set_report, 8, &pairs, &live));
+        SAME(live, records[0].live + records[1].live);
+        for (size_t i = 0; i < pairs; i++, seen++) {
+            SAME(due[seen][0], set_report[2 * i]);
+            SAME(due[seen][1], set_report[2 * i + 1]);
+            SAME(due[seen][2], t);
+        }
+        SAME(0xDDDDDDDD, set_report[2 * pairs]);
+    }
+    SAME(5, seen);
+    SAME(0, live);
+
+    /* A report that is one word too short: no refusal, and no flag is ever taken. */
+    SAME(SW_OK, set_open_with(2, 1, SW_MAX_CELL_WORDS));
+    SAME(SW_OK, sw_set_steps(sheet, sheet_len, records, 2, flags, sizeof flags, history, 1, cells, SW_MAX_CELL_WORDS,
+                             set_report, 11, &taken, &triples, &live));
+    SAME(0, taken);
+    SAME(0, triples);
+    SAME(SW_OK, sw_set_steps(sheet, sheet_len, records, 2, flags, sizeof flags, history, 1, cells, SW_MAX_CELL_WORDS,
+                             set_report, SW_MAX_SET_BATCH_REPORT, &taken, &triples, &live));
+    SAME(sizeof flags, taken);
+    SAME(5, triples);
+    SAME(0, live);
+    SAME(0, memcmp(due, set_report, sizeof due));
+    SAME(SW_HISTORY_LENGTH, sw_set_steps(sheet, sheet_len, records, 2, flags, 0, history, 0, cells, SW_MAX_CELL_WORDS,
+                                         set_report, 0, &taken, &triples, &live));
+    SAME(sizeof flags, taken);
+}
+
+/* A dishonest table that is not caught: a step ends and writes only what a step may. */
+static void set_dishonest(void)
+{
+    size_t pairs, live;
+    write_three(flag, sizeof flag, example, sizeof example, flag, 0);
+    SAME(SW_OK, set_open_with(3, 4, SW_MAX_CELL_WORDS));
+    records[0].next = records[1].next = 6;
+    sw_running before[3];
+    memcpy(before, records, sizeof before);
+    memset(cells, 0xFF, sizeof cells);
+    memset(history, 0xEE, sizeof history);
+    memset(set_report, 0xDD, sizeof set_report);
+    SAME(SW_OK, sw_set_step(sheet, sheet_len, records, 3, 1, history, 4, cells, SW_MAX_CELL_WORDS, set_report,
+                            SW_MAX_SET_REPORT, &pairs, &live));
+    SAME(1, pairs <= 4);
+    SAME(0xDDDDDDDD, set_report[8]);
+    SAME(UINT32_MAX, cells[SW_CELL_WORDS * (1 + EXAMPLE_CELLS)]);
+    SAME(0xEE, history[1]);
+    SAME(1, history[2]);
+    SAME(0xEE, history[3]);
+    for (int i = 0; i < 2; i++) {
+        before[i].next = 7;
+        before[i].live = records[i].live;
+    }
+    SAME(0, memcmp(before, records, sizeof before));
+}
+
 /* ---- Sentences: header.py compares the texts ---- */
 
 static void sentences(void)
 {
     uint8_t out[SW_MAX_SENTENCE + 1];
-    for (uint32_t number = 0; number <= SW_UNBOUND_NAME + 1; number++) {
+    for (uint32_t number = 0; number <= SW_SET_CELLS_ABOVE_LIMIT + 1; number++) {
         size_t written = 99;
         memset(out, 0xAA, sizeof out);
         SAME(SW_OK, sw_sentence(number, out, SW_MAX_SENTENCE, &written));
@@ -456,6 +648,11 @@ int main(void)
     lending();
     dishonest();
     batches();
+    set_figures();
+    set_opening();
+    set_stepping();
+    set_reports();
+    set_dishonest();
     sentences();
     version();
     printf("boundary.c: %u checks, %u failed\n", checks, failures);

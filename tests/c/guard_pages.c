@@ -12,8 +12,8 @@
 #include "station_watch.h"
 
 /* Whole pages for the longest buffer, a recording of a byte too much; and as many places as
- * sw_steps is lent buffers and answers. */
-enum { PAGE = 4096, ROOM = 17 * PAGE, PLACES = 8 };
+ * sw_set_steps is lent buffers and answers. */
+enum { PAGE = 4096, ROOM = 17 * PAGE, PLACES = 9 };
 
 static uint8_t *places[PLACES];
 static int guard_before;
@@ -203,6 +203,75 @@ static void stepping(void)
     }
 }
 
+/* ---- Sets: the example twice ---- */
+
+enum { RULES = 2, TWO = 9 + RULES * BODY, TWO_WORDS = RULES * WORDS, TWO_PAIRS = RULES * 3 };
+
+static void *records_at(size_t rules)
+{
+    return at(0, rules * sizeof(sw_running));
+}
+
+static uint32_t set_open(size_t sheet, size_t rules, size_t history, size_t words)
+{
+    static uint8_t two[TWO + MORE] = {RULES, 9, 0, BODY, 0, 9 + BODY, 0, BODY, 0};
+    memcpy(two + 9, example, BODY);
+    memcpy(two + 9 + BODY, example, BODY);
+    return sw_set_open(lent(8, two, sheet), sheet, records_at(rules), rules, at(1, history), history,
+                       at(2, 4 * words), words);
+}
+
+/* Over the sheet and the records that the last opening left in places 8 and 0. */
+static uint32_t set_step(size_t rules, size_t history, size_t words, size_t report)
+{
+    return sw_set_step(at(8, TWO), TWO, records_at(rules), rules, 1, at(1, history), history, at(2, 4 * words), words,
+                       at(3, 4 * report), report, answer(5), answer(6));
+}
+
+static uint32_t set_steps(size_t flags, size_t rules, size_t history, size_t words, size_t report)
+{
+    return sw_set_steps(at(8, TWO), TWO, records_at(rules), rules, at(4, flags), flags, at(1, history), history,
+                        at(2, 4 * words), words, at(3, 4 * report), report, answer(5), answer(6), answer(7));
+}
+
+/* Sheets, records, histories, tables, reports and flags in every length. */
+static void sets(void)
+{
+    for (size_t sheet = 0; sheet <= TWO + MORE; sheet++) {
+        uint32_t due = sheet < 9 ? SW_RULE_COUNT : sheet != TWO ? SW_ENTRY_LAYOUT : SW_OK;
+        SAME(due, set_open(sheet, RULES, 1, TWO_WORDS));
+        SAME(due, sw_set_figures(at(8, sheet), sheet, answer(4), answer(5), answer(6), answer(7)));
+    }
+    for (size_t history = 0; history <= SW_MAX_HISTORY + 1; history++)
+        SAME(history == 0 || history > SW_MAX_HISTORY ? SW_HISTORY_LENGTH : SW_OK, set_open(TWO, RULES, history, TWO_WORDS));
+    for (size_t words = 0; words <= TWO_WORDS + MORE; words++)
+        SAME(unless(TWO_WORDS, words, SW_CELL_TABLE_TOO_SHORT), set_open(TWO, RULES, 4, words));
+    for (size_t rules = 0; rules <= RULES + MORE; rules++) {
+        uint32_t due = unless(RULES, rules, SW_CELL_TABLE_TOO_SHORT);
+        SAME(due, set_open(TWO, rules, 4, TWO_WORDS));
+        if (due == SW_OK) {
+            SAME(SW_OK, set_step(rules, 4, TWO_WORDS, 2 * TWO_PAIRS));
+            SAME(SW_OK, set_steps(6, rules, 4, TWO_WORDS, 9 * TWO_PAIRS));
+        }
+    }
+    SAME(SW_OK, set_open(TWO, RULES, 4, TWO_WORDS));
+    for (size_t history = 0; history < 9; history++) {
+        SAME(history == 4 ? SW_OK : SW_HISTORY_LENGTH, set_step(RULES, history, TWO_WORDS, 2 * TWO_PAIRS));
+        SAME(history == 4 ? SW_OK : SW_HISTORY_LENGTH, set_steps(6, RULES, history, TWO_WORDS, 9 * TWO_PAIRS));
+    }
+    for (size_t words = 0; words <= TWO_WORDS + MORE; words++) {
+        SAME(unless(TWO_WORDS, words, SW_CELL_TABLE_TOO_SHORT), set_step(RULES, 4, words, 2 * TWO_PAIRS));
+        SAME(unless(TWO_WORDS, words, SW_CELL_TABLE_TOO_SHORT), set_steps(6, RULES, 4, words, 9 * TWO_PAIRS));
+    }
+    for (size_t report = 0; report <= 4 * TWO_PAIRS; report++) {
+        SAME(unless(2 * TWO_PAIRS, report, SW_REPORT_TOO_SHORT), set_step(RULES, 4, TWO_WORDS, report));
+        SAME(SW_OK, set_steps(report, RULES, 4, TWO_WORDS, report));
+    }
+    SAME(SW_CELL_TABLE_TOO_SHORT, set_step(0, 4, TWO_WORDS, 2 * TWO_PAIRS));
+    /* One record: with the guard before it that of rule 0, else that of rule 1. */
+    SAME(guard_before ? SW_CELL_TABLE_TOO_SHORT : SW_STATE_NOT_OPENED, set_step(1, 4, TWO_WORDS, 2 * TWO_PAIRS));
+}
+
 static void sentences(void)
 {
     for (uint32_t number = 0; number < 30; number++) {
@@ -226,6 +295,7 @@ int main(void)
         recordings();
         sheets();
         stepping();
+        sets();
         sentences();
     }
     printf("guard_pages.c: %u checks, %u failed\n", checks, failures);

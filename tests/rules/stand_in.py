@@ -15,7 +15,7 @@ from notation import Misspelt, compiled, printed, shown  # noqa: E402
 from outcomes import outcome_at  # noqa: E402
 from paper import OPEN, Refused  # noqa: E402
 from sentences import SENTENCES  # noqa: E402
-from watch import rule_0, sheet_of, watch  # noqa: E402
+from watch import bodies, sheet_of, watch  # noqa: E402
 
 
 def refused(number):
@@ -28,13 +28,6 @@ def figures_line(body):
         return "history %d delay %d cells %d" % figures(body)
     except Refused as why:
         return refused(why.args[0])
-
-
-def bodies(sheet):
-    """All bodies of a sheet, after refusals 1 and 2."""
-    rule_0(sheet)
-    word = [sheet[1 + 2 * k] + 256 * sheet[2 + 2 * k] for k in range(2 * sheet[0])]
-    return [sheet[at:at + size] for at, size in zip(word[0::2], word[1::2])]
 
 
 def content(path):

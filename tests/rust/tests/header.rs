@@ -34,6 +34,8 @@ fn wrapped() -> BTreeMap<String, String> {
         ("SW_MAX_CELL_WORDS", station_watch::MAX_CELL_WORDS),
         ("SW_MAX_REPORT", station_watch::MAX_REPORT),
         ("SW_MAX_BATCH_REPORT", 2 * station_watch::MAX_REPORT), // pairs in Rust, words in C
+        ("SW_MAX_SET_REPORT", 2 * station_watch::MAX_SET_REPORT), // pairs too
+        ("SW_MAX_SET_BATCH_REPORT", 3 * station_watch::MAX_SET_REPORT), // triples
         ("SW_MAX_SENTENCE", station_watch::MAX_SENTENCE),
         ("SW_MAX_STACK", station_watch::MAX_STACK),
         ("SW_OPEN", raw::OPEN as usize),
