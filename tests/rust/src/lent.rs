@@ -44,17 +44,7 @@ impl Word for usize {
 
 impl Word for Running {
     fn guard(place: usize) -> Running {
-        let word = |at: usize| <u32 as Word>::guard(8 * place + at);
-        Running {
-            start: word(0),
-            size: word(1),
-            first: word(2),
-            cells: word(3),
-            delay: word(4),
-            opened: word(5),
-            next: word(6),
-            live: word(7),
-        }
+        Running::of_words(std::array::from_fn(|at| <u32 as Word>::guard(8 * place + at)))
     }
 }
 

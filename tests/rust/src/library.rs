@@ -23,6 +23,18 @@ pub struct Running {
     pub live: u32,
 }
 
+impl Running {
+    pub fn of_words(words: [u32; 8]) -> Running {
+        let [start, size, first, cells, delay, opened, next, live] = words;
+        Running { start, size, first, cells, delay, opened, next, live }
+    }
+
+    pub fn words(self) -> [u32; 8] {
+        let Running { start, size, first, cells, delay, opened, next, live } = self;
+        [start, size, first, cells, delay, opened, next, live]
+    }
+}
+
 /// How `outcome` answers a verdict.
 pub const OPEN: u32 = 0;
 pub const TRUE: u32 = 1;

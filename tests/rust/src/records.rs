@@ -37,7 +37,7 @@ pub fn fresh(opened: &OpenedSet) -> Vec<Running> {
 /// What a step makes of a record: "the next tick is t + 1 and the live count is its rule's;
 /// their other numbers [..] are as they were".
 pub fn put_taken(record: &mut Running, live: usize) {
-    record.next += 1;
+    record.next = record.next.wrapping_add(1);
     record.live = live as u32;
 }
 

@@ -204,7 +204,7 @@ impl StandIn {
 
     /// The records as a flawed one takes them, which does not look at all of their numbers.
     fn trusted(&self, sheet: &[u8], records: &[Running]) -> Vec<Running> {
-        let mut first = 0;
+        let mut first: u32 = 0;
         let mut trusted = records.to_vec();
         for (rule, record) in trusted.iter_mut().enumerate() {
             match self.flaw {
@@ -216,9 +216,10 @@ impl StandIn {
                 Flaw::Set(SetFlaw::PlacesIn32Bits) => put_wrapped_place(sheet, rule, record),
                 _ => {}
             }
-            first += record.cells;
+            first = first.wrapping_add(record.cells);
         }
         if self.in_set(SetFlaw::TrustsSum) && first > 4096 {
+            // The answer is another one than 21: there are too few records.
             trusted.truncate(1);
         }
         trusted
@@ -338,7 +339,8 @@ impl StandIn {
         let mut taken = 0;
         for &flag in flags {
             let step = lent.records[0].next;
-            let used_up = u64::from(step) == MAX_TICKS;
+            let used_up = u64::from(step) == MAX_TICKS
+                && !self.in_set(SetFlaw::BatchTakesTickTooMany);
             if lent.report.len() < words.len() + needed || used_up {
                 break;
             }

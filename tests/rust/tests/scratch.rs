@@ -1,0 +1,22 @@
+use rust_tests::{compare, hostile};
+use rust_tests::library::Linked;
+const RIGHT: Linked = Linked;
+macro_rules! t { ($n:ident, $e:expr) => { #[test] fn $n() { let t = std::time::Instant::now(); let r = $e; println!("{} {:?} {:?}", stringify!($n), t.elapsed(), r); r.unwrap(); } } }
+t!(openings, compare::set_openings(&RIGHT, 1, 3000));
+t!(sums, compare::set_sums(&RIGHT));
+t!(orders, compare::set_orders(&RIGHT, 1));
+t!(runs, compare::set_runs(&RIGHT, 3, 100, 5000));
+t!(random_records, hostile::random_records(&RIGHT, 3, 1000));
+t!(disturbed_records, hostile::disturbed_records(&RIGHT, 3, 5));
+t!(exchanged_records, hostile::exchanged_records(&RIGHT, 3, 5));
+t!(other_sheets, hostile::other_sheets(&RIGHT, 3, 5));
+t!(forged_records, hostile::forged_records(&RIGHT, 3, 300));
+t!(summed_records, hostile::summed_records(&RIGHT));
+t!(overwritten_sets, hostile::overwritten_sets(&RIGHT, 3, 20));
+t!(disturbed_neighbours, hostile::disturbed_neighbours(&RIGHT, 3, 20));
+t!(every_set_length, hostile::every_set_length(&RIGHT, 3, 1));
+t!(set_step_orders, hostile::set_step_orders(&RIGHT, 3, 4));
+t!(ticks, hostile::forged_set_ticks(&RIGHT));
+t!(lengths, hostile::forged_set_lengths(&RIGHT));
+t!(empty, hostile::empty_set_slices(&RIGHT));
+t!(huge, hostile::huge_set_lengths(&RIGHT));
