@@ -390,13 +390,7 @@ fn set_parts<'a>(
 }
 
 /// What a step of a set wrote at the guard pages, into what was lent.
-fn give_back(
-    lent: SetLent,
-    records: &[Running],
-    history: &[u8],
-    cells: &[u32],
-    report: &[u32],
-) {
+fn give_back(lent: SetLent, records: &[Running], history: &[u8], cells: &[u32], report: &[u32]) {
     lent.records.copy_from_slice(records);
     lent.history.copy_from_slice(history);
     lent.cells.copy_from_slice(cells);

@@ -57,8 +57,7 @@ pub fn set_opening(
     let mut records = Lent::new(&records_before);
     let mut history = Lent::shifted(&history_before, random.below(8));
     let mut table = Lent::new(&table_before);
-    let number =
-        library.set_open(lent_sheet.part(), records.part(), history.part(), table.part());
+    let number = library.set_open(lent_sheet.part(), records.part(), history.part(), table.part());
     let due = paper::open_set(sheet, lengths);
     let due_number = due.as_ref().err().copied().unwrap_or(0);
     demand!(number == due_number, "{}: answered {number}, due is {due_number}", about());

@@ -12,9 +12,7 @@ use crate::library::{
     Library, Running, SetLent, SetStepAnswer, SetStepsAnswer, State, StepAnswer, StepLent,
     STATE_BYTES,
 };
-use crate::paper::{
-    self, OpenedSet, SetAnswer, SetLengths, SetWatch, CELL_WORDS, MAX_HISTORY,
-};
+use crate::paper::{self, OpenedSet, SetAnswer, SetLengths, SetWatch, CELL_WORDS, MAX_HISTORY};
 use crate::random::{self, Random, Rule};
 use crate::records;
 

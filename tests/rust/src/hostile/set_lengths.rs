@@ -293,8 +293,7 @@ fn empty_set_batches(
     for (sheet, count, words, due) in calls {
         let [mut taken, mut triples, mut live] = [MARK as usize; 3];
         let parts = set_parts(&mut records[..count], &mut cells[..words], &mut []);
-        let answer =
-            SetStepsAnswer { taken: &mut taken, triples: &mut triples, live: &mut live };
+        let answer = SetStepsAnswer { taken: &mut taken, triples: &mut triples, live: &mut live };
         let number = library.set_steps(sheet, &[], parts, answer);
         demand!(number == due, "a batch of none answered {number}, due is {due}");
         let answers = if due == 0 { [0; 3] } else { [MARK as usize; 3] };

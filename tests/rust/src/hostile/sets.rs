@@ -175,7 +175,8 @@ pub fn other_sheets(library: &dyn Library, seed: u64, sets: usize) -> Check<Numb
     let mut random = Random::new(seed);
     let mut numbers = Numbers::default();
     for _ in 0..sets {
-        let lot = some_set(library, &mut random, 1)?;
+        let further = random.below(2);
+        let lot = some_set(library, &mut random, further)?;
         for sheet in sheets_like(&mut random, lot.sheet.seen()) {
             let mut other = SetLot { sheet: Lent::new(&sheet), ..lot.clone() };
             numbers.add(take_one(library, &mut random, &mut other)?);

@@ -51,7 +51,6 @@ pub fn all_cells(rules: &[SetRule]) -> u64 {
     rules.iter().map(|rule| rule.figures.cells).sum()
 }
 
-
 /// The rules of a sheet: 1 and 2, then "all the rules' own 4 to 15 in rule order", 23 and 24
 /// among them.
 pub fn sheet_rules(sheet: &[u8]) -> Result<Vec<SetRule>, Refusal> {

@@ -339,8 +339,8 @@ impl StandIn {
         let mut taken = 0;
         for &flag in flags {
             let step = lent.records[0].next;
-            let used_up = u64::from(step) == MAX_TICKS
-                && !self.in_set(SetFlaw::BatchTakesTickTooMany);
+            let used_up =
+                u64::from(step) == MAX_TICKS && !self.in_set(SetFlaw::BatchTakesTickTooMany);
             if lent.report.len() < words.len() + needed || used_up {
                 break;
             }
