@@ -4,7 +4,8 @@
 //! "For another dishonest state or table it [21] may come before any other; one
 //! not caught gets some ending step, which writes at most one history byte, the
 //! cell table and the report." The library says exactly which are caught, so the
-//! number of every call is checked (`lot`, `states`).
+//! number of every call is checked (`lot`, `states`). The same of sets, whose state are
+//! records (`sets`, `set_lot`, `records`).
 
 mod lengths;
 mod lot;

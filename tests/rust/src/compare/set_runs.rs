@@ -131,17 +131,12 @@ impl<'a> SetRun<'a> {
         let sheet = random::sheet_of_rules(rules);
         let further = random.pick(&[0, 0, 1, 3]);
         let mut due_records = noise(random, rules.len() + further);
-        let cells: u64 = rules.iter().map(|rule| rule.figures.cells).sum();
-        let needed = CELL_WORDS * cells as usize;
-        let table = words_for(random, needed);
-        let lengths = SetLengths {
-            records: due_records.len(),
-            history: history_length,
-            table: table.len(),
-            report: 0,
+        let opened = OpenedSet {
+            rules: paper::set_rules(&sheet)
+                .map_err(|refusal| format!("the paper refuses an accepted set with {refusal}"))?,
+            history_length,
         };
-        let opened = paper::open_set(&sheet, lengths)
-            .map_err(|refusal| format!("the paper refuses an accepted set with {refusal}"))?;
+        let table = words_for(random, opened.needed_words());
         let alone = rules.iter().enumerate();
         let alone = alone.map(|(rule, needs)| Alone::open(library, &sheet, rule, needs));
         let mut run = SetRun {
@@ -152,7 +147,7 @@ impl<'a> SetRun<'a> {
             records: Lent::new(&due_records),
             history: Lent::shifted(&random.bytes(history_length), random.below(8)),
             due_history: vec![0; history_length],
-            due_tail: table[needed..].to_vec(),
+            due_tail: table[opened.needed_words()..].to_vec(),
             cells: Lent::new(&table),
             due_records: Vec::new(),
             due_sheet: sheet,
@@ -399,19 +394,15 @@ impl<'a> SetRun<'a> {
         let mut report = Lent::new(&before);
         let mut lent_flags = Lent::new(flags);
         let mut answers = [MARK as usize; 3].map(Lent::one);
-        let [taken, triples, live] = &mut answers;
         let (records, table) = self.some_lengths_enough(random);
-        let number = self.library.set_steps(
-            self.sheet.seen(),
-            lent_flags.part(),
-            SetLent {
-                records: &mut self.records.part()[..records],
-                history: self.history.part(),
-                cells: &mut self.cells.part()[..table],
-                report: report.part(),
-            },
-            SetStepsAnswer { taken: taken.slot(), triples: triples.slot(), live: live.slot() },
-        );
+        let lent = SetLent {
+            records: &mut self.records.part()[..records],
+            history: self.history.part(),
+            cells: &mut self.cells.part()[..table],
+            report: report.part(),
+        };
+        let (sheet, flags_part) = (self.sheet.seen(), lent_flags.part());
+        let number = step_or_batch(self.library, sheet, flags_part, true, lent, &mut answers);
         let (due_taken, due_triples) = self.due_batch(flags, room, tally);
         demand!(number == 0, "a batch of a set at {first} answered {number}");
         let answered = answers.each_ref().map(|answer| answer.seen()[0]);
@@ -425,8 +416,7 @@ impl<'a> SetRun<'a> {
         let guards = report.guards_hold() && lent_flags.guards_hold();
         demand!(guards && answers.iter().all(Lent::guards_hold), "a batch wrote outside");
         self.check_memory()?;
-        let triples: Vec<_> = words.chunks(3).map(|word| [word[0], word[1], word[2]]).collect();
-        self.check_alone(first, &flags[..due_taken], &triples)?;
+        self.check_alone(first, &flags[..due_taken], &due_triples)?;
         Ok(due_taken)
     }
 

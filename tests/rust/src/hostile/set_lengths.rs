@@ -6,7 +6,7 @@ use super::set_lot::{honest_set, set_batch, set_step, SetLot};
 use crate::compare::{self, Check, Numbers, MARK};
 use crate::demand;
 use crate::lent::Lent;
-use crate::library::{Library, Running, SetFiguresAnswer, SetLent, SetStepAnswer, SetStepsAnswer};
+use crate::library::{Library, Running, SetLent, SetStepAnswer, SetStepsAnswer};
 use crate::paper::{SetLengths, CELL_WORDS, MAX_HISTORY, MAX_RULES};
 use crate::random::{self, Random, Rule};
 
@@ -232,16 +232,8 @@ pub fn forged_set_lengths(library: &dyn Library) -> Check<u64> {
 /// Empty slices, whose pointers dangle.
 pub fn empty_set_slices(library: &dyn Library) -> Check {
     let sheet = random::sheet_of(&[vec![1, 0, 0]]);
-    let (mut rules, mut history, mut cells, mut pairs) = (MARK as usize, MARK, MARK, MARK);
-    let answer = SetFiguresAnswer {
-        rules: &mut rules,
-        history: &mut history,
-        cells: &mut cells,
-        pairs: &mut pairs,
-    };
-    let number = library.set_figures(&[], answer);
-    let kept = (rules, history, cells, pairs) == (MARK as usize, MARK, MARK, MARK);
-    demand!(number == 1 && kept, "no sheet: figures answered {number}");
+    let number = compare::set_figures(library, &[])?;
+    demand!(number == 1, "no sheet: figures answered {number}");
     let mut records = [Running::default()];
     let openings = [
         ("no sheet", library.set_open(&[], &mut [], &mut [], &[]), 1),
@@ -253,24 +245,30 @@ pub fn empty_set_slices(library: &dyn Library) -> Check {
         demand!(number == due, "{lent}: opening a set answered {number}, due is {due}");
     }
     let mut table = [9; 4];
-    let calls: [(&str, &[u8], usize, usize, u32); 5] = [
-        ("no sheet", &[], 1, 2, 21),
-        ("no records", &sheet, 0, 2, 18),
-        ("no report", &sheet, 1, 0, 19),
-        ("no history", &sheet, 1, 2, 0),
-        ("no history again", &sheet, 1, 2, 0),
-    ];
-    for (lent, sheet, count, room, due) in calls {
+    empty_set_steps(library, &sheet, &mut records, &mut table)?;
+    empty_set_batches(library, &sheet, &mut records, &mut table)
+}
+
+/// Steps without a sheet, records, a report or a history.
+fn empty_set_steps(
+    library: &dyn Library,
+    sheet: &[u8],
+    records: &mut [Running],
+    cells: &mut [u32],
+) -> Check {
+    let calls: [(&[u8], usize, usize, u32); 5] =
+        [(&[], 1, 2, 21), (sheet, 0, 2, 18), (sheet, 1, 0, 19), (sheet, 1, 2, 0), (sheet, 1, 2, 0)];
+    for (sheet, count, room, due) in calls {
         let (mut pairs, mut live) = (MARK as usize, MARK as usize);
         let mut report = [7; 2];
-        let parts = set_parts(&mut records[..count], &mut table, &mut report[..room]);
+        let parts = set_parts(&mut records[..count], cells, &mut report[..room]);
         let answer = SetStepAnswer { pairs: &mut pairs, live: &mut live };
         let number = library.set_step(sheet, 0, parts, answer);
-        demand!(number == due, "{lent}: a step of a set answered {number}, due is {due}");
+        demand!(number == due, "a step without history answered {number}, due is {due}");
         let answers = if due == 0 { (1, 0) } else { (MARK as usize, MARK as usize) };
-        demand!((pairs, live) == answers, "{lent}: a step of a set answered {pairs} and {live}");
+        demand!((pairs, live) == answers, "a step without history: {pairs} pairs, {live} live");
     }
-    empty_set_batches(library, &sheet, &mut records, &mut table)
+    Ok(())
 }
 
 fn set_parts<'a>(

@@ -330,32 +330,42 @@ impl StandIn {
             Err(number) => return number,
             Ok(opened) => opened,
         };
-        let most = opened.most_pairs();
-        if self.in_set(SetFlaw::BatchAnswers19) && lent.report.len() < 3 * most {
+        if self.in_set(SetFlaw::BatchAnswers19) && lent.report.len() < 3 * opened.most_pairs() {
             return 19;
         }
-        let needed = if self.in_set(SetFlaw::BatchFillsReport) { 2 * most } else { 3 * most };
-        let mut words = Vec::new();
-        let mut taken = 0;
-        for &flag in flags {
-            let step = lent.records[0].next;
-            let used_up =
-                u64::from(step) == MAX_TICKS && !self.in_set(SetFlaw::BatchTakesTickTooMany);
-            if lent.report.len() < words.len() + needed || used_up {
-                break;
-            }
-            for [rule, tick] in self.take_flag(&opened, flag, &mut lent).pairs {
-                let step_first = self.in_set(SetFlaw::BatchStepsFirst);
-                words.extend(if step_first { [step, rule, tick] } else { [rule, tick, step] });
-            }
-            taken += 1;
-        }
+        let (taken, triples) = self.take_flags(&opened, flags, &mut lent);
+        let words = triples.concat();
         let room = words.len().min(lent.report.len());
         lent.report[..room].copy_from_slice(&words[..room]);
         let live = lent.records[..opened.rules.len()].iter().map(|rule| rule.live as usize).sum();
-        (*answer.taken, *answer.triples) = (taken, words.len() / 3);
+        (*answer.taken, *answer.triples) = (taken, triples.len());
         *answer.live = if self.in_set(SetFlaw::BatchForgetsLive) { 0 } else { live };
         0
+    }
+
+    /// As many flags as have room: how many, and their triples.
+    fn take_flags(
+        &self,
+        opened: &OpenedSet,
+        flags: &[u8],
+        lent: &mut SetLent,
+    ) -> (usize, Vec<[u32; 3]>) {
+        let most = opened.most_pairs();
+        let needed = if self.in_set(SetFlaw::BatchFillsReport) { 2 * most } else { 3 * most };
+        let mut triples: Vec<[u32; 3]> = Vec::new();
+        for (taken, &flag) in flags.iter().enumerate() {
+            let step = lent.records[0].next;
+            let used_up =
+                u64::from(step) == MAX_TICKS && !self.in_set(SetFlaw::BatchTakesTickTooMany);
+            if lent.report.len() < 3 * triples.len() + needed || used_up {
+                return (taken, triples);
+            }
+            for [rule, tick] in self.take_flag(opened, flag, lent).pairs {
+                let step_first = self.in_set(SetFlaw::BatchStepsFirst);
+                triples.push(if step_first { [step, rule, tick] } else { [rule, tick, step] });
+            }
+        }
+        (flags.len(), triples)
     }
 }
 
