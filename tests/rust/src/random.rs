@@ -14,7 +14,7 @@ pub use bodies::{
 };
 pub use formulas::{accepted_rule, depth, quantifiers, size, visits, wild_formula, Rule};
 pub use sets::{
-    any_set_sheet, refused_with, rule_of_cells, rule_set, rules_within, sheet_of_rules,
+    any_set_sheet, refused_with, rule_ahead, rule_of_cells, rule_set, rules_within, sheet_of_rules,
 };
 pub use sheets::{damaged_sheet, sheet_bodies, sheet_of, sheet_with, writer_input, WriterInput};
 pub use streams::stream;

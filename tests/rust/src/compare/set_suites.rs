@@ -19,16 +19,29 @@ pub fn set_runs(library: &dyn Library, seed: u64, sets: u64, steps: u64) -> Chec
     while tally.sets < sets || tally.steps < steps {
         let rules = random::rule_set(&mut random);
         let history = some_history_length(&mut random, &rules);
-        let often = if random.one_in(30) { 3 } else { 1 };
-        let taken = often * random.size(average / 2, average * 3 / 2);
+        let taken = some_steps(&mut random, &rules, average);
         set_run(library, &mut random, &rules, history, taken, &mut tally)?;
     }
     Ok(tally)
 }
 
+fn largest_history(rules: &[Rule]) -> usize {
+    rules.iter().map(|rule| rule.figures.history).max().unwrap_or(0) as usize
+}
+
+/// About the average; a few streams go twice round a long history.
+fn some_steps(random: &mut Random, rules: &[Rule], average: usize) -> usize {
+    let history = largest_history(rules);
+    if history > 200 && random.one_in(100) {
+        return 2 * history + random.below(200);
+    }
+    let often = if random.one_in(30) { 3 } else { 1 };
+    often * random.size(average / 2, average * 3 / 2)
+}
+
 /// h, h + 1, 4,096, or one between.
 fn some_history_length(random: &mut Random, rules: &[Rule]) -> usize {
-    let least = rules.iter().map(|rule| rule.figures.history).max().unwrap_or(0) as usize;
+    let least = largest_history(rules);
     let length = match random.below(8) {
         0..=2 => least,
         3 | 4 => least + 1,
@@ -92,12 +105,12 @@ fn lengths_needed(set: &OpenedSet) -> SetLengths {
 pub fn set_sums(library: &dyn Library) -> Check<Numbers> {
     let mut random = Random::new(4);
     let mut numbers = Numbers::default();
-    for (cells, due) in sum_cases() {
-        let rules: Vec<Rule> = cells.iter().map(|&cells| random::rule_of_cells(cells)).collect();
+    for (rules, due) in sum_cases() {
         let sheet = random::sheet_of_rules(&rules);
+        let cells: Vec<u64> = rules.iter().map(|rule| rule.figures.cells).collect();
         let number = set_figures(library, &sheet)?;
         demand!(number == due, "cells {cells:?}: answered {number}, due is {due}");
-        let history = rules.iter().map(|rule| rule.figures.history).max().unwrap_or(0) as usize;
+        let history = largest_history(&rules);
         let table = CELL_WORDS * cells.iter().sum::<u64>() as usize;
         let enough = SetLengths { records: rules.len(), history, table, report: 0 };
         let number = set_opening(library, &mut random, &sheet, enough)?;
@@ -107,8 +120,17 @@ pub fn set_sums(library: &dyn Library) -> Check<Numbers> {
     Ok(numbers)
 }
 
-fn sum_cases() -> Vec<(Vec<u64>, u32)> {
-    let mut cases = vec![
+fn sum_cases() -> Vec<(Vec<Rule>, u32)> {
+    let of_cells = |(cells, due): (Vec<u64>, u32)| {
+        (cells.into_iter().map(random::rule_of_cells).collect::<Vec<_>>(), due)
+    };
+    let chosen = chosen_sums().into_iter().map(of_cells);
+    let placed = (2..=MAX_RULES).flat_map(placed_sums).map(of_cells);
+    chosen.chain(placed).chain(delayed_sums()).collect()
+}
+
+fn chosen_sums() -> Vec<(Vec<u64>, u32)> {
+    vec![
         (vec![4096], 0),
         (vec![1365, 1365, 1366], 0),
         (vec![1366, 1366, 1365], 27),
@@ -121,21 +143,39 @@ fn sum_cases() -> Vec<(Vec<u64>, u32)> {
         ([vec![4096; 16], vec![1]].concat(), 27),
         ([vec![1], vec![4096; 16]].concat(), 27),
         (vec![4096; 32], 27),
-    ];
-    for count in 2..=MAX_RULES {
-        for place in 0..count {
-            let mut cells = vec![1; count];
-            cells[place] = 4097 - count as u64;
-            cases.push((cells.clone(), 0));
-            cells[place] += 1;
-            cases.push((cells.clone(), 27));
-        }
-        // The sum is passed at the last rule alone.
-        let mut cells = vec![4096 / (count as u64 - 1); count];
-        cells[count - 1] = 4097 - cells[..count - 1].iter().sum::<u64>();
-        cases.push((cells, 27));
-    }
+    ]
+}
+
+/// One large rule among those of one cell, at every place.
+fn placed_sums(count: usize) -> Vec<(Vec<u64>, u32)> {
+    let with = |place: usize, cells| {
+        let mut all = vec![1; count];
+        all[place] = cells;
+        all
+    };
+    let largest = 4097 - count as u64;
+    let of_place = |place| [(with(place, largest), 0), (with(place, largest + 1), 27)];
+    let mut cases: Vec<_> = (0..count).flat_map(of_place).collect();
+    // The sum is passed at the last rule alone.
+    let mut cells = vec![4096 / (count as u64 - 1); count];
+    cells[count - 1] = 4097 - cells[..count - 1].iter().sum::<u64>();
+    cases.push((cells, 27));
     cases
+}
+
+/// Ranges from X to X + n, which have (n + 1) * (n + 3) cells, filled up to 4,096 and 4,097 by a
+/// rule before or after them.
+fn delayed_sums() -> Vec<(Vec<Rule>, u32)> {
+    let filled = |n: i64| {
+        let delayed = random::rule_ahead(n);
+        let left = 4096 - delayed.figures.cells;
+        [(left, 0), (left + 1, 27)].into_iter().flat_map(move |(cells, due)| {
+            let filler = random::rule_of_cells(cells);
+            let (before, after) = (filler.clone(), filler);
+            [(vec![before, delayed.clone()], due), (vec![delayed.clone(), after], due)]
+        })
+    };
+    (0..=62).flat_map(filled).collect()
 }
 
 /// Sheets with many reasons for a refusal: 1, 2, the first refused rule's, 27, 17, 18, of which

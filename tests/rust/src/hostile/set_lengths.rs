@@ -318,9 +318,14 @@ pub fn huge_set_lengths(library: &dyn Library) -> Check {
     lot.sheet = Lent::new(&sheet);
     lot.report = Lent::new(&vec![3; HUGE]);
     let taken = set_step(library, &mut lot, 1)?.0;
+    // The whole rest of the sheet is no body.
+    let mut long_body = lot.clone();
+    let last = &mut long_body.records.part()[rules.len() - 1];
+    last.size = HUGE as u32 - last.start;
+    let refused_body = set_step(library, &mut long_body, 1)?.0;
     lot.history = Lent::new(&vec![3; HUGE]);
     let refused_step = set_step(library, &mut lot, 1)?.0;
-    let numbers = [opened, refused, refused_sheet, taken, refused_step];
-    demand!(numbers == [0, 17, 2, 0, 17], "huge lengths: answered {numbers:?}");
+    let numbers = [opened, refused, refused_sheet, taken, refused_body, refused_step];
+    demand!(numbers == [0, 17, 2, 0, 21, 17], "huge lengths: answered {numbers:?}");
     Ok(())
 }

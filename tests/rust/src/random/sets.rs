@@ -60,8 +60,19 @@ pub fn rule_of_cells(cells: u64) -> Rule {
         2 => range(Bound::Infinity),
         _ => range(x(3 - cells as i64)),
     };
-    let figures = formula_figures(&formula).expect("at most 4,096 cells");
-    assert_eq!(figures.cells, cells, "{formula:?}");
+    let rule = rule_of(formula);
+    assert_eq!(rule.figures.cells, cells, "{rule:?}");
+    rule
+}
+
+/// The rule of a range from X to X + n, n at most 62: its delay is n.
+pub fn rule_ahead(n: i64) -> Rule {
+    let x = |offset| Bound::Variable(0, offset);
+    rule_of(Formula::ForAll(x(0), x(n), Box::new(Formula::Flag(1, 0))))
+}
+
+fn rule_of(formula: Formula) -> Rule {
+    let figures = formula_figures(&formula).expect("the rule opens");
     Rule { body: write_body(&formula), formula, figures }
 }
 
