@@ -297,7 +297,9 @@ fn of_records_that_no_opening_gives() {
     assert_eq!(answer(&sheet, &lively), None);
     let mark = Running { start: u32::MAX, size: u32::MAX, ..opened[0] };
     assert_eq!(answer(&sheet, &[&opened[..], &[mark]].concat()), None);
-    // No rule, too many, and another sheet.
+    // A sheet that is cut short, no rule, too many, and another sheet.
+    let short = &sheet[..sheet.len() - 1];
+    assert_eq!(answer(short, &opened), Some(Refusal::StateNotOpened));
     let counted = |count: u8| [&[count], &sheet[1..]].concat();
     for sheet in [vec![], counted(0), counted(33), sheet_of_rules(&[&BODY, &FLAG, &FLAG])] {
         assert_eq!(answer(&sheet, &opened), Some(Refusal::StateNotOpened), "{sheet:?}");

@@ -109,6 +109,11 @@ fn what_a_step_sets() {
     assert_eq!(lent.records[3..], [RECORD; 2]);
     assert_eq!(lent.cells[4 * 790..], [WORD; 3]);
     assert_eq!(lent.sheet, before.sheet);
+    // A batch of no flags changes nothing.
+    let before = lent.clone();
+    let steps = lent.steps(&[]).unwrap();
+    assert_eq!((steps.taken, steps.triples, steps.live), (0, &[][..], 1));
+    assert_eq!(lent, before);
 }
 
 /// Rule 0 is the example; rule 1 wants flag 0 down. Ticks of one step come by rule first.
