@@ -151,17 +151,16 @@ module _ (ns : List ℕ) (f : Figures) (c : ℕ) (hist : List ℕ) (b t low : �
       )
 
   -- the tick is taken, of every state whose rule stands in the table
-  pub rule-takes : (hist′ : List ℕ) → hist′ ≡ set hist (t % length hist) b → length report′ ≡ length report₀
-      → Spared (f .delay + 1) ((f .delay + 1) * c) table report₀ reported live-count table′ report′
-      → TickMoved ns f t hist b table report₀ reported live-count hist′ table′ report′
-  rule-takes hist′ stored same spared =
+  pub rule-takes : length report′ ≡ length report₀ → Spared (f .delay + 1) ((f .delay + 1) * c) table report₀ reported live-count table′ report′
+      → TickMoved ns f t hist b table report₀ reported live-count (set hist (t % length hist) b) table′ report′
+  rule-takes same spared =
       record {
         takes = λ s at.
             let whole : (f .delay + 1) * c ≡ 4 * f .cells =
             ap (λ (x : ℕ). (f .delay + 1) * x) (ec ∙ slot-words (at .formula) f ns (at .prepares)) ∙ all-words (at .formula) f ns (at .prepares) in
             record {
               state = refl;
-              history-is = rw (at .next, at .opened) stored;
+              history-is = rw (at .next, at .opened) refl;
               cells-length = long;
               cells-rest = rw (← whole) (spared .table-rest);
               few = spared .few;

@@ -33,8 +33,8 @@ pub data Line (Stands : Invariant) (h L : ℕ) : State → List ℕ → List ℕ
       → Line Stands h L s table w t calls
       → Line Stands h L s table history t (write w ∷ calls)
 
--- Cells that took the place of a table's first n words.
-module _ (n : ℕ) (table cells : List ℕ) (same : length cells ≡ length (take n table)) where
+-- Cells, or records, that took the place of a list's first n.
+module _ {A : Type 0} (n : ℕ) (table cells : List A) (same : length cells ≡ length (take n table)) where
   again : (b : Bool) → leb n (length table) ≡ b → (take n (cells ++ drop n table) ≡ cells) × (drop n (cells ++ drop n table) ≡ drop n table)
   again true e =
       let long : length cells ≡ n = same ∙ length-take-le n table (leb-true n (length table) e) in
@@ -43,14 +43,14 @@ module _ (n : ℕ) (table cells : List ℕ) (same : length cells ≡ length (tak
       let short = leb-false n (length table) e in
       let l = length-take n table in
       let gone : drop n table ≡ [] = drop-of-length-le table {i = n} (omega arith) in
-      let whole : cells ++ drop n table ≡ cells = ap (λ (l : List ℕ). cells ++ l) gone ∙ append-nil cells in
+      let whole : cells ++ drop n table ≡ cells = ap (λ (l : List A). cells ++ l) gone ∙ append-nil cells in
       let few : length cells ≤ n = omega arith in
       (ap (take n) whole ∙ take-all n cells few, ap (drop n) whole ∙ drop-of-length-le cells {i = n} few ∙ sym gone)
 
-  front-again : take n (cells ++ drop n table) ≡ cells
+  pub front-again : take n (cells ++ drop n table) ≡ cells
   front-again = again (leb n (length table)) refl .0
 
-  rest-again : drop n (cells ++ drop n table) ≡ drop n table
+  pub rest-again : drop n (cells ++ drop n table) ≡ drop n table
   rest-again = again (leb n (length table)) refl .1
 
 -- The steps of a chain keep the cells' length.

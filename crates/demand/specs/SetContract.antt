@@ -316,6 +316,7 @@ pub record TickMeans (Stands : Invariant) (before : State) (F : Formula) (flags 
 
 pub record Ticked (Stands : Invariant) (before : State) (figures : Figures) (flag : ℕ) (history cells cells′ ticks : List ℕ) (after : State) : Type 0 where
   pub few : length ticks ≤ figures .delay + 1
+  pub few-live : after .live-count ≤ figures .delay + 1
   pub means : (F : Formula) → body (before .body-bytes) ≡ accepted F → (flags : ℕ → ℕ) → flags (before .next) ≡ flag
       → HistoryHolds flags (before .opened) (figures .history) (before .next) history → Stands before cells flags
       → TickMeans Stands before F flags cells′ ticks after

@@ -2,9 +2,9 @@
 ghost use mathlib.Core.Path.{_≡_};
 ghost use mathlib.Core.Bool.{cond};
 ghost use mathlib.Core.List.{_++_};
-ghost use Prim.Native.Nat.{_+_, _*_, _-_, _≤_, _<_};
+ghost use Prim.Native.Nat.{_+_, _*_, _-_, _%_, _≤_, _<_};
 ghost use lib.Dec.{eqb};
-ghost use lib.ListN.{length, drop, take};
+ghost use lib.ListN.{length, drop, take, set};
 ghost use Rattle.cell_runs.specs.Tree.{tree-at};
 ghost use Rattle.cell_runs.specs.Instances.{InstanceMoved, InstanceFit, tick-if-false, TicksFit, TicksMoved, Spared};
 ghost use Rattle.cell_runs.specs.Moves.{TickFit, TickMoved};
@@ -125,8 +125,38 @@ fn move_ticks(
     Moved { reported, live }
 }
 
-// Takes tick t, whose flag byte is given, of the rule whose node table is `nodes`: starts its instance, moves all live ones, writes the ticks that are
-// false at this step into the report, and stores the byte in the history, last.
+// Takes tick t, whose flag byte is given, of the rule whose node table is `nodes`, all but storing the byte: starts its instance, moves all live ones, and
+// writes the ticks that are false at this step into the report. The history is only read, so that more rules can take the tick before the byte is stored.
+pub(crate) fn move_rule(
+    nodes: &[u32; TABLE_WORDS],
+    figures: Figures,
+    t: u64,
+    history: &[u8],
+    flag: u8,
+    cells: &mut [u32],
+    report: &mut [u32],
+) -> Moved
+    requires { ⌜ TickFit (now nodes) figures (length (now history)) t (length (now cells)) (length (now report)) ⌝ }
+    ensures { λ r. ⌜ TickMoved (now (nodes .entry)) figures t (now (history .entry)) flag (now (cells .entry)) (now (report .entry)) (r .reported) (r .live) (set (now (history .entry)) (t % length (now (history .entry))) flag) (now (cells .exit)) (now (report .exit)) ⌝ }
+{
+    let count = figures.delay + 1;
+    let size = (figures.cells / count) as usize * CELL_WORDS;
+    let low = oldest_tick(t, count);
+    move_ticks(
+        nodes,
+        FORMULAS,
+        cells,
+        history,
+        flag,
+        report,
+        t,
+        low,
+        count,
+        size,
+    )
+}
+
+// Takes tick t of one rule, and stores its byte in the history, last.
 pub(crate) fn move_tick(
     nodes: &[u32; TABLE_WORDS],
     figures: Figures,
@@ -139,21 +169,7 @@ pub(crate) fn move_tick(
     requires { ⌜ TickFit (now nodes) figures (length (now history)) t (length (now cells)) (length (now report)) ⌝ }
     ensures { λ r. ⌜ TickMoved (now (nodes .entry)) figures t (now (history .entry)) flag (now (cells .entry)) (now (report .entry)) (r .reported) (r .live) (now (history .exit)) (now (cells .exit)) (now (report .exit)) ⌝ }
 {
-    let count = figures.delay + 1;
-    let size = (figures.cells / count) as usize * CELL_WORDS;
-    let low = oldest_tick(t, count);
-    let moved = move_ticks(
-        nodes,
-        FORMULAS,
-        cells,
-        history,
-        flag,
-        report,
-        t,
-        low,
-        count,
-        size,
-    );
+    let moved = move_rule(nodes, figures, t, history, flag, cells, report);
     remember(history, t, flag);
     moved
 }

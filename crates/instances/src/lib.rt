@@ -11,3 +11,4 @@ pub use batch::BatchAnswer;
 pub use batch::take_batch;
 pub use stepping::StepAnswer;
 pub use stepping::take_step;
+pub use stepping::take_tick;

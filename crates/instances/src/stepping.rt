@@ -1,9 +1,10 @@
 // One step of a rule: refused, or its tick taken.
-ghost use Rattle.instances.specs.Answers.{StepOf};
-use crate::instances::move_tick;
+ghost use Rattle.instances.specs.Answers.{StepOf, TickOf};
+use crate::instances::move_rule;
 use figure_limits::FigureAnswer;
 use nodes::TABLE_WORDS;
 use refusal::Refusal;
+use ring::remember;
 
 // How many ticks were reported and how many are live, or why the step was refused.
 pub enum StepAnswer {
@@ -11,17 +12,18 @@ pub enum StepAnswer {
     Refused(Refusal),
 }
 
-// Takes the tick of the rule with this body, whose history was opened with `opened` bytes, however many ticks are live. A refusal changes nothing.
-pub fn take_step(
+// Takes the tick of the rule with this body, whose history was opened with `opened` bytes, however many ticks are live, all but storing its byte: the
+// rules of a set take their tick one after another over the same history. A refusal changes nothing.
+pub fn take_tick(
     body: &[u8],
     opened: usize,
     tick: u32,
-    history: &mut [u8],
+    history: &[u8],
     flag: u8,
     cells: &mut [u32],
     report: &mut [u32],
 ) -> StepAnswer
-    ensures { λ r. ⌜ StepOf (now (body .entry)) opened tick flag (now (history .entry)) (now (cells .entry)) (now (report .entry)) r (now (history .exit)) (now (cells .exit)) (now (report .exit)) ⌝ }
+    ensures { λ r. ⌜ TickOf (now (body .entry)) opened tick flag (now (history .entry)) (now (cells .entry)) (now (report .entry)) r (now (cells .exit)) (now (report .exit)) ⌝ }
 {
     let mut nodes = [0u32; TABLE_WORDS];
     let admitted = admission::admit_step(
@@ -36,8 +38,28 @@ pub fn take_step(
     match admitted {
         FigureAnswer::Refused(refusal) => StepAnswer::Refused(refusal),
         FigureAnswer::Sized(figures) => {
-            let moved = move_tick(&nodes, figures, tick as u64, history, flag, cells, report);
+            let moved = move_rule(&nodes, figures, tick as u64, history, flag, cells, report);
             StepAnswer::Taken(moved.reported, moved.live)
         }
     }
+}
+
+// The same, and stores the byte of a tick that was taken.
+pub fn take_step(
+    body: &[u8],
+    opened: usize,
+    tick: u32,
+    history: &mut [u8],
+    flag: u8,
+    cells: &mut [u32],
+    report: &mut [u32],
+) -> StepAnswer
+    ensures { λ r. ⌜ StepOf (now (body .entry)) opened tick flag (now (history .entry)) (now (cells .entry)) (now (report .entry)) r (now (history .exit)) (now (cells .exit)) (now (report .exit)) ⌝ }
+{
+    let answer = take_tick(body, opened, tick, history, flag, cells, report);
+    let StepAnswer::Taken(_, _) = answer else {
+        return answer;
+    };
+    remember(history, tick as u64, flag);
+    answer
 }

@@ -1,32 +1,20 @@
 -- `instances::stepping::take_step` meets its contract. Assumes nothing.
-use mathlib.Core.Path.{refl}
-use lib.ListN.{length}
-use Rattle.demand.specs.Contract.{state-at}
-use Rattle.cell_runs.proofs.Takes.{admitted-as, refused-as, table-of, tick-fits}
+use Prim.Native.Nat.{ℕ, _%_}
+use mathlib.Core.Path.{ap, _∙_}
+use lib.ListN.{length, set}
+use Rattle.demand.proofs.Admission.{step-admitted}
 use borrow.Author.Needs.{needs}
 use Rattle.instances.proofs.stepping.take_step.Statement.{statement}
 use Rattle.instances.proofs.stepping.take_step.Tie as tie
 
-admit-step-requires : tie.Need-admit-step-requires
-admit-step-requires c κs = search needs
+take-tick-requires : tie.Need-take-tick-requires
+take-tick-requires c κs = search needs
 
-enum-known-admitted : tie.Need-enum-known-admitted
-enum-known-admitted c = search needs
+enum-told : tie.Need-enum-told
+enum-told c = search needs
 
-enum-known-admitted-2 : tie.Need-enum-known-admitted-2
-enum-known-admitted-2 c = search needs
-
-move-tick-requires : tie.Need-move-tick-requires
-move-tick-requires c κs =
-    let s₀ = c .before .before .before .before .before .before .before .before .before .before .before .before .before in
-    let step = c .before .before .before .before .before .before .before .admit-step in
-    tick-fits (s₀ .args .body .now) (s₀ .args .opened) (s₀ .args .tick) (length (s₀ .args .history .now)) (length (s₀ .args .cells .now)) (length (s₀ .args .report .now)) (step .result) (step .last .1 .1 .1 .1 .1 .1 .0) (step .ensures) (c .before .before .before .before .before .admitted2 .given .0 .0) (c .before .before .before .before .before .admitted2 .given .1) (search needs)
-
-returns : tie.Need-returns
-returns c live =
-    let s₀ = c .before .before .before .before .before .before .before .before .before in
-    let step = c .before .before .before .admit-step in
-    (refused-as (s₀ .args .body .now) (s₀ .args .opened) (s₀ .args .tick) (length (s₀ .args .history .now)) (length (s₀ .args .cells .now)) (length (s₀ .args .report .now)) (step .result) (step .last .1 .1 .1 .1 .1 .1 .0) (step .ensures) (c .before .admitted .given .1), (refl, refl, refl))
+enum-told-2 : tie.Need-enum-told-2
+enum-told-2 c = search needs
 
 same-length : tie.Need-same-length
 same-length c = search needs
@@ -37,27 +25,45 @@ same-length-2 c = search needs
 same-length-3 : tie.Need-same-length-3
 same-length-3 c = search needs
 
+returns : tie.Need-returns
+returns c live =
+    let told = c .enum-told2 .given .1 in
+    rw told (rw told at (c .before .before .before .before .before .before .take-tick .ensures live))
+
+remember-requires : tie.Need-remember-requires
+remember-requires c κs = search needs
+
+same-length-4 : tie.Need-same-length-4
+same-length-4 c = search needs
+
+same-length-5 : tie.Need-same-length-5
+same-length-5 c = search needs
+
+same-length-6 : tie.Need-same-length-6
+same-length-6 c = search needs
+
 returns-2 : tie.Need-returns-2
 returns-2 c live =
-    let s₀ = c .before .before .before .before .before .before .before .before .before .before .before .before .before .before .before .before .before .before .before .before in
-    let step = c .before .before .before .before .before .before .before .before .before .before .before .before .before .before .admit-step in
-    let f = c .before .before .before .before .before .before .before .before .before .before .before .before .admitted2 .given .0 .0 in
-    let sized = c .before .before .before .before .before .before .before .before .before .before .before .before .admitted2 .given .1 in (
-      f,
-      admitted-as (s₀ .args .body .now) (s₀ .args .opened) (s₀ .args .tick) (length (s₀ .args .history .now)) (length (s₀ .args .cells .now)) (length (s₀ .args .report .now)) (step .result) (step .last .1 .1 .1 .1 .1 .1 .0) (step .ensures) sized,
-      c .before .before .before .before .before .before .move-tick .ensures .takes (state-at (s₀ .args .body .now) (s₀ .args .opened) (s₀ .args .tick) live) (table-of (s₀ .args .body .now) (s₀ .args .opened) (s₀ .args .tick) (length (s₀ .args .history .now)) (length (s₀ .args .cells .now)) (length (s₀ .args .report .now)) (step .result) (step .last .1 .1 .1 .1 .1 .1 .0) (step .ensures) f sized live),
-    )
+    let s₀ = c .before .before .before .before .before .before .before .before .before .before .before .before .before .before .before .before .before .before in
+    let told = c .before .before .before .before .enum-told .given .1 in
+    let stepped = rw told at (c .before .before .before .before .before .before .before .before .before .before .take-tick .ensures live) in
+    let fits = step-admitted (s₀ .args .body .now) (s₀ .args .opened) (s₀ .args .tick) (length (s₀ .args .history .now)) (length (s₀ .args .cells .now)) (length (s₀ .args .report .now)) (stepped .0) (stepped .1) .history-fits in
+    let stored = c .before .before .remember .ensures ∙ ap (λ (n : ℕ). set (s₀ .args .history .now) (s₀ .args .tick % n) (s₀ .args .flag)) fits in
+    rw (told, stored) stepped
 
 pub take-step-spec : {M : Type 1} → statement M
 take-step-spec =
     tie.close
     (tie.spec
-    admit-step-requires
-    enum-known-admitted
-    enum-known-admitted-2
-    move-tick-requires
-    returns
+    take-tick-requires
+    enum-told
+    enum-told-2
     same-length
     same-length-2
     same-length-3
+    returns
+    remember-requires
+    same-length-4
+    same-length-5
+    same-length-6
     returns-2)

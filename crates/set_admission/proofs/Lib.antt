@@ -1,0 +1,4 @@
+pub mod Added
+pub mod Laying
+pub mod Judged
+pub mod Recorded

@@ -1,0 +1,25 @@
+-- `set_admission::with_figures` meets its contract. Assumes nothing.
+use borrow.Author.Needs.{needs}
+use Rattle.set_admission.proofs.sheet_figures.with_figures.Statement.{statement}
+use Rattle.set_admission.proofs.sheet_figures.with_figures.Tie as tie
+
+add-t3 : tie.Need-add-t3
+add-t3 c = search needs
+
+later-requires : tie.Need-later-requires
+later-requires c κs = search needs
+
+add-t5 : tie.Need-add-t5
+add-t5 c = search needs
+
+add-t6 : tie.Need-add-t6
+add-t6 c = search needs
+
+add-t7 : tie.Need-add-t7
+add-t7 c = search needs
+
+returns : tie.Need-returns
+returns c = rw (c .before .before .before .before .later .ensures)
+
+pub with-figures-spec : {M : Type 1} → statement M
+with-figures-spec = tie.close (tie.spec add-t3 later-requires add-t5 add-t6 add-t7 returns)

@@ -1,0 +1,4 @@
+pub mod InPlace
+pub mod OneRule
+pub mod AllRules
+pub mod Admitted
