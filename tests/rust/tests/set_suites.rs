@@ -160,6 +160,8 @@ const CAUGHT: &[(SetFlaw, Suite, &str)] = &[
     (SetFlaw::OrdersByTick, overwritten, "pairs of the rules"),
     (SetFlaw::CountsLastLive, runs, "due is"),
     (SetFlaw::CountsLastLive, overwritten, "in the records"),
+    (SetFlaw::CountsAllLive, runs, "the records are not as due"),
+    (SetFlaw::CountsAllLive, overwritten, "are live"),
     (SetFlaw::SharesCells, runs, "due is"),
     (SetFlaw::SharesCells, neighbours, "due is"),
     (SetFlaw::MovesFirstTick, runs, "the records are not as due"),

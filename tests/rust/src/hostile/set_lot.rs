@@ -174,7 +174,8 @@ fn check_refused(lot: &SetLot, before: &SetLot, number: u32, answers: &[Lent<usi
 /// Records, history and table after the steps that took these flags. A step on dishonest ones
 /// "still ends and writes only what a step may: one history byte, the needed cells, the
 /// report's first 2 * (sum of all delay + 1) words, and next tick and live count of the first n
-/// records". The live count answered is the sum of theirs.
+/// records". No more than delay + 1 ticks of a rule are live, and the live count answered is the
+/// sum of theirs.
 fn check_taken(
     lot: &SetLot,
     before: &SetLot,
@@ -191,6 +192,8 @@ fn check_taken(
         record.live = if flags.is_empty() { record.live } else { seen.live };
     }
     demand!(lot.records.seen() == due, "{} steps: the records are not as due", flags.len());
+    let few = |record: &Running| flags.is_empty() || record.live <= record.delay + 1;
+    demand!(due[..rules].iter().all(few), "more than delay + 1 are live: {:?}", &due[..rules]);
     let sum: usize = due[..rules].iter().map(|record| record.live as usize).sum();
     demand!(live == sum, "{live} live in all, and {sum} in the records");
     let mut history = before.history.seen().to_vec();

@@ -28,6 +28,7 @@ pub enum SetFlaw {
     NumbersFromOne,
     OrdersByTick,
     CountsLastLive,
+    CountsAllLive,
     SharesCells,
     MovesFirstTick,
     LeavesLive,
@@ -309,6 +310,9 @@ impl StandIn {
             }
             if self.in_set(SetFlaw::LeavesLive) {
                 record.live = old.live;
+            }
+            if self.in_set(SetFlaw::CountsAllLive) {
+                record.live = counts[..=index].iter().sum::<usize>() as u32;
             }
         }
         self.spoil_further(opened, records);
