@@ -10,6 +10,7 @@ use crate::paper::{
     set_rules, OpenedSet, SetLengths, CELL_WORDS, MAX_HISTORY, MAX_RULES, RULE_REFUSALS,
 };
 use crate::random::{self, Random, Rule};
+use std::slice::from_ref;
 
 /// At least so many sets and so many steps.
 pub fn set_runs(library: &dyn Library, seed: u64, sets: u64, steps: u64) -> Check<SetTally> {
@@ -206,7 +207,7 @@ pub fn set_orders(library: &dyn Library, seed: u64) -> Check<Numbers> {
 fn spoilt_sheets(large: &[Vec<u8>], refused: &[Vec<u8>; 2], first: u32) -> Vec<(Vec<u8>, u32)> {
     let [one, two] = refused;
     let at_the_end = [large, &[one.clone(), two.clone()]].concat();
-    let around = [&[one.clone()], large, &[two.clone()]].concat();
+    let around = [from_ref(one), large, from_ref(two)].concat();
     let between = [&large[..2], &[one.clone(), two.clone()], &large[2..]].concat();
     let sheets = [at_the_end, around, between].map(|bodies| random::sheet_of(&bodies));
     let mut all: Vec<_> = sheets.iter().map(|sheet| (sheet.clone(), first)).collect();
