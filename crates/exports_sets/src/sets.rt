@@ -2,10 +2,9 @@
 ghost use mathlib.Core.Path.{_≡_};
 ghost use lib.ListN.{length};
 ghost use Rattle.refusal.specs.Answer.{number, or-kept, answered, KeptIfRefused};
-ghost use Rattle.demand.specs.SetContract.{set-opening-of, set-step-of, set-batch-of, all-cells, all-delays, largest, SetOpenPromise, SetStepPromise, SetBatchPromise, running-rules};
+ghost use Rattle.demand.specs.SetContract.{set-figures, set-opening-of, set-step-of, set-batch-of, all-cells, all-delays, largest, SetOpenPromise, SetStepPromise, SetBatchPromise, running-rules};
 ghost use Rattle.cell_runs.specs.Moves.{Stands};
 ghost use Rattle.running.specs.Records.{rules-in};
-ghost use Rattle.set_admission.specs.Together.{set-figures};
 ghost use Rattle.set_stepping.specs.Answers.{set-taken, set-counts};
 use running::RECORD_WORDS;
 use set_admission::SetFiguresAnswer;

@@ -1,6 +1,6 @@
 -- `exports_sets::sets::sw_set_figures` meets its contract. Assumes nothing.
 use denote.Ref.{now}
-use Rattle.set_admission.specs.Together.{set-figures}
+use Rattle.demand.specs.SetContract.{set-figures}
 use Rattle.exports_sets.proofs.Answers.{figures-refused, figures-sized}
 use borrow.Author.Needs.{needs}
 use Rattle.exports_sets.proofs.sets.sw_set_figures.Statement.{statement}
