@@ -166,7 +166,7 @@ sum (number ∷ numbers) = number + sum numbers
 abbrev pub all-live : List Running → ℕ
 all-live rules = sum (map (λ (rule : Running). rule .live) rules)
 
--- Of all rules: their cells, their report words for one step, and the largest history figure.
+-- Of all rules: their cells, the most pairs of one step (all delay + 1), and the largest history figure.
 abbrev pub all-cells : List Figures → ℕ
 all-cells [] = 0
 all-cells (figures ∷ rest) = figures .cells + all-cells rest
@@ -281,7 +281,7 @@ runs sheet L t first rule =
     leb (rule .start + rule .size) (length sheet)
     && (eqb (rule .first) first && (eqb (rule .opened) L && (eqb (rule .next) t && same-figures rule (body-figures (body-at sheet rule)))))
 
--- And all of them, with cells that are side by side and 4,096 in all.
+-- And all of them, with cells that are side by side and at most 4,096 in all.
 unfoldable pub all-run : List ℕ → ℕ → ℕ → ℕ → List Running → Bool
 all-run sheet L t first [] = leb first 4096
 all-run sheet L t first (rule ∷ rules) = runs sheet L t first rule && all-run sheet L t (first + rule .cells) rules
