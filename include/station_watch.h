@@ -52,9 +52,9 @@ extern "C" {
 /* ---- Version ---- */
 
 #define SW_VERSION_MAJOR 0
-#define SW_VERSION_MINOR 4
-#define SW_VERSION_PATCH 4
-#define SW_VERSION "0.4.4"
+#define SW_VERSION_MINOR 5
+#define SW_VERSION_PATCH 0
+#define SW_VERSION "0.5.0"
 
 /* ---- Refusals: the sentence that sw_sentence writes, and what to do ---- */
 

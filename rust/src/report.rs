@@ -70,7 +70,12 @@ unsafe impl Entry for Pair {}
 unsafe impl Entry for RuleTick {}
 unsafe impl Entry for Triple {}
 
-const _: () = assert!(Pair::WORDS == 2 && RuleTick::WORDS == 2 && Triple::WORDS == 3);
+/// Whether an entry is so many words and nothing else, aligned as they are.
+const fn is_words<E: Entry>(words: usize) -> bool {
+    size_of::<E>() == words * size_of::<u32>() && align_of::<E>() == align_of::<u32>()
+}
+
+const _: () = assert!(is_words::<Pair>(2) && is_words::<RuleTick>(2) && is_words::<Triple>(3));
 
 /// A report as the words that it is made of.
 pub(crate) fn as_words<E: Entry>(report: &mut [E]) -> &mut [u32] {

@@ -8,7 +8,7 @@ use core::fmt;
 
 /// A running rule of a set: one of its records, which together are its state. They belong
 /// to the sheet that was opened and to the cell table that its steps wrote. Any numbers
-/// will do: each step looks at them anew.
+/// are safe to lend: each step looks at them anew.
 ///
 /// ```
 /// use station_watch::{set_open, sheet_of, Refusal, Running};
@@ -163,8 +163,9 @@ pub fn set_open(
 }
 
 /// Takes one flag byte for all rules of a set, with the sheet that was opened and a report
-/// of at least as many pairs as the figure `pairs`. Refusals 17 to 20; 21 for records that
-/// no opening of this sheet gives.
+/// of at least as many pairs as the figure `pairs`. Refusals 21, then 17 to 20. 21 comes for
+/// records that were not left by an opening of this sheet and its steps, where that is noticed
+/// (the header says exactly where); else such records report something.
 ///
 /// ```
 /// use station_watch::{set_open, set_step, sheet_of, Refusal, Running, RuleTick};
@@ -215,8 +216,8 @@ pub fn set_step<'r>(
 
 /// Takes flag bytes one after another for all rules of a set. It stops before a step for
 /// which fewer triples than the figure `pairs` are left in the report: go on with the flags
-/// that were not taken. A report that is too short for one step takes none. Refusals 17, 18,
-/// 20, 21 of the first step, also where there are no flags; 20 later ends the batch before it.
+/// that were not taken. A report that is too short for one step takes none. Refusals 21, 17,
+/// 18, 20 of the first step, also where there are no flags; 20 later ends the batch before it.
 ///
 /// ```
 /// use station_watch::{set_open, set_steps, sheet_of, Refusal, Running, Triple};

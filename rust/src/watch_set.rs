@@ -99,8 +99,8 @@ impl WatchSet {
     /// Takes all of these flag bytes, one after another, for all rules, and hands over the
     /// violations in the order in which they are decided, and by rule, then by tick, where
     /// one step decides several. Refusal 20 where tick numbers are used up before the last
-    /// flag: then the violations of the flags that were taken have been handed over, and
-    /// `next_tick` tells how many those are.
+    /// flag: then the violations of the flags that were taken have been handed over. How many
+    /// those are is how far `next_tick` went.
     ///
     /// ```
     /// use station_watch::{sheet_of, Refusal, Triple, WatchSet};

@@ -1,6 +1,7 @@
 /* The header's constants against what the library answers. Expected values are the scope
  * document's: its figures, its example, its limits and the lines of its refusals. */
 #include <inttypes.h>
+#include <stddef.h>
 #include <stdio.h>
 #include <string.h>
 
@@ -488,9 +489,22 @@ static uint32_t set_step_with(size_t records_len, size_t history_len, size_t cel
     return number;
 }
 
-static void set_opening(void)
+/* A record is eight words, end to end. */
+static void set_record(void)
 {
     SAME(32, sizeof(sw_running));
+    SAME(0, offsetof(sw_running, start));
+    SAME(4, offsetof(sw_running, size));
+    SAME(8, offsetof(sw_running, first));
+    SAME(12, offsetof(sw_running, cells));
+    SAME(16, offsetof(sw_running, delay));
+    SAME(20, offsetof(sw_running, opened));
+    SAME(24, offsetof(sw_running, next));
+    SAME(28, offsetof(sw_running, live));
+}
+
+static void set_opening(void)
+{
     write_three(flag, sizeof flag, example, sizeof example, ahead, sizeof ahead);
     memset(records, 0xEE, sizeof records);
     SAME(SW_HISTORY_LENGTH, set_open_with(3, 0, SET_WORDS));
@@ -540,6 +554,34 @@ static void set_stepping(void)
     sheet[0] = 3;
     memset(records, 0, sizeof records);
     SAME(SW_STATE_NOT_OPENED, set_step_with(3, 1, SET_WORDS, SW_MAX_SET_REPORT));
+}
+
+/* Lengths of 0, with pointers that are not NULL. */
+static void set_of_nothing(void)
+{
+    size_t taken = 91, triples = 92, live = 93;
+    write_three(flag, sizeof flag, flag, sizeof flag, flag, sizeof flag);
+    SAME(SW_RULE_COUNT, sw_set_open(sheet, 0, records, 0, history, 0, cells, 0));
+    SAME(SW_CELL_TABLE_TOO_SHORT, set_open_with(0, 0, SW_MAX_CELL_WORDS));
+    SAME(SW_CELL_TABLE_TOO_SHORT, set_open_with(3, 0, 0));
+    SAME(SW_OK, set_open_with(3, 0, 3 * SW_CELL_WORDS));
+    SAME(SW_STATE_NOT_OPENED, sw_set_step(sheet, 0, records, 3, 0, history, 0, cells, 0, set_report, 0, &triples, &live));
+    SAME(SW_CELL_TABLE_TOO_SHORT, set_step_with(0, 0, 0, 0));
+    SAME(SW_CELL_TABLE_TOO_SHORT, set_step_with(3, 0, 0, 0));
+    SAME(SW_REPORT_TOO_SHORT, set_step_with(3, 0, 3 * SW_CELL_WORDS, 0));
+    SAME(SW_STATE_NOT_OPENED, sw_set_steps(sheet, 0, records, 0, flags, 0, history, 0, cells, 0, set_report, 0,
+                                           &taken, &triples, &live));
+    SAME(SW_CELL_TABLE_TOO_SHORT, sw_set_steps(sheet, sheet_len, records, 0, flags, 0, history, 0, cells, 0, set_report, 0,
+                                               &taken, &triples, &live));
+    SAME(91, taken);
+    SAME(92, triples);
+    SAME(93, live);
+    SAME(SW_OK, sw_set_steps(sheet, sheet_len, records, 3, flags, 0, history, 0, cells, 3 * SW_CELL_WORDS, set_report, 0,
+                             &taken, &triples, &live));
+    SAME(0, taken);
+    SAME(0, triples);
+    SAME(0, live);
+    SAME(SW_OK, set_step_with(3, 0, 3 * SW_CELL_WORDS, 6));
 }
 
 /* Rule 0 wants flag 0, rule 1 is the example: the scope document's flags by single steps and
@@ -649,8 +691,10 @@ int main(void)
     dishonest();
     batches();
     set_figures();
+    set_record();
     set_opening();
     set_stepping();
+    set_of_nothing();
     set_reports();
     set_dishonest();
     sentences();

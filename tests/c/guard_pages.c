@@ -212,13 +212,18 @@ static void *records_at(size_t rules)
     return at(0, rules * sizeof(sw_running));
 }
 
+/* So many bytes of the sheet, in place 8. */
+static const uint8_t *two(size_t length)
+{
+    static uint8_t sheet[TWO + MORE] = {RULES, 9, 0, BODY, 0, 9 + BODY, 0, BODY, 0};
+    memcpy(sheet + 9, example, BODY);
+    memcpy(sheet + 9 + BODY, example, BODY);
+    return lent(8, sheet, length);
+}
+
 static uint32_t set_open(size_t sheet, size_t rules, size_t history, size_t words)
 {
-    static uint8_t two[TWO + MORE] = {RULES, 9, 0, BODY, 0, 9 + BODY, 0, BODY, 0};
-    memcpy(two + 9, example, BODY);
-    memcpy(two + 9 + BODY, example, BODY);
-    return sw_set_open(lent(8, two, sheet), sheet, records_at(rules), rules, at(1, history), history,
-                       at(2, 4 * words), words);
+    return sw_set_open(two(sheet), sheet, records_at(rules), rules, at(1, history), history, at(2, 4 * words), words);
 }
 
 /* Over the sheet and the records that the last opening left in places 8 and 0. */
@@ -267,6 +272,14 @@ static void sets(void)
         SAME(unless(2 * TWO_PAIRS, report, SW_REPORT_TOO_SHORT), set_step(RULES, 4, TWO_WORDS, report));
         SAME(SW_OK, set_steps(report, RULES, 4, TWO_WORDS, report));
     }
+    for (size_t sheet = 0; sheet <= TWO + MORE; sheet++) {
+        uint32_t due = unless(TWO, sheet, SW_STATE_NOT_OPENED);
+        SAME(due, sw_set_step(two(sheet), sheet, records_at(RULES), RULES, 1, at(1, 4), 4, at(2, 4 * TWO_WORDS), TWO_WORDS,
+                              at(3, 8 * TWO_PAIRS), 2 * TWO_PAIRS, answer(5), answer(6)));
+        SAME(due, sw_set_steps(two(sheet), sheet, records_at(RULES), RULES, at(4, 6), 6, at(1, 4), 4, at(2, 4 * TWO_WORDS),
+                               TWO_WORDS, at(3, 12 * TWO_PAIRS), 3 * TWO_PAIRS, answer(5), answer(6), answer(7)));
+    }
+    two(TWO);
     SAME(SW_CELL_TABLE_TOO_SHORT, set_step(0, 4, TWO_WORDS, 2 * TWO_PAIRS));
     /* One record: with the guard before it that of rule 0, else that of rule 1. */
     SAME(guard_before ? SW_CELL_TABLE_TOO_SHORT : SW_STATE_NOT_OPENED, set_step(1, 4, TWO_WORDS, 2 * TWO_PAIRS));

@@ -1,6 +1,6 @@
 """Holds include/station_watch.h and the library to each other: both kinds show the header's functions and no others, and the sentence in the comment above
 each refusal's constant is what sw_sentence writes. It loads the shared library as other languages do, and asks for the figures of the scope document's
-example, for its body from its text, and for its text.
+example, for its body from its text, and for its text; and it runs a set of two rules, with records as the header declares them.
 
     python3 header.py SHARED STATIC
 """
@@ -76,9 +76,44 @@ def texts():
         same("the example's text and body", (0, len(due), due + b"\xaa" * (100 - len(due))), (answer, written.value, out.raw))
 
 
+def record():
+    """The header's record: the names of its words, which are all of 32 bits and have nothing between them."""
+    declared = re.search(r"^typedef struct \{\n(.*?)^\} sw_running;$", HEADER, re.M | re.S).group(1)
+    words = re.findall(r"^    uint32_t (\w+);", declared, re.M)
+    same("lines of the record", len(declared.splitlines()), len(words))
+    return type("Running", (ctypes.Structure,), {"_fields_": [(word, ctypes.c_uint32) for word in words]})
+
+
+def sets():
+    """Flag 0 at X and the example, whose bodies lie at 9 and 12 of their sheet: history 1, cells 1 and 21, delay 0 and 2."""
+    running = record()
+    same("bytes of a record", 32, ctypes.sizeof(running))
+    size, number, bits = ctypes.c_size_t, ctypes.c_uint64, ctypes.c_uint32
+    sheet = bytes.fromhex("02 09000300 0C001100 010000") + EXAMPLE
+    rules, history_figure, cells_figure, pairs_figure = size(), number(), number(), number()
+    answer = library.sw_set_figures(sheet, size(len(sheet)), *map(ctypes.byref, (rules, history_figure, cells_figure, pairs_figure)))
+    same("figures of the set", (0, 2, 1, 22, 4), (answer, rules.value, history_figure.value, cells_figure.value, pairs_figure.value))
+    records, history, cells, report = (running * 3)(), (ctypes.c_uint8 * 1)(7), (bits * 88)(), (bits * 8)()
+    same("opening the set", 0, library.sw_set_open(sheet, size(len(sheet)), records, size(3), history, size(1), cells, size(88)))
+    due = [
+        {"start": 9, "size": 3, "first": 0, "cells": 1, "delay": 0, "opened": 1, "next": 0, "live": 0},
+        {"start": 12, "size": 17, "first": 1, "cells": 21, "delay": 2, "opened": 1, "next": 0, "live": 0},
+    ]
+    seen = [{word: getattr(one, word) for word in due[0]} for one in records]
+    same("records of the set", due + [dict.fromkeys(due[0], 0)], seen)
+    for flag, due_pairs, live in ((0, [0, 0], (0, 0)), (1, [], (0, 0)), (1, [], (0, 1)), (0, [0, 3], (0, 0))):
+        pairs, all_live = size(), size()
+        answer = library.sw_set_step(sheet, size(len(sheet)), records, size(3), ctypes.c_uint8(flag), history, size(1), cells, size(88), report, size(8),
+                                     ctypes.byref(pairs), ctypes.byref(all_live))
+        same("a step of the set", (0, due_pairs, sum(live)), (answer, report[: 2 * pairs.value], all_live.value))
+        same("live counts of the records", live, tuple(one.live for one in records[:2]))
+    same("next ticks of the records", [4, 4, 0], [one.next for one in records])
+
+
 functions()
 sentences()
 figures()
 texts()
+sets()
 print("\n".join(failures) if failures else "header.py: ok")
 sys.exit(bool(failures))

@@ -16,6 +16,10 @@ use Rattle.notation.proofs.RoundTrip as printed
 use Rattle.engine.proofs.States.{fresh-is}
 use Rattle.engine.proofs.Demand3 as values
 use Rattle.exports_watch.proofs.Demand3 as bytes
+use Rattle.exports_sets.proofs.Demand3 as sets
+use Rattle.demand.proofs.SetAlone as alone
+use Rattle.cell_runs.specs.Moves.{Stands}
+use Rattle.state_bytes.specs.States.{in-bytes}
 use Rattle.state_bytes.proofs.States.{load-stored, load-moved, moved-own, store-loaded}
 use Rattle.claims.specs.Claims.{Claims}
 
@@ -24,6 +28,8 @@ claimed =
     record {
       of-values = values.theorem;
       of-bytes = bytes.theorem;
+      of-sets = sets.theorem;
+      as-alone = alone.as-alone Stands Stands in-bytes;
       value-fresh = fresh-is;
       bytes-moved = load-moved;
       bytes-kept = moved-own;

@@ -1,7 +1,8 @@
 -- The main claims that are proved of the library as a whole, as one proposition. What each call does is its contract; this says what follows for whoever uses them.
--- The link between the two is the text of six contracts, which a reader should look at: the `ensures` of `open`, `step` and `steps` (crates/engine/src) and of
+-- The link between the two is the text of contracts, which a reader should look at: the `ensures` of `open`, `step` and `steps` (crates/engine/src) and of
 -- sw_open, sw_step and sw_steps (crates/exports_watch/src/watching.rt) are `OpenPromise`, `StepPromise` and `BatchPromise` of their own arguments and results, and these are
--- what the list of calls asks of each call. docs/DEMAND-3.md reads the first part slowly.
+-- what the list of calls asks of each call. In the same way the functions on sets (sw_set_open, sw_set_step and sw_set_steps in crates/exports_sets/src/sets.rt; `open_set`, `step_set`,
+-- `open_records` and `step_records` in crates/set_values and crates/set_records) keep `SetOpenPromise`, `SetStepPromise` and `SetBatchPromise`. docs/DEMAND-3.md reads the first part slowly.
 use Prim.Native.Nat.{ℕ, _+_, _≤_, _<_, max}
 use mathlib.Core.Path.{_≡_}
 use mathlib.Core.Logic.{_↔_}
@@ -30,6 +31,7 @@ use Rattle.notation.specs.Bodies.{named-body, checked, fitted, body-of-text, Mi
 use Rattle.notation.specs.Printing.{text-of-body}
 use Rattle.demand.specs.Contract.{fresh-state}
 use Rattle.demand.specs.Demand.{Demanded}
+use Rattle.demand.specs.SetDemand.{SetDemanded, AsAlone}
 use Rattle.cell_runs.specs.Moves.{Stands}
 use Rattle.engine.specs.declared.state.State as code
 use Rattle.engine.specs.States.{state-of, fresh-code, moved-code, by-value}
@@ -43,6 +45,10 @@ pub record Claims : Type 0 where
   -- sw_step and sw_steps.
   pub of-values : Demanded Stands by-value
   pub of-bytes : Demanded Stands in-bytes
+  -- The same of a whole sheet at once (02, point 4): after every opening of a set, about every list of its steps and batches. And beside any run of one of its rules
+  -- opened by itself, with its state as bytes, over the same flags, the rule's ticks among the pairs and its live count are the same, step by step.
+  pub of-sets : SetDemanded Stands
+  pub as-alone : AsAlone Stands Stands in-bytes
   -- The value that an opening gives holds 01's state of an opening.
   pub value-fresh : (bytes : List ℕ) (L : ℕ) → length bytes ≤ 512 → state-of (fresh-code bytes L) ≡ fresh-state bytes L
   -- State bytes that have come to another next tick and live count load as the state that has come to them; with their own two, they are as they were.

@@ -104,7 +104,7 @@ same-front sheet (r ∷ rules) (f ∷ fs) (suc i) h k e =
     let q : needs sheet r ≡ f = e 0 (omega arith) in
     rw q (ap (λ (l : List Figures). f ∷ l) (same-front sheet rules fs i (omega arith) (omega arith) (λ j x. e (suc j) (omega arith))))
 
-placed-next : {sheet : List ℕ} {L t first : ℕ} {rule : Running} (live : ℕ) → Placed sheet L t first rule → Placed sheet L (suc t) first (next-rule rule live)
+pub placed-next : {sheet : List ℕ} {L t first : ℕ} {rule : Running} (live : ℕ) → Placed sheet L t first rule → Placed sheet L (suc t) first (next-rule rule live)
 placed-next live p =
     record {
       inside = p .inside;

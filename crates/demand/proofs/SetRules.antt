@@ -1,5 +1,5 @@
 -- The rules of a set: the bodies of its sheet, the records that an opening gives, and what it says of an opening that it is admitted.
-use Prim.Native.Nat.{ℕ, zero, suc, _+_, _*_, _<_}
+use Prim.Native.Nat.{ℕ, zero, suc, _+_, _*_, _≤_, _<_}
 use mathlib.Core.Path.{_≡_, refl, sym, ap, subst, _∙_}
 use mathlib.Core.Bool.{_&&_}
 use mathlib.Core.List.{List, [], _∷_}
@@ -8,7 +8,7 @@ use native.Mathlib.Omega.{arith}
 use lib.Dec.{leb}
 use lib.ListN.{length, getD, take, drop}
 use borrow.Author.Tests.{leb-true, le-leb}
-use Rattle.refusal.specs.Answer.{accepted, and-then}
+use Rattle.refusal.specs.Answer.{Answer, accepted, and-then}
 use Rattle.refusal.proofs.Answers.{same-value, both-accepted}
 use Rattle.refusal.proofs.Bools.{and-true}
 use Rattle.sheet.specs.Sheet.{rule-count, body-offset, extent, has-contents, laid-out, rule-body}
@@ -19,7 +19,7 @@ use Rattle.rule.specs.Body.{body}
 use Rattle.rule.specs.Figures.{figures, body-figures}
 use Rattle.demand.specs.declared.Running.{Running}
 use Rattle.demand.specs.Contract.{must}
-use Rattle.demand.specs.SetContract.{SetOpening, no-rule, all-cells, largest, bodies-from, sheet-bodies, all-figures, set-room, admit-set, opened-rules}
+use Rattle.demand.specs.SetContract.{SetOpening, no-rule, all-cells, largest, bodies-from, sheet-bodies, all-figures, set-figures, set-room, admit-set-lengths, admit-set, opened-rules}
 use Rattle.demand.specs.SetDemand.{no-figures, no-formula, SetAcceptable}
 use Rattle.demand.proofs.Admission.{must-passed, formula-of}
 use Rattle.demand.proofs.SetLists.{AllFigures, all-figures-told}
@@ -104,7 +104,7 @@ module _ (o : SetOpening) (Fs : List Formula) (fs : List Figures) (c : SetAccept
   own-figures i h = simp (c .formula-is i h, c .figures-are i h)
 
   pub set-opening-is : admit-set o ≡ accepted fs
-  unfolding set-room must and-then
+  unfolding set-figures set-room must and-then
   set-opening-is =
       simp (
         c .bodies-are,
@@ -117,6 +117,51 @@ module _ (o : SetOpening) (Fs : List Formula) (fs : List Figures) (c : SetAccept
       )
 
 -- ---- an admitted opening
+
+-- The rules of a sheet have these figures.
+pub record FiguresTold (s : List ℕ) (fs : List Figures) : Type 0 where
+  pub bodies : List (List ℕ)
+  pub bodies-are : sheet-bodies s ≡ accepted bodies
+  pub figures-are : all-figures bodies ≡ accepted fs
+  pub cells-low : all-cells fs ≤ 4096
+
+pub figures-told : (s : List ℕ) (fs : List Figures) → set-figures s ≡ accepted fs → FiguresTold s fs
+unfolding set-figures
+figures-told s fs e =
+    let limited : List Figures → Answer (List Figures) = λ gs. must (leb (all-cells gs) 4096) 27 (accepted gs) in
+    let x = both-accepted (sheet-bodies s) (λ bs. and-then (all-figures bs) limited) fs e in
+    let y = both-accepted (all-figures (x .0)) limited fs (x .2) in
+    let gs = y .0 in
+    let a = must-passed (leb (all-cells gs) 4096) 27 (accepted gs) (y .2) in
+    subst (FiguresTold s) (same-value (a .1))
+    (record { bodies = x .0; bodies-are = x .1; figures-are = y .1; cells-low = leb-true (all-cells gs) 4096 (a .0) })
+
+-- What is lent is enough for rules with these figures.
+pub record RoomTold (history table records : ℕ) (fs : List Figures) : Type 0 where
+  pub history-low : largest fs ≤ history
+  pub history-high : history ≤ 4096
+  pub cells-there : 4 * all-cells fs ≤ table
+  pub records-there : length fs ≤ records
+
+pub opening-told : (s : List ℕ) (history table records : ℕ) (fs : List Figures) → admit-set-lengths s history table records ≡ accepted fs
+    → (set-figures s ≡ accepted fs) × RoomTold history table records fs
+unfolding set-room
+opening-told s history table records fs e =
+    let x = both-accepted (set-figures s) (set-room history table records) fs e in
+    let gs = x .0 in
+    let a = must-passed (leb (largest gs) history && leb history 4096) 17 _ (x .2) in
+    let b = must-passed (leb (4 * all-cells gs) table && leb (length gs) records) 18 _ (a .1) in
+    let histories = and-true (leb (largest gs) history) (leb history 4096) (a .0) in
+    let lent = and-true (leb (4 * all-cells gs) table) (leb (length gs) records) (b .0) in
+    subst (λ (l : List Figures). (set-figures s ≡ accepted l) × RoomTold history table records l) (same-value (b .1)) (
+      x .1,
+      record {
+        history-low = leb-true (largest gs) history (histories .0);
+        history-high = leb-true history 4096 (histories .1);
+        cells-there = leb-true (4 * all-cells gs) table (lent .0);
+        records-there = leb-true (length gs) records (lent .1);
+      },
+    )
 
 formulas-of : (bs : List (List ℕ)) (fs : List Figures) → length fs ≡ length bs
     → ((i : ℕ) → i < length bs → body-figures (getD bs i []) ≡ accepted (getD fs i no-figures))
@@ -140,35 +185,23 @@ formulas-of (b ∷ bs) (f ∷ fs) e h =
     second F p Fs q (suc i) x = q i (le-of-suc-le-suc x)
 
 pub set-admitted : (o : SetOpening) (fs : List Figures) → admit-set o ≡ accepted fs → (Fs : List Formula) × SetAcceptable o Fs fs
-unfolding set-room
 set-admitted o fs e =
-    let H = length (o .history) in
-    let T = length (o .table) in
-    let R = length (o .records) in
-    let x = both-accepted (sheet-bodies (o .sheet)) (λ bs. and-then (all-figures bs) (set-room H T R)) fs e in
-    let y = both-accepted (all-figures (x .0)) (set-room H T R) fs (x .2) in
-    let gs = y .0 in
-    let a₀ = must-passed (leb (all-cells gs) 4096) 27 _ (y .2) in
-    let a₁ = must-passed (leb (largest gs) H && leb H 4096) 17 _ (a₀ .1) in
-    let a₂ = must-passed (leb (4 * all-cells gs) T && leb (length gs) R) 18 _ (a₁ .1) in
-    let q : gs ≡ fs = same-value (a₂ .1) in
-    let told : AllFigures (x .0) gs = all-figures-told (x .0) gs (y .1) in
-    let v = formulas-of (x .0) gs (told .as-many) (told .each) in
-    let histories = and-true (leb (largest gs) H) (leb H 4096) (a₁ .0) in
-    let lent = and-true (leb (4 * all-cells gs) T) (leb (length gs) R) (a₂ .0) in (
+    let t = opening-told (o .sheet) (length (o .history)) (length (o .table)) (length (o .records)) fs e in
+    let f = figures-told (o .sheet) fs (t .0) in
+    let told : AllFigures (f .bodies) fs = all-figures-told (f .bodies) fs (f .figures-are) in
+    let v = formulas-of (f .bodies) fs (told .as-many) (told .each) in (
       v .0,
-      subst (SetAcceptable o (v .0)) q
-          (record {
-            bodies = x .0;
-            bodies-are = x .1;
-            as-many-formulas = v .1;
-            as-many-figures = told .as-many;
-            formula-is = v .2;
-            figures-are = v .3;
-            cells-low = leb-true (all-cells gs) 4096 (a₀ .0);
-            history-low = leb-true (largest gs) H (histories .0);
-            history-high = leb-true H 4096 (histories .1);
-            cells-there = leb-true (4 * all-cells gs) T (lent .0);
-            records-there = leb-true (length gs) R (lent .1);
-          }),
+      record {
+        bodies = f .bodies;
+        bodies-are = f .bodies-are;
+        as-many-formulas = v .1;
+        as-many-figures = told .as-many;
+        formula-is = v .2;
+        figures-are = v .3;
+        cells-low = f .cells-low;
+        history-low = t .1 .history-low;
+        history-high = t .1 .history-high;
+        cells-there = t .1 .cells-there;
+        records-there = t .1 .records-there;
+      },
     )

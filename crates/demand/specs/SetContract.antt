@@ -166,7 +166,7 @@ sum (number ∷ numbers) = number + sum numbers
 abbrev pub all-live : List Running → ℕ
 all-live rules = sum (map (λ (rule : Running). rule .live) rules)
 
--- Of all rules: their cells, their report words for one step, and the largest history figure.
+-- Of all rules: their cells, the most pairs of one step (all delay + 1), and the largest history figure.
 abbrev pub all-cells : List Figures → ℕ
 all-cells [] = 0
 all-cells (figures ∷ rest) = figures .cells + all-cells rest
@@ -223,18 +223,24 @@ unfoldable pub all-figures : List (List ℕ) → Answer (List Figures)
 all-figures [] = accepted []
 all-figures (body ∷ bodies) = and-then (body-figures body) (λ figures. and-then (all-figures bodies) (λ rest. accepted (figures ∷ rest)))
 
--- Then 27: "Opening fails at the first rule that would push the sum of cells above 4,096". Then, with a history, a table and records of these lengths, "17
--- reads the largest history figure, 18 the sum of the cells (or fewer records than rules ..)".
+-- The figures of all rules of a sheet, with all these refusals and then 27: "Opening fails at the first rule that would push the sum of cells above 4,096".
+unfoldable pub set-figures : List ℕ → Answer (List Figures)
+set-figures sheet =
+    and-then (sheet-bodies sheet) (λ bodies. and-then (all-figures bodies) (λ figures. must (leb (all-cells figures) 4096) 27 (accepted figures)))
+
+-- Then, with a history, a table and records of these lengths, "17 reads the largest history figure, 18 the sum of the cells (or fewer records than
+-- rules ..)".
 unfoldable pub set-room : ℕ → ℕ → ℕ → List Figures → Answer (List Figures)
 set-room history table records figures =
-    must (leb (all-cells figures) 4096) 27
-    (must (leb (largest figures) history && leb history 4096) 17
-    (must (leb (4 * all-cells figures) table && leb (length figures) records) 18 (accepted figures)))
+    must (leb (largest figures) history && leb history 4096) 17
+    (must (leb (4 * all-cells figures) table && leb (length figures) records) 18 (accepted figures))
+
+-- An opening is judged by its sheet and the lengths of what it is lent.
+abbrev pub admit-set-lengths : List ℕ → ℕ → ℕ → ℕ → Answer (List Figures)
+admit-set-lengths sheet history table records = and-then (set-figures sheet) (set-room history table records)
 
 abbrev pub admit-set : SetOpening → Answer (List Figures)
-admit-set opening =
-    and-then (sheet-bodies (opening .sheet))
-    (λ bodies. and-then (all-figures bodies) (set-room (length (opening .history)) (length (opening .table)) (length (opening .records))))
+admit-set opening = admit-set-lengths (opening .sheet) (length (opening .history)) (length (opening .table)) (length (opening .records))
 
 -- The records of a set's rules with these figures, from entry `index` and cell `first` on, over a history of L bytes: next tick 0 and 0 live. "No rule's
 -- cells are touched by another's": each has its own part of the table.
@@ -275,7 +281,7 @@ runs sheet L t first rule =
     leb (rule .start + rule .size) (length sheet)
     && (eqb (rule .first) first && (eqb (rule .opened) L && (eqb (rule .next) t && same-figures rule (body-figures (body-at sheet rule)))))
 
--- And all of them, with cells that are side by side and 4,096 in all.
+-- And all of them, with cells that are side by side and at most 4,096 in all.
 unfoldable pub all-run : List ℕ → ℕ → ℕ → ℕ → List Running → Bool
 all-run sheet L t first [] = leb first 4096
 all-run sheet L t first (rule ∷ rules) = runs sheet L t first rule && all-run sheet L t (first + rule .cells) rules

@@ -1,23 +1,22 @@
 -- What the figures of a sheet's rules and an opening of them answer, by what their parts answered.
 use Prim.Native.Nat.{ℕ, _+_, _*_, _≤_, _<_}
 use mathlib.Core.Path.{_≡_, refl, sym, ap, _∙_}
-use mathlib.Core.Bool.{Bool, true, false, _&&_}
+use mathlib.Core.Bool.{Bool, true, false}
 use mathlib.Core.List.{List}
 use lib.Dec.{leb}
 use lib.ListN.{length}
-use borrow.Author.Tests.{leb-true, le-leb, lt-leb}
+use borrow.Author.Tests.{le-leb, lt-leb}
 use Rattle.refusal.specs.Answer.{Answer, refused, accepted, and-then}
-use Rattle.refusal.proofs.Answers.{same-value, both-accepted}
-use Rattle.refusal.proofs.Bools.{and-true}
+use Rattle.refusal.proofs.Answers.{both-accepted}
 use Rattle.sheet.specs.Sheet.{rule-count, rule-body}
 use Rattle.rule.specs.declared.Figures.{Figures}
 use Rattle.rule.specs.Figures.{body-figures}
 use Rattle.demand.specs.Contract.{must}
-use Rattle.demand.specs.SetContract.{SetOpening, all-cells, largest, bodies-from, sheet-bodies, all-figures, set-room, admit-set}
-use Rattle.demand.proofs.Admission.{must-passed}
+use Rattle.demand.specs.SetContract.{all-cells, largest, bodies-from, sheet-bodies, all-figures, set-figures, set-room, admit-set-lengths}
+use Rattle.demand.proofs.SetRules.{figures-told}
 use Rattle.admission.specs.Admitted.{FiguresWithin}
 use Rattle.set_admission.specs.declared.sheet_figures.SetFigures.{SetFigures}
-use Rattle.set_admission.specs.Together.{set-figures, opening-room, admit-set-lengths, sums-of, summed, few-cells, with-figures, SmallSums, Laid}
+use Rattle.set_admission.specs.Together.{sums-of, summed, few-cells, with-figures, SmallSums, Laid}
 use Rattle.set_admission.proofs.Added.{length-bodies, summed-next, within, all-small, small-sums, summed-accepted}
 use Rattle.set_admission.proofs.Laying.{LaidOut, laid-told, entry-is}
 
@@ -67,90 +66,56 @@ module _ (s : List ℕ) where
 
 -- Accepted figures: of a sheet that is laid out, as many as its rules, with few cells.
 pub record Together (s : List ℕ) (fs : List Figures) : Type 0 where
-  pub figures-are : set-figures s ≡ accepted fs
   pub laid : LaidOut s
   pub bodies-are : all-figures (bodies-from (rule-count s) s 0) ≡ accepted fs
   pub as-many : length fs ≡ rule-count s
   pub few : all-cells fs ≤ 4096
 
 pub together : (s : List ℕ) (fs : List Figures) → set-figures s ≡ accepted fs → Together s fs
-unfolding set-figures
 together s fs e =
-    let x = both-accepted (sheet-bodies s) (λ bodies. and-then (all-figures bodies) within-4096) fs e in
-    let y = both-accepted (all-figures (x .0)) within-4096 fs (x .2) in
-    let m = must-passed (leb (all-cells (y .0)) 4096) 27 (accepted (y .0)) (y .2) in
-    let same : y .0 ≡ fs = same-value (m .1) in
-    let l = laid-told s (x .1) in
-    let b : all-figures (bodies-from (rule-count s) s 0) ≡ accepted fs = ap all-figures (sym (l .1)) ∙ y .1 ∙ ap accepted same in
+    let x = figures-told s fs e in
+    let l = laid-told s (x .bodies-are) in
+    let b : all-figures (bodies-from (rule-count s) s 0) ≡ accepted fs = ap all-figures (sym (l .1)) ∙ x .figures-are in
     record {
-      figures-are = e;
       laid = l .0;
       bodies-are = b;
       as-many = all-small (bodies-from (rule-count s) s 0) fs b .as-many ∙ length-bodies (rule-count s) s 0;
-      few = rw same at (leb-true (all-cells (y .0)) 4096 (m .0));
+      few = x .cells-low;
     }
 
 -- ---- an opening
 
 module _ (history table records : ℕ) where
-  room-after : (b : Bool) (fs : List Figures)
-      → must b 27 (opening-room history table records fs) ≡ and-then (must b 27 (accepted fs)) (opening-room history table records)
-  unfolding must and-then
-  room-after true fs = refl
-  room-after false fs = refl
-
-  set-room-is : (fs : List Figures) → set-room history table records fs ≡ and-then (within-4096 fs) (opening-room history table records)
-  unfolding set-room opening-room
-  set-room-is fs = room-after (leb (all-cells fs) 4096) fs
-
-  both-rooms : (x : Answer (List Figures))
-      → and-then x (set-room history table records) ≡ and-then (and-then x within-4096) (opening-room history table records)
-  unfolding and-then
-  both-rooms (refused n) = refl
-  both-rooms (accepted fs) = set-room-is fs
-
-  all-rooms : (x : Answer (List (List ℕ)))
-      → and-then x (λ bodies. and-then (all-figures bodies) (set-room history table records))
-      ≡ and-then (and-then x (λ bodies. and-then (all-figures bodies) within-4096)) (opening-room history table records)
-  unfolding and-then
-  all-rooms (refused n) = refl
-  all-rooms (accepted bodies) = both-rooms (all-figures bodies)
-
-  -- first the figures, then the lengths
-  pub opening-is : (s : List ℕ) → admit-set-lengths s history table records ≡ and-then (set-figures s) (opening-room history table records)
-  unfolding set-figures
-  opening-is s = all-rooms (sheet-bodies s)
-
   pub opening-no-figures : (s : List ℕ) (n : ℕ) → set-figures s ≡ refused n → refused n ≡ summed (admit-set-lengths s history table records)
   unfolding and-then
-  opening-no-figures s n e = rw (opening-is s, e)
+  opening-no-figures s n e = rw e
 
-  pub opening-judged : (s : List ℕ) (fs : List Figures) (r : Answer SetFigures) → set-figures s ≡ accepted fs → r ≡ summed (opening-room history table records fs)
+  pub opening-judged : (s : List ℕ) (fs : List Figures) (r : Answer SetFigures) → set-figures s ≡ accepted fs → r ≡ summed (set-room history table records fs)
       → r ≡ summed (admit-set-lengths s history table records)
   unfolding and-then
-  opening-judged s fs r e h = h ∙ rw (opening-is s, e)
+  opening-judged s fs r e h = h ∙ rw e
 
   -- ---- its four tests, by the sums
 
   module _ (fs : List Figures) (sums : SetFigures) (are : sums ≡ sums-of fs) where
-    pub opening-short : history < sums .history → refused 17 ≡ summed (opening-room history table records fs)
-    unfolding opening-room must and-then
+    pub opening-short : history < sums .history → refused 17 ≡ summed (set-room history table records fs)
+    unfolding set-room must and-then
     opening-short h = simp (lt-leb (largest fs) history (rw are at h))
 
     module _ (h₁ : sums .history ≤ history) where
-      pub opening-long : 4096 < history → refused 17 ≡ summed (opening-room history table records fs)
-      unfolding opening-room must and-then
+      pub opening-long : 4096 < history → refused 17 ≡ summed (set-room history table records fs)
+      unfolding set-room must and-then
       opening-long h = simp (le-leb (largest fs) history (rw are at h₁), lt-leb history 4096 h)
 
       module _ (h₂ : history ≤ 4096) where
-        pub opening-cells : table < 4 * sums .cells → refused 18 ≡ summed (opening-room history table records fs)
-        unfolding opening-room must and-then
+        pub opening-cells : table < 4 * sums .cells → refused 18 ≡ summed (set-room history table records fs)
+        unfolding set-room must and-then
         opening-cells h =
             simp (le-leb (largest fs) history (rw are at h₁), le-leb history 4096 h₂, lt-leb (4 * all-cells fs) table (rw are at h))
 
         module _ (h₃ : 4 * sums .cells ≤ table) where
-          pub opening-records : records < sums .rules → refused 18 ≡ summed (opening-room history table records fs)
-          unfolding opening-room must and-then
+          pub opening-records : records < sums .rules → refused 18 ≡ summed (set-room history table records fs)
+          unfolding set-room must and-then
           opening-records h =
               simp (
                 le-leb (largest fs) history (rw are at h₁),
@@ -159,8 +124,8 @@ module _ (history table records : ℕ) where
                 lt-leb (length fs) records (rw are at h),
               )
 
-          pub opening-fits : sums .rules ≤ records → accepted sums ≡ summed (opening-room history table records fs)
-          unfolding opening-room must and-then
+          pub opening-fits : sums .rules ≤ records → accepted sums ≡ summed (set-room history table records fs)
+          unfolding set-room must and-then
           opening-fits h =
               rw are
               (simp (
@@ -169,26 +134,3 @@ module _ (history table records : ℕ) where
                 le-leb (4 * all-cells fs) table (rw are at h₃),
                 le-leb (length fs) records (rw are at h),
               ))
-
--- The refusals of crate demand's `admit-set` are these.
-pub admit-set-is : (o : SetOpening)
-    → admit-set o ≡ and-then (set-figures (o .sheet)) (opening-room (length (o .history)) (length (o .table)) (length (o .records)))
-admit-set-is o = opening-is (length (o .history)) (length (o .table)) (length (o .records)) (o .sheet)
-
--- ---- an admitted opening
-
-pub record SetRoom (history table records : ℕ) (fs : List Figures) : Type 0 where
-  pub history-high : history ≤ 4096
-  pub records-there : length fs ≤ records
-
-pub opening-told : (s : List ℕ) (history table records : ℕ) (fs : List Figures) → admit-set-lengths s history table records ≡ accepted fs
-    → Together s fs × SetRoom history table records fs
-unfolding opening-room
-opening-told s history table records fs e =
-    let x = both-accepted (set-figures s) (opening-room history table records) fs (sym (opening-is history table records s) ∙ e) in
-    let a = must-passed (leb (largest (x .0)) history && leb history 4096) 17 _ (x .2) in
-    let b = must-passed (leb (4 * all-cells (x .0)) table && leb (length (x .0)) records) 18 _ (a .1) in
-    let same : x .0 ≡ fs = same-value (b .1) in
-    let high = leb-true history 4096 (and-true (leb (largest (x .0)) history) (leb history 4096) (a .0) .1) in
-    let there = leb-true (length (x .0)) records (and-true (leb (4 * all-cells (x .0)) table) (leb (length (x .0)) records) (b .0) .1) in
-    (rw same at (together s (x .0) (x .1)), record { history-high = high; records-there = rw same at there })

@@ -1,7 +1,6 @@
--- What all rules of a sheet need together, and an opening of them by the lengths of what it is lent. The refusals are those of `admit-set` (crate demand).
-use Prim.Native.Nat.{ℕ, _+_, _*_, _≤_, max}
+-- What all rules of a sheet need together. Which sheets and openings are refused is said by `set-figures` and `admit-set` (crate demand).
+use Prim.Native.Nat.{ℕ, _+_, _≤_, max}
 use mathlib.Core.Path.{_≡_}
-use mathlib.Core.Bool.{_&&_}
 use mathlib.Core.List.{List}
 use lib.Dec.{leb}
 use lib.ListN.{length}
@@ -10,25 +9,10 @@ use Rattle.refusal.specs.Numbers.{number-of}
 use Rattle.sheet.specs.Sheet.{rule-count}
 use Rattle.rule.specs.declared.Figures.{Figures}
 use Rattle.demand.specs.Contract.{must}
-use Rattle.demand.specs.SetContract.{all-cells, all-delays, largest, bodies-from, sheet-bodies, all-figures, set-room}
+use Rattle.demand.specs.SetContract.{all-cells, all-delays, largest, bodies-from, sheet-bodies}
 use Rattle.set_admission.specs.declared.sheet_figures.SetFigures.{SetFigures}
 use Rattle.set_admission.specs.declared.sheet_figures.SetFiguresAnswer.{SetFiguresAnswer}
 use Rattle.set_admission.specs.declared.sheet_figures.SetFiguresAnswer.the-variants.{Sized, Refused}
-
--- The figures of all rules of a sheet: 1, 2, each rule's own refusals in rule order, and 27.
-unfoldable pub set-figures : List ℕ → Answer (List Figures)
-set-figures sheet =
-    and-then (sheet-bodies sheet) (λ bodies. and-then (all-figures bodies) (λ figures. must (leb (all-cells figures) 4096) 27 (accepted figures)))
-
--- Then 17 and 18 of an opening with a history, a table and records of these lengths.
-unfoldable pub opening-room : ℕ → ℕ → ℕ → List Figures → Answer (List Figures)
-opening-room history table records figures =
-    must (leb (largest figures) history && leb history 4096) 17
-    (must (leb (4 * all-cells figures) table && leb (length figures) records) 18 (accepted figures))
-
--- `admit-set` of an opening, by its sheet and its lengths alone.
-abbrev pub admit-set-lengths : List ℕ → ℕ → ℕ → ℕ → Answer (List Figures)
-admit-set-lengths sheet history table records = and-then (sheet-bodies sheet) (λ bodies. and-then (all-figures bodies) (set-room history table records))
 
 -- What rules with these figures need together.
 abbrev pub sums-of : List Figures → SetFigures

@@ -7,9 +7,9 @@ ghost use Rattle.sheet.specs.Sheet.{rule-count, rule-body};
 ghost use Rattle.rule.specs.declared.Figures.{Figures};
 ghost use Rattle.rule.specs.Figures.{body-figures};
 ghost use Rattle.figure_limits.specs.Answers.{figures-answer};
-ghost use Rattle.demand.specs.SetContract.{all-figures, bodies-from};
+ghost use Rattle.demand.specs.SetContract.{all-figures, bodies-from, set-figures, set-room, admit-set-lengths};
 ghost use Rattle.admission.specs.Admitted.{FiguresWithin};
-ghost use Rattle.set_admission.specs.Together.{set-figures, few-cells, opening-room, admit-set-lengths, sums-of, summed, set-figures-answer, with-figures, SmallSums, Laid};
+ghost use Rattle.set_admission.specs.Together.{few-cells, sums-of, summed, set-figures-answer, with-figures, SmallSums, Laid};
 use crate::MAX_CELLS;
 use figure_limits::FigureAnswer;
 use outcomes::later;
@@ -137,7 +137,7 @@ fn fit_set_opening(
     records: usize,
 ) -> SetFiguresAnswer
     requires { ⌜ sums .cells ≤ 4096 ⌝ }
-    ensures { λ r. ⌜ ((figures : List Figures) → sums ≡ sums-of figures → set-figures-answer r ≡ summed (opening-room history table records figures)) ⌝ }
+    ensures { λ r. ⌜ ((figures : List Figures) → sums ≡ sums-of figures → set-figures-answer r ≡ summed (set-room history table records figures)) ⌝ }
 {
     if (history as u64) < sums.history {
         return SetFiguresAnswer::Refused(Refusal::HistoryLength);

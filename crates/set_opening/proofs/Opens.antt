@@ -10,15 +10,16 @@ use Rattle.refusal.specs.Numbers.{number-of}
 use Rattle.sheet.specs.Sheet.{rule-count}
 use Rattle.rule.specs.declared.Figures.{Figures}
 use Rattle.demand.specs.declared.Running.{Running}
-use Rattle.demand.specs.SetContract.{no-rule, rule-state, running-rules, opened-rules, set-opening-of, SetOpenPromise}
+use Rattle.demand.specs.SetContract.{no-rule, rule-state, running-rules, set-figures, admit-set-lengths, opened-rules, set-opening-of, SetOpenPromise}
+use Rattle.demand.proofs.SetRules.{RoomTold, opening-told}
 use Rattle.cell_runs.specs.Moves.{Stands}
 use Rattle.cell_runs.proofs.Rules.{stands-at-start}
 use Rattle.set_admission.specs.declared.sheet_figures.SetFiguresAnswer.{SetFiguresAnswer}
 use Rattle.set_admission.specs.declared.sheet_figures.SetFiguresAnswer.the-variants as sized
 use Rattle.set_admission.specs.declared.sheet_figures.SetFigures.{SetFigures}
-use Rattle.set_admission.specs.Together.{set-figures, admit-set-lengths, sums-of, summed, set-figures-answer}
+use Rattle.set_admission.specs.Together.{sums-of, summed, set-figures-answer}
 use Rattle.set_admission.proofs.Added.{summed-refused, summed-accepted}
-use Rattle.set_admission.proofs.Judged.{Together, SetRoom, opening-told}
+use Rattle.set_admission.proofs.Judged.{Together, together}
 use Rattle.set_opening.specs.declared.SetOpenAnswer.{SetOpenAnswer}
 use Rattle.set_opening.specs.declared.SetOpenAnswer.the-variants as answer
 use Rattle.set_opening.specs.Opening.{set-open-answer, Openable}
@@ -45,15 +46,18 @@ module _ (s : List ℕ) (records : List Running) (history cells : List ℕ) (m :
     abbrev fs : List Figures
     fs = admitted .0
 
-    told : Together s fs × SetRoom (length history) (length cells) m fs
+    told : (set-figures s ≡ accepted fs) × RoomTold (length history) (length cells) m fs
     told = opening-told s (length history) (length cells) m fs (admitted .1)
+
+    known : Together s fs
+    known = together s fs (told .0)
 
     pub openable : Openable s m (sums .rules) (length history)
     openable =
         let e : sums .rules ≡ length fs = ap (λ (x : SetFigures). x .rules) (admitted .2) in
         record {
           figures = fs;
-          figures-are = told .0 .figures-are;
+          figures-are = told .0;
           count-is = e;
           room = rw e (told .1 .records-there);
           low = told .1 .history-high;
@@ -65,9 +69,9 @@ module _ (s : List ℕ) (records : List Running) (history cells : List ℕ) (m :
     open-keeps records′ history′ written zeroed =
         let given = running-rules s records′ in
         let opened = opened-rules s (length history) 0 0 fs in
-        let e : records′ ≡ opened ++ drop (length fs) records = written fs (told .0 .figures-are) in
+        let e : records′ ≡ opened ++ drop (length fs) records = written fs (told .0) in
         let n : length opened ≡ length fs = as-many-opened s (length history) fs 0 0 in
-        let g : given ≡ opened = ap (take (rule-count s)) e ∙ take-at opened (drop (length fs) records) (rule-count s) (n ∙ told .0 .as-many) in (
+        let g : given ≡ opened = ap (take (rule-count s)) e ∙ take-at opened (drop (length fs) records) (rule-count s) (n ∙ known .as-many) in (
           fs,
           admit-is (accepted fs) (admitted .1),
           record {

@@ -8,8 +8,7 @@ use Rattle.refusal.specs.Numbers.{number-of}
 use Rattle.sheet.specs.Sheet.{body-offset, extent}
 use Rattle.rule.specs.declared.Figures.{Figures}
 use Rattle.demand.specs.declared.Running.{Running}
-use Rattle.demand.specs.SetContract.{running-rules}
-use Rattle.set_admission.specs.Together.{set-figures}
+use Rattle.demand.specs.SetContract.{running-rules, set-figures}
 use Rattle.set_opening.specs.declared.SetOpenAnswer.{SetOpenAnswer}
 use Rattle.set_opening.specs.declared.SetOpenAnswer.the-variants.{Opened, Refused}
 

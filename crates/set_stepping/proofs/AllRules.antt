@@ -1,21 +1,19 @@
 -- The rules of an admitted set take their tick one after another: what each turn asks and gives (the invariant is demand's, proofs/SetLoop.antt).
 use Prim.Native.Nat.{ℕ, suc, _+_, _*_, _-_, _%_, _≤_, _<_}
-use mathlib.Core.Path.{_≡_, refl, sym, ap, subst, _∙_}
-use mathlib.Core.Logic.{_≢_}
+use mathlib.Core.Path.{_≡_, sym, ap, subst, _∙_}
 use mathlib.Core.List.{List, [], _∷_, _++_}
 use native.Mathlib.Omega.{arith}
-use lib.Dec.{leb, eqb}
-use lib.ListN.{length, getD, take, drop, set, length-drop}
+use lib.ListN.{length, getD, take, drop, set}
 use lib.Seq.{drop-drop}
-use borrow.Author.Tests.{le-leb, eq-eqb, ne-eqb}
-use Rattle.refusal.specs.Answer.{accepted, and-then}
+use Rattle.refusal.specs.Answer.{accepted}
 use Rattle.sheet.specs.Sheet.{rule-count}
 use Rattle.rule.specs.declared.Figures.{Figures}
 use Rattle.demand.specs.declared.Running.{Running}
-use Rattle.demand.specs.Contract.{must, as-21, fit-lengths, fit-opened, admit-lengths}
+use Rattle.demand.specs.Contract.{admit-lengths}
 use Rattle.demand.specs.SetContract.{no-rule, body-at, rule-state, own-cells, next-rule, opened-length, next-tick, numbered, needs, admit-records, Ticked, SetTakes, set-step-of, all-delays}
+use Rattle.demand.proofs.Admission.{formula-of, step-admits}
 use Rattle.demand.proofs.SetAdmission.{SetAdmitted, Placed, set-step-admitted, rule-placed, few-delays}
-use Rattle.demand.proofs.SetLoop.{Upto, upto-none, upto-record, turn-cells, turn-fits, turn-pairs, turn-live, turn-room, upto-next, upto-all}
+use Rattle.demand.proofs.SetLoop.{Upto, upto-none, upto-record, turn-fits, turn-pairs, turn-live, turn-room, upto-next, upto-all}
 use Rattle.cell_runs.specs.Moves.{Stands}
 use Rattle.rule.specs.Figures.{body-figures}
 use Rattle.set_stepping.specs.Answers.{set-taken}
@@ -24,18 +22,21 @@ use Rattle.set_stepping.specs.Moves.{RuleFit, RuleMoved, NextFit, SetMov
 -- A step of one rule with its own figures is admitted.
 own-admits : (bytes : List ℕ) (L t history cells report : ℕ) (figures : Figures) → L ≤ 4096 → t < 4294967295 → body-figures bytes ≡ accepted figures → figures .history ≤ L
     → history ≡ L → 4 * figures .cells ≤ cells → figures .delay + 1 ≤ report → admit-lengths bytes L t history cells report ≡ accepted figures
-unfolding admit-lengths fit-opened fit-lengths must and-then as-21
 own-admits bytes L t history cells report figures high timely opens low same room words =
-    simp (
-      le-leb L 4096 high,
-      le-leb t 4294967295 (omega arith),
-      opens,
-      le-leb (figures .history) L low,
-      eq-eqb history L same,
-      le-leb (4 * figures .cells) cells room,
-      le-leb (figures .delay + 1) report words,
-      ne-eqb t 4294967295 (λ e. omega arith),
-    )
+    let x = formula-of bytes figures opens in
+    step-admits bytes L t history cells report figures
+    (record {
+      formula = x .0;
+      reads = x .1;
+      within = x .2;
+      opened-high = high;
+      opened-low = low;
+      history-fits = same;
+      cells-fit = room;
+      report-fits = words;
+      tick-low = omega arith;
+      tick-left = λ e. omega arith;
+    })
 
 module _ (sheet : List ℕ) (records₀ : List Running) (history : List ℕ) (flag : ℕ) (cells₀ report₀ : List ℕ) where
   abbrev pub SoFar : ℕ → List Running → List ℕ → List ℕ → ℕ → ℕ → Type 0
@@ -55,9 +56,6 @@ module _ (sheet : List ℕ) (records₀ : List Running) (history : List ℕ) (fl
 
     pub few-pairs : all-delays figures ≤ 4096
     few-pairs = few-delays known
-
-    pub tick-fits : next-tick records₀ < 4294967296 → next-tick records₀ < 4294967295
-    tick-fits word = let h = known .tick-left in omega arith
 
     pub opened-is : opened-length records₀ ≡ length history
     opened-is = sym (known .history-fits)

@@ -8,7 +8,6 @@ use native.Mathlib.Omega.{arith}
 use lib.ListN.{length, getD, take, drop, length-append, length-drop, length-take, take-append-drop}
 use lib.Seq.{length-take-le, take-at, drop-at, drop-drop}
 use Rattle.refusal.specs.Answer.{accepted}
-use Rattle.sheet.specs.Sheet.{rule-count}
 use Rattle.rule.specs.declared.Figures.{Figures}
 use Rattle.rule.proofs.Order.{by-order}
 use Rattle.demand.specs.declared.Running.{Running}
@@ -48,9 +47,6 @@ module _ (sheet : List ℕ) (records₀ : List Running) (flags history₀ cells�
 
     pub few : all-delays figures ≤ 4096
     few = few-delays first-known
-
-    pub few-rules : rule-count sheet ≤ 32
-    few-rules = first-known .most
 
     pub under-start : (live : ℕ) → next-tick records₀ < 4294967296 → live ≡ all-live (running-rules sheet records₀) → Under records₀ history₀ cells₀ report₀ 0 0 live
     under-start live word live-is =

@@ -17,6 +17,7 @@ use Rattle.demand.specs.declared.Running.{Running}
 use Rattle.demand.specs.Contract.{Invariant, must}
 use Rattle.demand.specs.SetContract.{SetTaken, SetStep, no-rule, next-rule, running-rules, opened-length, next-tick, all-live, all-cells, all-delays, needs, all-run, fit-set, admit-records, SetTakes}
 use Rattle.demand.proofs.SetAdmission.{SetAdmitted, Placed, AllPlaced, all-run-there, rules-count, rule-placed}
+use Rattle.demand.proofs.SetAlong.{placed-next}
 
 -- What is known of admitted records admits them, with any report of at least so many words.
 pub admits : (sheet : List ℕ) (records : List Running) (history cells report : ℕ) (figures : List Figures) → SetAdmitted sheet records history cells report figures
@@ -99,20 +100,6 @@ module _ (Stands : Invariant) (made : SetStep) (figures : List Figures) (taken :
       ∙ sym (List·getD-map (needs sheet) (running-rules sheet (made .records)) i no-rule))
       ∙ known .figures-are
 
-  placed-next : (first : ℕ) (r : Running) (live : ℕ) → Placed sheet (opened-length (made .records)) (next-tick (made .records)) first r
-      → Placed sheet (opened-length (made .records)) (suc (next-tick (made .records))) first (next-rule r live)
-  placed-next first r live p =
-      record {
-        inside = p .inside;
-        first-is = p .first-is;
-        opened-is = p .opened-is;
-        next-is = ap suc (p .next-is);
-        opens = p .opens;
-        cells-are = p .cells-are;
-        delay-is = p .delay-is;
-        history-fits = p .history-fits;
-      }
-
   all-placed : AllPlaced sheet (opened-length (made .records)) (suc (next-tick (made .records))) 0 rules′
   all-placed i h =
       let below : i < n = omega (arith, rules-long) in
@@ -121,7 +108,7 @@ module _ (Stands : Invariant) (made : SetStep) (figures : List Figures) (taken :
       let live = (getD (taken .running) i no-rule) .live in
       subst (λ (r : Running). Placed sheet (opened-length (made .records)) (suc (next-tick (made .records))) (0 + all-cells (take i (map (needs sheet) rules′))) r) (sym (rule-at i below))
       (subst (λ (x : ℕ). Placed sheet (opened-length (made .records)) (suc (next-tick (made .records))) x (next-rule (rule i) live)) first
-      (placed-next (all-cells (take i figures)) (rule i) live (rule-placed known i below)))
+      (placed-next live (rule-placed known i below)))
 
   -- So it is admitted whatever report of at least so many words the next step is lent.
   pub next-known : suc (next-tick (made .records)) ≢ 4294967295 → (words : ℕ) → 2 * all-delays figures ≤ words → SetAdmitted sheet (made .records′) history cells words figures

@@ -26,13 +26,13 @@ pub record TimedMoved (sheet : List ℕ) (records : List Running) (history : Lis
   pub report-is : report′ ≡ timed (next-tick records) (take (2 * reported) words) ++ drop (3 * reported) report
 
 -- Many flags of a set that is admitted with a report of 8,192 words.
-pub record BatchFit (sheet : List ℕ) (records : List Running) (history cells pairs : ℕ) : Type 0 where
+pub record SetBatchFit (sheet : List ℕ) (records : List Running) (history cells pairs : ℕ) : Type 0 where
   pub figures : List Figures
   pub admitted : admit-records sheet records history cells 8192 ≡ accepted figures
   pub pairs-are : pairs ≡ all-delays figures
 
-abbrev pub FlagsTaken : List ℕ → List Running → List ℕ → List ℕ → List ℕ → List ℕ → ℕ → ℕ → ℕ → List Running → List ℕ → List ℕ → List ℕ → Type 0
-FlagsTaken sheet records flags history cells report taken triples live records′ history′ cells′ report′ =
+abbrev pub SetFlagsTaken : List ℕ → List Running → List ℕ → List ℕ → List ℕ → List ℕ → ℕ → ℕ → ℕ → List Running → List ℕ → List ℕ → List ℕ → Type 0
+SetFlagsTaken sheet records flags history cells report taken triples live records′ history′ cells′ report′ =
     (figures : List Figures) → admit-records sheet records (length history) (length cells) 8192 ≡ accepted figures
     → SetSteps Stands
     (set-batch-of (accepted (set-counts taken triples live sheet records′)) sheet records flags history cells report records′ history′ cells′ report′) figures

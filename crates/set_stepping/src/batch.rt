@@ -2,14 +2,13 @@
 ghost use mathlib.Core.Path.{_≡_};
 ghost use Prim.Native.Nat.{_≤_};
 ghost use lib.ListN.{length, take};
-ghost use Rattle.sheet.specs.Sheet.{rule-count};
 ghost use Rattle.demand.specs.SetContract.{all-live, set-batch-of, SetBatchPromise};
 ghost use Rattle.cell_runs.specs.Moves.{Stands};
 ghost use Rattle.running.specs.Records.{rules-in};
 ghost use Rattle.set_stepping.specs.Answers.{set-batch-answer};
-ghost use Rattle.set_stepping.specs.Batches.{TimedFit, TimedMoved, BatchFit, FlagsTaken};
+ghost use Rattle.set_stepping.specs.Batches.{TimedFit, TimedMoved, SetBatchFit, SetFlagsTaken};
 use crate::pairs::time_pairs;
-use crate::rules::Moved;
+use crate::rules::StepCounts;
 use crate::rules::take_flag;
 use admission::flags_left;
 use refusal::Refusal;
@@ -19,7 +18,7 @@ use set_admission::SetFit;
 use words::byte_after;
 
 // The words that one step of any set can report.
-const REPORT_WORDS: usize = 8192;
+const SET_REPORT_WORDS: usize = 8192;
 
 // How many flags were taken, how many triples were written and how many ticks are live in all, or why the batch was refused.
 pub enum SetBatchAnswer {
@@ -28,7 +27,7 @@ pub enum SetBatchAnswer {
 }
 
 // How many flags were taken, how many triples were written and how many ticks are live.
-struct Counts {
+struct SetBatchCounts {
     pub taken: usize,
     pub triples: usize,
     pub live: usize,
@@ -49,7 +48,7 @@ fn all_live(records: &[[u32; RECORD_WORDS]], count: usize) -> usize
     live
 }
 
-// Takes a flag of a set whose steps report at most so many pairs, and makes triples of its pairs.
+// Takes a flag of a set whose steps report `most` pairs at most, and makes triples of its pairs.
 fn take_timed(
     sheet: &[u8],
     records: &mut [[u32; RECORD_WORDS]],
@@ -57,19 +56,19 @@ fn take_timed(
     flag: u8,
     cells: &mut [u32],
     report: &mut [u32],
-    pairs: usize,
-) -> Moved
-    requires { ⌜ TimedFit (now sheet) (rules-in (now records)) (length (now history)) (length (now cells)) (length (now report)) pairs ⌝ }
-    ensures { λ r. ⌜ TimedMoved (now (sheet .entry)) (rules-in (now (records .entry))) (now (history .entry)) flag (now (cells .entry)) (now (report .entry)) pairs (r .reported) (r .live) (rules-in (now (records .exit))) (now (history .exit)) (now (cells .exit)) (now (report .exit)) ⌝ }
+    most: usize,
+) -> StepCounts
+    requires { ⌜ TimedFit (now sheet) (rules-in (now records)) (length (now history)) (length (now cells)) (length (now report)) most ⌝ }
+    ensures { λ r. ⌜ TimedMoved (now (sheet .entry)) (rules-in (now (records .entry))) (now (history .entry)) flag (now (cells .entry)) (now (report .entry)) most (r .reported) (r .live) (rules-in (now (records .exit))) (now (history .exit)) (now (cells .exit)) (now (report .exit)) ⌝ }
 {
     let lead = rule_at(records, 0);
-    let words = 2 * pairs;
+    let words = 2 * most;
     let moved = take_flag(sheet, records, history, flag, cells, &mut report[..words]);
     time_pairs(report, moved.reported, lead.next);
     moved
 }
 
-// Takes flags, until they or the tick numbers end, or the report has no room for another step, which can have so many pairs.
+// Takes flags, until they or the tick numbers end, or the report has no room for another step, which can have `most` pairs.
 fn take_flags(
     sheet: &[u8],
     records: &mut [[u32; RECORD_WORDS]],
@@ -77,10 +76,10 @@ fn take_flags(
     history: &mut [u8],
     cells: &mut [u32],
     report: &mut [u32],
-    pairs: usize,
-) -> Counts
-    requires { ⌜ BatchFit (now sheet) (rules-in (now records)) (length (now history)) (length (now cells)) pairs ⌝ }
-    ensures { λ r. ⌜ FlagsTaken (now (sheet .entry)) (rules-in (now (records .entry))) (now (flags .entry)) (now (history .entry)) (now (cells .entry)) (now (report .entry)) (r .taken) (r .triples) (r .live) (rules-in (now (records .exit))) (now (history .exit)) (now (cells .exit)) (now (report .exit)) ⌝ }
+    most: usize,
+) -> SetBatchCounts
+    requires { ⌜ SetBatchFit (now sheet) (rules-in (now records)) (length (now history)) (length (now cells)) most ⌝ }
+    ensures { λ r. ⌜ SetFlagsTaken (now (sheet .entry)) (rules-in (now (records .entry))) (now (flags .entry)) (now (history .entry)) (now (cells .entry)) (now (report .entry)) (r .taken) (r .triples) (r .live) (rules-in (now (records .exit))) (now (history .exit)) (now (cells .exit)) (now (report .exit)) ⌝ }
 {
     let lead = rule_at(records, 0);
     let count = flags_left(flags.len(), lead.next);
@@ -89,8 +88,8 @@ fn take_flags(
     let mut live = all_live(records, byte_after(sheet, 0, 0));
     while taken < count {
         let at = 3 * triples;
-        if report.len() - at < 3 * pairs {
-            return Counts {
+        if report.len() - at < 3 * most {
+            return SetBatchCounts {
                 taken,
                 triples,
                 live,
@@ -104,13 +103,13 @@ fn take_flags(
             flag,
             cells,
             &mut report[at..],
-            pairs,
+            most,
         );
         triples += moved.reported;
         live = moved.live;
         taken += 1;
     }
-    Counts {
+    SetBatchCounts {
         taken,
         triples,
         live,
@@ -134,12 +133,12 @@ pub fn steps(
         records,
         history.len(),
         cells.len(),
-        REPORT_WORDS,
+        SET_REPORT_WORDS,
     );
     match fit {
         SetFit::Refused(refusal) => SetBatchAnswer::Refused(refusal),
-        SetFit::Fits(pairs) => {
-            let counts = take_flags(sheet, records, flags, history, cells, report, pairs);
+        SetFit::Fits(most) => {
+            let counts = take_flags(sheet, records, flags, history, cells, report, most);
             SetBatchAnswer::Taken(counts.taken, counts.triples, counts.live)
         }
     }

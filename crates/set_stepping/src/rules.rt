@@ -1,8 +1,6 @@
 // All running rules moved by one tick.
 ghost use mathlib.Core.Path.{_≡_};
-ghost use Prim.Native.Nat.{_≤_};
 ghost use lib.ListN.{length};
-ghost use Rattle.sheet.specs.Sheet.{rule-count};
 ghost use Rattle.demand.specs.SetContract.{next-rule};
 ghost use Rattle.running.specs.Records.{rules-in};
 ghost use Rattle.set_stepping.specs.Moves.{RuleFit, RuleMoved, SetFits, SetMoved, stored-byte, NextFit, ticks-taken, live-taken};
@@ -16,18 +14,18 @@ use running::store_rule;
 use words::byte_after;
 
 // How many pairs, or ticks of one rule, were reported, and how many ticks are live.
-pub(crate) struct Moved {
+pub(crate) struct StepCounts {
     pub reported: usize,
     pub live: usize,
 }
 
 // The counts of a rule's step; none where it was refused.
-fn counts(answer: StepAnswer) -> Moved
+fn counts(answer: StepAnswer) -> StepCounts
     ensures { λ r. ⌜ (r .reported ≡ ticks-taken answer) × (r .live ≡ live-taken answer) ⌝ }
 {
     match answer {
-        StepAnswer::Taken(reported, live) => Moved { reported, live },
-        StepAnswer::Refused(_) => Moved {
+        StepAnswer::Taken(reported, live) => StepCounts { reported, live },
+        StepAnswer::Refused(_) => StepCounts {
             reported: 0,
             live: 0,
         },
@@ -35,7 +33,7 @@ fn counts(answer: StepAnswer) -> Moved
 }
 
 // Moves rule `index` by one tick in its own part of the cells, and writes its pairs at the report's start.
-fn move_rule(
+fn take_rule(
     sheet: &[u8],
     rule: Running,
     index: u32,
@@ -43,7 +41,7 @@ fn move_rule(
     flag: u8,
     cells: &mut [u32],
     report: &mut [u32],
-) -> Moved
+) -> StepCounts
     requires { ⌜ RuleFit (now sheet) rule (length (now history)) (length (now cells)) (length (now report)) ⌝ }
     ensures { λ r. ⌜ RuleMoved (now (sheet .entry)) rule index (now (history .entry)) flag (now (cells .entry)) (now (report .entry)) (r .reported) (r .live) (now (cells .exit)) (now (report .exit)) ⌝ }
 {
@@ -51,7 +49,7 @@ fn move_rule(
     let end = start + rule.size as usize;
     let low = 4 * rule.first as usize;
     let high = low + 4 * rule.cells as usize;
-    let half = rule.delay as usize + 1;
+    let ticks = rule.delay as usize + 1;
     let answer = instances::take_tick(
         &sheet[start..end],
         rule.opened as usize,
@@ -59,7 +57,7 @@ fn move_rule(
         history,
         flag,
         &mut cells[low..high],
-        &mut report[..half],
+        &mut report[..ticks],
     );
     let moved = counts(answer);
     number_ticks(report, moved.reported, index);
@@ -84,7 +82,7 @@ fn move_rules(
     flag: u8,
     cells: &mut [u32],
     report: &mut [u32],
-) -> Moved
+) -> StepCounts
     requires { ⌜ SetFits (now sheet) (rules-in (now records)) (length (now history)) (length (now cells)) (length (now report)) ⌝ }
     ensures { λ r. ⌜ SetMoved (now (sheet .entry)) (rules-in (now (records .entry))) (now (history .entry)) flag (now (cells .entry)) (now (report .entry)) (r .reported) (r .live) (rules-in (now (records .exit))) (stored-byte (rules-in (now (records .entry))) (now (history .entry)) flag) (now (cells .exit)) (now (report .exit)) ⌝ }
 {
@@ -95,13 +93,13 @@ fn move_rules(
     while index < count {
         let rule = rule_at(records, index as usize);
         let at = 2 * pairs;
-        let moved = move_rule(sheet, rule, index, history, flag, cells, &mut report[at..]);
+        let moved = take_rule(sheet, rule, index, history, flag, cells, &mut report[at..]);
         store_rule(records, index as usize, next_rule(rule, moved.live));
         pairs += moved.reported;
         live += moved.live;
         index += 1;
     }
-    Moved {
+    StepCounts {
         reported: pairs,
         live,
     }
@@ -115,7 +113,7 @@ pub(crate) fn take_flag(
     flag: u8,
     cells: &mut [u32],
     report: &mut [u32],
-) -> Moved
+) -> StepCounts
     requires { ⌜ SetFits (now sheet) (rules-in (now records)) (length (now history)) (length (now cells)) (length (now report)) ⌝ }
     ensures { λ r. ⌜ SetMoved (now (sheet .entry)) (rules-in (now (records .entry))) (now (history .entry)) flag (now (cells .entry)) (now (report .entry)) (r .reported) (r .live) (rules-in (now (records .exit))) (now (history .exit)) (now (cells .exit)) (now (report .exit)) ⌝ }
 {

@@ -5,6 +5,9 @@
 mod calls;
 mod formula_counts;
 mod runs;
+mod set_calls;
+mod set_runs;
+mod set_suites;
 mod suites;
 mod text_cases;
 mod texts;
@@ -13,6 +16,9 @@ use crate::paper::LAST_REFUSAL;
 pub use calls::{figures, opening, outcome, place, round_trip, write};
 pub use formula_counts::{formula_counts, typed_formula_counts};
 pub use runs::{run, Plan, Tally};
+pub use set_calls::{set_figures, set_opening};
+pub use set_runs::{set_run, SetTally};
+pub use set_suites::{set_openings, set_orders, set_runs, set_sums};
 pub use suites::{
     bodies, cell_counts, history_lengths, limits, long_recordings, openings, recordings, runs,
     sheets, writers,

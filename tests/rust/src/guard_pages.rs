@@ -3,7 +3,10 @@
 //! with SIGSEGV. Guard words (`lent`) show what was written only.
 
 use crate::lent::Word;
-use crate::library::{Library, State, StepAnswer, StepLent, StepsAnswer};
+use crate::library::{
+    Library, Running, SetFiguresAnswer, SetLent, SetStepAnswer, SetStepsAnswer, State, StepAnswer,
+    StepLent, StepsAnswer,
+};
 use std::cell::RefCell;
 use std::ffi::{c_int, c_long, c_void};
 use std::ops::Range;
@@ -118,7 +121,7 @@ impl Lender<'_> {
 pub struct Guarded<'a> {
     library: &'a dyn Library,
     /// As many as the call with the most of them needs.
-    lenders: RefCell<[Lender<'a>; 8]>,
+    lenders: RefCell<[Lender<'a>; 9]>,
 }
 
 impl<'a> Guarded<'a> {
@@ -276,7 +279,7 @@ impl Library for Guarded<'_> {
     }
 
     fn steps(&self, state: &mut State, flags: &[u8], lent: StepLent, answer: StepsAnswer) -> u32 {
-        let [a, b, c, d, e, f, g, h] = &mut *self.lenders.borrow_mut();
+        let [a, b, c, d, e, f, g, h, ..] = &mut *self.lenders.borrow_mut();
         let (own, lent_flags) =
             (state_of(a.lend("steps state", state)), b.lend("steps flags", flags));
         let (history, cells) =
@@ -295,6 +298,103 @@ impl Library for Guarded<'_> {
         check_kept(lent_flags, flags);
         number
     }
+
+    fn set_figures(&self, sheet: &[u8], answer: SetFiguresAnswer) -> u32 {
+        let [a, b, c, d, e, ..] = &mut *self.lenders.borrow_mut();
+        let lent = a.lend("set figures sheet", sheet);
+        let rules = b.lend_one("set figures rules", answer.rules);
+        let history = c.lend_one("set figures history", answer.history);
+        let cells = d.lend_one("set figures cells", answer.cells);
+        let pairs = e.lend_one("set figures pairs", answer.pairs);
+        let own_answer = SetFiguresAnswer {
+            rules: &mut *rules,
+            history: &mut *history,
+            cells: &mut *cells,
+            pairs: &mut *pairs,
+        };
+        let number = self.library.set_figures(lent, own_answer);
+        (*answer.rules, *answer.history) = (*rules, *history);
+        (*answer.cells, *answer.pairs) = (*cells, *pairs);
+        check_kept(lent, sheet);
+        number
+    }
+
+    fn set_open(
+        &self,
+        sheet: &[u8],
+        records: &mut [Running],
+        history: &mut [u8],
+        cells: &[u32],
+    ) -> u32 {
+        let [a, b, c, d, ..] = &mut *self.lenders.borrow_mut();
+        let (lent_sheet, lent_cells) =
+            (a.lend("set open sheet", sheet), b.lend("set open cells", cells));
+        let (running, flags) =
+            (c.lend("set open records", records), d.lend("set open history", history));
+        let number = self.library.set_open(lent_sheet, running, flags, lent_cells);
+        records.copy_from_slice(running);
+        history.copy_from_slice(flags);
+        check_kept(lent_sheet, sheet);
+        check_kept(lent_cells, cells);
+        number
+    }
+
+    fn set_step(&self, sheet: &[u8], flag: u8, lent: SetLent, answer: SetStepAnswer) -> u32 {
+        let [a, b, c, d, e, f, g, ..] = &mut *self.lenders.borrow_mut();
+        let (lent_sheet, records) =
+            (a.lend("set step sheet", sheet), b.lend("set step records", lent.records));
+        let (history, cells) =
+            (c.lend("set step history", lent.history), d.lend("set step cells", lent.cells));
+        let report = e.lend("set step report", lent.report);
+        let (pairs, live) =
+            (f.lend_one("set step pairs", answer.pairs), g.lend_one("set step live", answer.live));
+        let own = set_parts(records, history, cells, report);
+        let own_answer = SetStepAnswer { pairs: &mut *pairs, live: &mut *live };
+        let number = self.library.set_step(lent_sheet, flag, own, own_answer);
+        give_back(lent, records, history, cells, report);
+        (*answer.pairs, *answer.live) = (*pairs, *live);
+        check_kept(lent_sheet, sheet);
+        number
+    }
+
+    fn set_steps(&self, sheet: &[u8], flags: &[u8], lent: SetLent, answer: SetStepsAnswer) -> u32 {
+        let [a, b, c, d, e, f, g, h, i] = &mut *self.lenders.borrow_mut();
+        let (lent_sheet, lent_flags) =
+            (a.lend("set steps sheet", sheet), b.lend("set steps flags", flags));
+        let (records, history) =
+            (c.lend("set steps records", lent.records), d.lend("set steps history", lent.history));
+        let (cells, report) =
+            (e.lend("set steps cells", lent.cells), f.lend("set steps report", lent.report));
+        let taken = g.lend_one("set steps taken", answer.taken);
+        let triples = h.lend_one("set steps triples", answer.triples);
+        let live = i.lend_one("set steps live", answer.live);
+        let own = set_parts(records, history, cells, report);
+        let own_answer =
+            SetStepsAnswer { taken: &mut *taken, triples: &mut *triples, live: &mut *live };
+        let number = self.library.set_steps(lent_sheet, lent_flags, own, own_answer);
+        give_back(lent, records, history, cells, report);
+        (*answer.taken, *answer.triples, *answer.live) = (*taken, *triples, *live);
+        check_kept(lent_sheet, sheet);
+        check_kept(lent_flags, flags);
+        number
+    }
+}
+
+fn set_parts<'a>(
+    records: &'a mut [Running],
+    history: &'a mut [u8],
+    cells: &'a mut [u32],
+    report: &'a mut [u32],
+) -> SetLent<'a> {
+    SetLent { records, history, cells, report }
+}
+
+/// What a step of a set wrote at the guard pages, into what was lent.
+fn give_back(lent: SetLent, records: &[Running], history: &[u8], cells: &[u32], report: &[u32]) {
+    lent.records.copy_from_slice(records);
+    lent.history.copy_from_slice(history);
+    lent.cells.copy_from_slice(cells);
+    lent.report.copy_from_slice(report);
 }
 
 fn parts<'a>(history: &'a mut [u8], cells: &'a mut [u32], report: &'a mut [u32]) -> StepLent<'a> {

@@ -4,10 +4,14 @@
 //! "For another dishonest state or table it [21] may come before any other; one
 //! not caught gets some ending step, which writes at most one history byte, the
 //! cell table and the report." The library says exactly which are caught, so the
-//! number of every call is checked (`lot`, `states`).
+//! number of every call is checked (`lot`, `states`). The same of sets, whose state are
+//! records (`sets`, `set_lot`, `records`).
 
 mod lengths;
 mod lot;
+mod set_lengths;
+mod set_lot;
+mod sets;
 
 use crate::compare::{self, hex, Check, Numbers, MARK};
 use crate::demand;
@@ -18,6 +22,14 @@ use crate::random::{self, Random, Rule, WriterInput};
 use crate::states::{number_at, put_number, LIVE_AT, NEXT_AT, OPENED_AT, SIZE_AT};
 pub use lengths::every_length;
 use lot::{batch, honest, step, Lot};
+pub use set_lengths::{
+    empty_set_slices, every_set_length, forged_set_lengths, forged_set_ticks, huge_set_lengths,
+    set_step_orders, DUE_SET_TICKS,
+};
+pub use sets::{
+    disturbed_neighbours, disturbed_records, exchanged_records, forged_records, other_sheets,
+    overwritten_sets, random_records, summed_records,
+};
 
 /// States and tables of random content, in lots of random lengths.
 pub fn random_states(library: &dyn Library, seed: u64, count: usize) -> Check<Numbers> {

@@ -1,11 +1,12 @@
 //! Buffers to be lent to the library, with guards before and after them.
 
+use crate::library::Running;
 use std::fmt::Debug;
 
 /// Elements before and after a lent buffer.
 const GUARD: usize = 24;
 
-/// What can be lent: bytes and words.
+/// What can be lent: bytes, words, and records of words.
 pub trait Word: Copy + PartialEq + Debug {
     /// What the guard holds at a place.
     fn guard(place: usize) -> Self;
@@ -38,6 +39,12 @@ impl Word for u64 {
 impl Word for usize {
     fn guard(place: usize) -> usize {
         <u64 as Word>::guard(place) as usize
+    }
+}
+
+impl Word for Running {
+    fn guard(place: usize) -> Running {
+        Running::of_words(std::array::from_fn(|at| <u32 as Word>::guard(8 * place + at)))
     }
 }
 

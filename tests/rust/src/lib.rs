@@ -9,6 +9,7 @@
 //!   lent there.
 //! - `library`: the boundary to the library.
 //! - `states`: a state's bytes, and which number a call on any of them is due.
+//! - `records`: the same of a set's records.
 //! - `notation`: short names, with which the tests write rules and recordings.
 //! - `compare`, `hostile`: the two suites, for any implementation of the boundary.
 //! - `stand_in`: an implementation in Rust, right or wrong in a chosen way, with
@@ -22,5 +23,6 @@ pub mod library;
 pub mod notation;
 pub mod paper;
 pub mod random;
+pub mod records;
 pub mod stand_in;
 pub mod states;

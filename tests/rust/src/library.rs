@@ -6,6 +6,35 @@ pub const STATE_BYTES: usize = 544;
 
 pub type State = [u8; STATE_BYTES];
 
+/// A record of a set: a running rule, in eight words.
+#[derive(Clone, Copy, Debug, Default, PartialEq, Eq)]
+#[repr(C)]
+pub struct Running {
+    /// Its body in the sheet.
+    pub start: u32,
+    pub size: u32,
+    /// Its part of the cell table, in cells.
+    pub first: u32,
+    pub cells: u32,
+    pub delay: u32,
+    /// The opened history's length, and the next tick, the same in all records.
+    pub opened: u32,
+    pub next: u32,
+    pub live: u32,
+}
+
+impl Running {
+    pub fn of_words(words: [u32; 8]) -> Running {
+        let [start, size, first, cells, delay, opened, next, live] = words;
+        Running { start, size, first, cells, delay, opened, next, live }
+    }
+
+    pub fn words(self) -> [u32; 8] {
+        let Running { start, size, first, cells, delay, opened, next, live } = self;
+        [start, size, first, cells, delay, opened, next, live]
+    }
+}
+
 /// How `outcome` answers a verdict.
 pub const OPEN: u32 = 0;
 pub const TRUE: u32 = 1;
@@ -21,6 +50,33 @@ pub struct StepsAnswer<'a> {
     pub taken: &'a mut usize,
     pub pairs: &'a mut usize,
     pub live: &'a mut usize,
+}
+
+/// Where the calls on a set write their answers.
+pub struct SetFiguresAnswer<'a> {
+    pub rules: &'a mut usize,
+    pub history: &'a mut u64,
+    pub cells: &'a mut u64,
+    pub pairs: &'a mut u64,
+}
+
+pub struct SetStepAnswer<'a> {
+    pub pairs: &'a mut usize,
+    pub live: &'a mut usize,
+}
+
+pub struct SetStepsAnswer<'a> {
+    pub taken: &'a mut usize,
+    pub triples: &'a mut usize,
+    pub live: &'a mut usize,
+}
+
+/// What a step of a set is lent, with the sheet.
+pub struct SetLent<'a> {
+    pub records: &'a mut [Running],
+    pub history: &'a mut [u8],
+    pub cells: &'a mut [u32],
+    pub report: &'a mut [u32],
 }
 
 /// What a step is lent.
@@ -75,6 +131,25 @@ pub trait Library {
     /// stops before a step for which fewer than 2 * (delay + 1) report words are
     /// left.
     fn steps(&self, state: &mut State, flags: &[u8], lent: StepLent, answer: StepsAnswer) -> u32;
+
+    /// What all rules of a sheet need together.
+    fn set_figures(&self, sheet: &[u8], answer: SetFiguresAnswer) -> u32;
+
+    /// Opens all rules of a sheet.
+    fn set_open(
+        &self,
+        sheet: &[u8],
+        records: &mut [Running],
+        history: &mut [u8],
+        cells: &[u32],
+    ) -> u32;
+
+    /// A flag byte for all rules. The report gets pairs of rule and tick.
+    fn set_step(&self, sheet: &[u8], flag: u8, lent: SetLent, answer: SetStepAnswer) -> u32;
+
+    /// Many flag bytes. The report gets triples of rule, tick and deciding step. It stops
+    /// before a step for which fewer than 3 * (sum of all delay + 1) report words are left.
+    fn set_steps(&self, sheet: &[u8], flags: &[u8], lent: SetLent, answer: SetStepsAnswer) -> u32;
 }
 
 #[cfg(feature = "library")]
@@ -82,7 +157,10 @@ pub use linked::Linked;
 
 #[cfg(feature = "library")]
 mod linked {
-    use super::{Library, State, StepAnswer, StepLent, StepsAnswer};
+    use super::{
+        Library, Running, SetFiguresAnswer, SetLent, SetStepAnswer, SetStepsAnswer, State,
+        StepAnswer, StepLent, StepsAnswer,
+    };
     use station_watch::raw::*;
 
     /// The Rattle static library. Each call lends what its slices cover and no
@@ -223,6 +301,85 @@ mod linked {
                     lent.report.len(),
                     answer.taken,
                     answer.pairs,
+                    answer.live,
+                )
+            }
+        }
+
+        fn set_figures(&self, sheet: &[u8], answer: SetFiguresAnswer) -> u32 {
+            let SetFiguresAnswer { rules, history, cells, pairs } = answer;
+            // SAFETY: what slices cover, and what is written is borrowed alone.
+            unsafe { sw_set_figures(sheet.as_ptr(), sheet.len(), rules, history, cells, pairs) }
+        }
+
+        fn set_open(
+            &self,
+            sheet: &[u8],
+            records: &mut [Running],
+            history: &mut [u8],
+            cells: &[u32],
+        ) -> u32 {
+            // SAFETY: what slices cover, and what is written is borrowed alone; a record is
+            // eight words here and there (tests/header.rs).
+            unsafe {
+                sw_set_open(
+                    sheet.as_ptr(),
+                    sheet.len(),
+                    records.as_mut_ptr().cast(),
+                    records.len(),
+                    history.as_mut_ptr(),
+                    history.len(),
+                    cells.as_ptr(),
+                    cells.len(),
+                )
+            }
+        }
+
+        fn set_step(&self, sheet: &[u8], flag: u8, lent: SetLent, answer: SetStepAnswer) -> u32 {
+            // SAFETY: as of `set_open`.
+            unsafe {
+                sw_set_step(
+                    sheet.as_ptr(),
+                    sheet.len(),
+                    lent.records.as_mut_ptr().cast(),
+                    lent.records.len(),
+                    flag,
+                    lent.history.as_mut_ptr(),
+                    lent.history.len(),
+                    lent.cells.as_mut_ptr(),
+                    lent.cells.len(),
+                    lent.report.as_mut_ptr(),
+                    lent.report.len(),
+                    answer.pairs,
+                    answer.live,
+                )
+            }
+        }
+
+        fn set_steps(
+            &self,
+            sheet: &[u8],
+            flags: &[u8],
+            lent: SetLent,
+            answer: SetStepsAnswer,
+        ) -> u32 {
+            // SAFETY: as of `set_open`.
+            unsafe {
+                sw_set_steps(
+                    sheet.as_ptr(),
+                    sheet.len(),
+                    lent.records.as_mut_ptr().cast(),
+                    lent.records.len(),
+                    flags.as_ptr(),
+                    flags.len(),
+                    lent.history.as_mut_ptr(),
+                    lent.history.len(),
+                    lent.cells.as_mut_ptr(),
+                    lent.cells.len(),
+                    lent.report.as_mut_ptr(),
+                    lent.report.len(),
+                    answer.taken,
+                    answer.triples,
                     answer.live,
                 )
             }

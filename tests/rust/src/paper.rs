@@ -6,6 +6,7 @@ mod body;
 mod calls;
 mod figures;
 mod meaning;
+mod sets;
 mod sheet;
 pub mod text;
 
@@ -13,6 +14,10 @@ pub use body::{read_body, write_body, Bound, Formula};
 pub use calls::{answer_at, decided_by, open, step_refusal, Answer, Lengths, Opened, Watch};
 pub use figures::{exact_cells, figures, formula_figures, Figures};
 pub use meaning::{evaluate, outcome, rule_outcome, Outcome, Verdict};
+pub use sets::{
+    all_cells, open_set, set_rules, set_step_refusal, sheet_rules, OpenedSet, SetAnswer,
+    SetLengths, SetRule, SetWatch,
+};
 pub use sheet::{rule_body, rule_place, write_sheet};
 pub use text::{body_of_text, text_of_body};
 

@@ -3,6 +3,7 @@
 
 mod bodies;
 mod formulas;
+mod sets;
 mod sheets;
 mod streams;
 mod texts;
@@ -12,6 +13,9 @@ pub use bodies::{
     neighbours, places, twice_damaged, Neighbours, Place,
 };
 pub use formulas::{accepted_rule, depth, quantifiers, size, visits, wild_formula, Rule};
+pub use sets::{
+    any_set_sheet, refused_with, rule_ahead, rule_of_cells, rule_set, rules_within, sheet_of_rules,
+};
 pub use sheets::{damaged_sheet, sheet_bodies, sheet_of, sheet_with, writer_input, WriterInput};
 pub use streams::stream;
 pub use texts::{any_text, damage, deep_text, loose_text, typed};

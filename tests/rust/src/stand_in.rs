@@ -6,15 +6,20 @@
 //! It stands on `paper`, so it says nothing about the paper's meaning. What it
 //! tests is the suites: that they ask what they should, and see what differs.
 
+mod sets;
 mod texts;
 
-use crate::library::{Library, State, StepAnswer, StepLent, StepsAnswer, FALSE, OPEN, TRUE};
+use crate::library::{
+    Library, Running, SetFiguresAnswer, SetLent, SetStepAnswer, SetStepsAnswer, State, StepAnswer,
+    StepLent, StepsAnswer, FALSE, OPEN, TRUE,
+};
 use crate::paper::{
     self, Bound, Figures, Formula, Lengths, Opened, Outcome, Refusal, Verdict, MAX_BODY,
     MAX_HISTORY, MAX_OFFSET, MAX_TICKS,
 };
 use crate::random::{places, Place};
 use crate::states::{self, number_at, put_number, LIVE_AT, NEXT_AT, OPENED_AT, SIZE_AT};
+pub use sets::SetFlaw;
 
 #[derive(Clone, Copy, Debug, PartialEq, Eq)]
 pub enum Flaw {
@@ -109,6 +114,8 @@ pub enum Flaw {
     ChangesStateBody,
     BatchAnswers19,
     TakesEmptyBatch,
+    // The calls on a set.
+    Set(SetFlaw),
 }
 
 /// The calls that read a body.
@@ -286,24 +293,37 @@ impl StandIn {
     /// One step that nothing refuses: the report and the live count.
     fn take(&self, held: &Held, flag: u8, lent: &mut StepLent) -> (Vec<u32>, usize) {
         let t = held.tick as usize;
-        let figures = held.opened.figures;
         if self.has(Flaw::StoresFirst) {
             self.store(t, flag, lent.history);
         }
-        let (begin, recording) = self.recording(held, flag, lent.history, lent.cells);
-        let (report, live) = self.judge(held, begin, &recording);
-        if figures.delay > 0 && t as u64 >= figures.history {
-            // The history forgets this one first; it may be needed still.
-            let leaving = t - figures.history as usize;
-            lent.cells[leaving % figures.delay as usize] = recording[leaving - begin] as u32;
-        }
+        let answer = self.take_tick(held, flag, lent.history, lent.cells);
         self.store(t, flag, lent.history);
         if self.has(Flaw::WritesAfterTable) {
             if let Some(word) = lent.cells.get_mut(held.opened.needed_words()) {
                 *word = 0;
             }
         }
-        (report, live)
+        answer
+    }
+
+    /// The same over a history that is only read.
+    fn take_tick(
+        &self,
+        held: &Held,
+        flag: u8,
+        history: &[u8],
+        cells: &mut [u32],
+    ) -> (Vec<u32>, usize) {
+        let t = held.tick as usize;
+        let figures = held.opened.figures;
+        let (begin, recording) = self.recording(held, flag, history, cells);
+        let answer = self.judge(held, begin, &recording);
+        if figures.delay > 0 && t as u64 >= figures.history {
+            // The history forgets this one first; it may be needed still.
+            let leaving = t - figures.history as usize;
+            cells[leaving % figures.delay as usize] = recording[leaving - begin] as u32;
+        }
+        answer
     }
 
     fn store(&self, t: usize, flag: u8, history: &mut [u8]) {
@@ -568,6 +588,28 @@ impl Library for StandIn {
         *answer.pairs = words / 2;
         *answer.live = if self.has(Flaw::BatchForgetsLive) { 0 } else { held.live as usize };
         0
+    }
+
+    fn set_figures(&self, sheet: &[u8], answer: SetFiguresAnswer) -> u32 {
+        self.figures_of_set(sheet, answer)
+    }
+
+    fn set_open(
+        &self,
+        sheet: &[u8],
+        records: &mut [Running],
+        history: &mut [u8],
+        cells: &[u32],
+    ) -> u32 {
+        self.open_set(sheet, records, history, cells)
+    }
+
+    fn set_step(&self, sheet: &[u8], flag: u8, lent: SetLent, answer: SetStepAnswer) -> u32 {
+        self.step_set(sheet, flag, lent, answer)
+    }
+
+    fn set_steps(&self, sheet: &[u8], flags: &[u8], lent: SetLent, answer: SetStepsAnswer) -> u32 {
+        self.step_set_often(sheet, flags, lent, answer)
     }
 }
 

@@ -2,13 +2,13 @@
 //! inside, interesting rules, streams with long runs.
 
 use rust_tests::paper::{
-    body_of_text, evaluate, figures, read_body, rule_place, write_body, write_sheet, Bound,
-    Formula, BODY_REFUSALS, LAST_REFUSAL, MAX_HISTORY, MAX_OFFSET, RULE_REFUSALS,
+    body_of_text, evaluate, figures, read_body, rule_place, set_rules, write_body, write_sheet,
+    Bound, Formula, BODY_REFUSALS, LAST_REFUSAL, MAX_HISTORY, MAX_OFFSET, RULE_REFUSALS,
 };
 use rust_tests::random::{
-    accepted_rule, aimed, any_body, any_text, begun, crowded, damaged_sheet, depth, faulty_bounds,
-    figure_boundary, loose_text, size, stream, twice_damaged, typed, wild_formula, writer_input,
-    Random,
+    accepted_rule, aimed, any_body, any_set_sheet, any_text, begun, crowded, damaged_sheet, depth,
+    faulty_bounds, figure_boundary, loose_text, rule_of_cells, rule_set, sheet_of_rules, size,
+    stream, twice_damaged, typed, wild_formula, writer_input, Random, Rule,
 };
 
 /// How often each number was answered, 0 for none.
@@ -234,6 +234,46 @@ fn sheets_and_writers_hit_every_number() {
     }
     assert!(all_above(&readers, &[0, 1, 2, 3], 20), "{readers:?}");
     assert!(all_above(&writers, &[0, 1, 2, 22], 100), "{writers:?}");
+}
+
+/// Sets of one rule and of 32, which open together; rules of different histories, delays and
+/// cells, and the same rule twice.
+#[test]
+fn rule_sets_are_interesting() {
+    let mut random = Random::new(213);
+    let (mut sizes, mut different, mut same, mut full) = ([0; 33], 0, 0, 0);
+    for _ in 0..3_000 {
+        let rules = rule_set(&mut random);
+        let opened = set_rules(&sheet_of_rules(&rules)).expect("the rules open together");
+        assert_eq!(opened.len(), rules.len());
+        sizes[rules.len()] += 1;
+        let history = |rule: &Rule| rule.figures.history;
+        different += rules.iter().any(|rule| history(rule) > history(&rules[0])) as u64;
+        let again = |at: usize| rules[..at].iter().any(|rule| rule.body == rules[at].body);
+        same += (0..rules.len()).any(again) as u64;
+        full += (rules.iter().map(|rule| rule.figures.cells).sum::<u64>() > 1_000) as u64;
+    }
+    assert!(sizes[1..].iter().all(|&count| count > 10), "{sizes:?}");
+    assert!(different > 1_000 && same > 500 && full > 300, "{different}, {same}, {full}");
+}
+
+#[test]
+fn rules_of_every_number_of_cells() {
+    for cells in 1..=4096 {
+        assert_eq!(rule_of_cells(cells).figures.cells, cells);
+    }
+}
+
+/// Sheets for sets hit every number of an opening before 17.
+#[test]
+fn set_sheets_hit_every_number() {
+    let mut random = Random::new(214);
+    let mut numbers = Counts::default();
+    for _ in 0..4_000 {
+        numbers[set_rules(&any_set_sheet(&mut random)).err().unwrap_or(0) as usize] += 1;
+    }
+    assert!(all_above(&numbers, RULE_REFUSALS, 30), "{numbers:?}");
+    assert!(all_above(&numbers, &[0, 1, 2, 27], 60), "{numbers:?}");
 }
 
 /// A typed rule is read as the formula that it was typed from, whatever names hide others.

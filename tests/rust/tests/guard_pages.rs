@@ -76,6 +76,31 @@ fn empty_and_huge() {
     on_both_sides(hostile::huge_lengths);
 }
 
+#[test]
+fn sets() {
+    on_both_sides(|library| compare::set_openings(library, 3_020, 1_000));
+    on_both_sides(compare::set_sums);
+    on_both_sides(|library| compare::set_orders(library, 3_021));
+    on_both_sides(|library| compare::set_runs(library, 3_022, 100, 4_000));
+    on_both_sides(|library| hostile::every_set_length(library, 3_023, 2));
+}
+
+#[test]
+fn records() {
+    on_both_sides(|library| hostile::random_records(library, 3_024, 1_000));
+    on_both_sides(|library| hostile::disturbed_records(library, 3_025, 4));
+    on_both_sides(|library| hostile::exchanged_records(library, 3_026, 4));
+    on_both_sides(|library| hostile::other_sheets(library, 3_027, 4));
+    on_both_sides(|library| hostile::forged_records(library, 3_028, 1_000));
+    on_both_sides(hostile::summed_records);
+    on_both_sides(|library| hostile::overwritten_sets(library, 3_029, 40));
+    on_both_sides(|library| hostile::set_step_orders(library, 3_030, 10));
+    on_both_sides(hostile::forged_set_ticks);
+    on_both_sides(hostile::forged_set_lengths);
+    on_both_sides(hostile::empty_set_slices);
+    on_both_sides(hostile::huge_set_lengths);
+}
+
 /// The call that `Library` has not. What it writes is compared in tests/sentences.rs.
 #[test]
 fn sentences() {

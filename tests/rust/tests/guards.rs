@@ -23,13 +23,22 @@ fn every_call(guard: Guard, told: Told) {
     assert!(numbers.total() > 20_000, "{numbers:?}");
 }
 
+/// The same of the calls on a set.
+fn every_call_on_sets(guard: Guard, told: Told) {
+    let library = Guarded::telling(&RIGHT, guard, told);
+    let numbers = hostile::every_set_length(&Guarded::new(&library, guard), 402, 1).unwrap();
+    assert!(numbers.total() > 3_000, "{numbers:?}");
+}
+
 /// All buffers and answers of all calls: those that every call is lent at guard pages, and
 /// with which it comes to its end where it touches nothing outside.
 fn all_lent(guard: Guard) -> BTreeSet<String> {
     let lent = RefCell::new(BTreeSet::new());
-    every_call(guard, &|name, _| {
+    let keep = |name: &str, _: Range<*const u8>| {
         lent.borrow_mut().insert(name.to_string());
-    });
+    };
+    every_call(guard, &keep);
+    every_call_on_sets(guard, &keep);
     lent.into_inner()
 }
 
@@ -47,7 +56,7 @@ fn read_outside(guard: Guard, bytes: Range<*const u8>) {
 fn a_byte_outside_ends_the_process() {
     for guard in [Guard::Before, Guard::After] {
         let names = all_lent(guard);
-        assert_eq!(names.len(), 39, "{names:?}");
+        assert_eq!(names.len(), 64, "{names:?}");
         for name in names {
             let ended = ended_by(&format!("{guard:?} {name}"));
             assert_eq!(ended, Some(SIGSEGV), "a byte of {name:?}, guard {guard:?}");
@@ -72,11 +81,16 @@ fn the_process_that_reads_it() {
     };
     let (side, name) = byte.split_once(' ').expect("a side and a buffer");
     let guard = if side == "Before" { Guard::Before } else { Guard::After };
-    every_call(guard, &|lent, bytes| {
+    let read = |lent: &str, bytes: Range<*const u8>| {
         if lent == name && !bytes.is_empty() {
             read_outside(guard, bytes);
         }
-    });
+    };
+    if name.starts_with("set ") {
+        every_call_on_sets(guard, &read);
+    } else {
+        every_call(guard, &read);
+    }
 }
 
 /// A process that is told of no buffer there is ends well, so that it is the byte that ends

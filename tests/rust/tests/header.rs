@@ -1,9 +1,11 @@
 //! The header for C and the wrapper for Rust (feature `library`) have the same names, and
 //! give each the same number.
 
+use rust_tests::library::Running;
 use rust_tests::paper::LAST_REFUSAL;
 use station_watch::{raw, Refusal};
 use std::collections::BTreeMap;
+use std::mem::{align_of, offset_of, size_of};
 
 const HEADER: &str = include_str!("../../../include/station_watch.h");
 
@@ -67,4 +69,39 @@ fn the_same_names_and_numbers() {
         assert!(defined.remove(name).is_some(), "the header has no {name}");
     }
     assert_eq!(defined, wrapped());
+}
+
+/// The words of the header's record, in their order.
+fn words_of_a_record() -> Vec<&'static str> {
+    let (words, _) = HEADER.split_once("} sw_running;").expect("the header has the record");
+    let (_, words) = words.rsplit_once("typedef struct {\n").expect("a struct begins with this");
+    let word = |line: &'static str| {
+        let declared = line.trim_start().strip_prefix("uint32_t ")?;
+        Some(declared.split_once(';')?.0)
+    };
+    words.lines().map(|line| word(line).expect("each line declares a word")).collect()
+}
+
+/// The name of each word of a record and where it lies, in the wrapper's and in the tests' own.
+macro_rules! offsets {
+    ($($word:ident)*) => {
+        [$((
+            stringify!($word),
+            offset_of!(station_watch::Running, $word),
+            offset_of!(Running, $word),
+        )),*]
+    };
+}
+
+/// A record is eight words, end to end as in C.
+#[test]
+fn the_same_record() {
+    let offsets = offsets!(start size first cells delay opened next live);
+    let names: Vec<&str> = offsets.iter().map(|offset| offset.0).collect();
+    assert_eq!(names, words_of_a_record());
+    for (place, (name, wrapped, own)) in offsets.into_iter().enumerate() {
+        assert_eq!((wrapped, own), (4 * place, 4 * place), "{name}");
+    }
+    assert_eq!((size_of::<station_watch::Running>(), size_of::<Running>()), (32, 32));
+    assert_eq!((align_of::<station_watch::Running>(), align_of::<Running>()), (4, 4));
 }

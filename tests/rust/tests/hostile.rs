@@ -16,6 +16,19 @@ const OVERWRITTEN: usize = 5_000;
 const TEXTS: usize = 20_000;
 /// Rounds of about 25,000 calls.
 const LENGTHS: usize = 4;
+/// Sheets and records of random content, four calls each.
+const RANDOM_RECORDS: usize = 8_000;
+/// Sets of which every number of every record is changed in eight ways.
+const DISTURBED_SETS: usize = 20;
+/// Sets of which every two records are exchanged in four ways.
+const EXCHANGED_SETS: usize = 15;
+/// Sets to which some hundred other sheets are lent.
+const OTHER_SHEETS: usize = 20;
+/// Records that are in line but were never opened, three calls each.
+const FORGED_RECORDS: usize = 8_000;
+/// Sets whose memory is overwritten, twelve calls each; and forty, where one rule is spared.
+const OVERWRITTEN_SETS: usize = 300;
+const SPARED_RULES: usize = 200;
 
 #[test]
 fn random_states() {
@@ -82,4 +95,68 @@ fn empty_slices() {
 #[test]
 fn huge_lengths() {
     assert_eq!(hostile::huge_lengths(&Linked), Ok(()));
+}
+
+#[test]
+fn random_records() {
+    let numbers = hostile::random_records(&Linked, 2_007, RANDOM_RECORDS).unwrap();
+    assert_eq!(numbers.total(), 4 * RANDOM_RECORDS as u64, "{numbers:?}");
+    assert!(numbers.of(21) > 3 * RANDOM_RECORDS as u64, "{numbers:?}");
+    assert!(numbers.each_at_least(&[0, 17, 18], RANDOM_RECORDS as u64 / 100), "{numbers:?}");
+}
+
+#[test]
+fn disturbed_records() {
+    let numbers = hostile::disturbed_records(&Linked, 2_008, DISTURBED_SETS).unwrap();
+    assert!(numbers.total() > 400 * DISTURBED_SETS as u64, "{numbers:?}");
+    assert!(numbers.each_at_least(&[0, 21], 100 * DISTURBED_SETS as u64), "{numbers:?}");
+}
+
+#[test]
+fn exchanged_records() {
+    let numbers = hostile::exchanged_records(&Linked, 2_009, EXCHANGED_SETS).unwrap();
+    assert!(numbers.each_at_least(&[0, 21], 100 * EXCHANGED_SETS as u64), "{numbers:?}");
+}
+
+#[test]
+fn other_sheets() {
+    let numbers = hostile::other_sheets(&Linked, 2_010, OTHER_SHEETS).unwrap();
+    assert!(numbers.each_at_least(&[0, 21], 50 * OTHER_SHEETS as u64), "{numbers:?}");
+    assert!(numbers.of(18) > 0, "{numbers:?}");
+}
+
+#[test]
+fn forged_records() {
+    let numbers = hostile::forged_records(&Linked, 2_011, FORGED_RECORDS).unwrap();
+    assert_eq!(numbers.total(), 3 * FORGED_RECORDS as u64, "{numbers:?}");
+    assert!(numbers.each_at_least(&[17, 18, 19, 20], FORGED_RECORDS as u64 / 10), "{numbers:?}");
+    assert!(numbers.each_at_least(&[0, 21], FORGED_RECORDS as u64 / 2), "{numbers:?}");
+    let numbers = hostile::summed_records(&Linked).unwrap();
+    assert_eq!((numbers.of(0), numbers.of(21)), (2, 5), "{numbers:?}");
+}
+
+#[test]
+fn overwritten_sets() {
+    let steps = hostile::overwritten_sets(&Linked, 2_012, OVERWRITTEN_SETS).unwrap();
+    assert_eq!(steps, 12 * OVERWRITTEN_SETS as u64);
+    let reported = hostile::disturbed_neighbours(&Linked, 2_013, SPARED_RULES).unwrap();
+    assert!(reported > 10 * SPARED_RULES as u64, "{reported} ticks reported");
+}
+
+#[test]
+fn every_set_length() {
+    let numbers = hostile::every_set_length(&Linked, 2_014, LENGTHS).unwrap();
+    assert!(numbers.total() > 3_000 * LENGTHS as u64, "{numbers:?}");
+    let often = [0, 1, 2, 17, 18, 19, 21];
+    assert!(numbers.each_at_least(&often, 20 * LENGTHS as u64), "{numbers:?}");
+    let numbers = hostile::set_step_orders(&Linked, 2_015, 100).unwrap();
+    assert!(numbers.each_at_least(&[0, 17, 18, 19, 20, 21], 100), "{numbers:?}");
+}
+
+#[test]
+fn forged_sets() {
+    assert_eq!(hostile::forged_set_ticks(&Linked), Ok(hostile::DUE_SET_TICKS.to_vec()));
+    assert_eq!(hostile::forged_set_lengths(&Linked), Ok(16));
+    assert_eq!(hostile::empty_set_slices(&Linked), Ok(()));
+    assert_eq!(hostile::huge_set_lengths(&Linked), Ok(()));
 }

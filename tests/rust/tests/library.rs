@@ -1,7 +1,7 @@
 //! The Rattle library against the paper (feature `library`). The sizes are
 //! chosen so that all of this takes well under three minutes.
 
-use rust_tests::compare::{self, Tally};
+use rust_tests::compare::{self, SetTally, Tally};
 use rust_tests::library::{Library, Linked};
 use rust_tests::notation::*;
 use rust_tests::paper::{write_body, BODY_REFUSALS, RULE_REFUSALS};
@@ -34,6 +34,11 @@ const DEEP_TEXTS: usize = 2_000;
 const TEXT_ROOMS: usize = 1_000;
 /// Bodies printed, and read again.
 const PRINTED: usize = 30_000;
+/// Sets of 1 to 32 rules, about eight on average, and their steps, in each of two tests.
+const SETS: u64 = 2_000;
+const SET_STEPS: u64 = 80_000;
+/// Sheets whose figures are asked and whose rules are opened together.
+const SET_OPENINGS: usize = 8_000;
 
 fn check_runs(seed: u64) {
     let tally = compare::runs(&Linked, seed, RULES, STEPS).unwrap();
@@ -196,4 +201,49 @@ fn printed_bodies() {
 fn text_cases() {
     let numbers = compare::text_cases(&Linked).unwrap();
     assert!(numbers.each_at_least(&[0, 7, 8, 9, 24, 25, 26], 2), "{numbers:?}");
+}
+
+fn check_set_runs(seed: u64) {
+    let tally = compare::set_runs(&Linked, seed, SETS, SET_STEPS).unwrap();
+    assert!(tally.sets >= SETS && tally.steps >= SET_STEPS, "{tally:?}");
+    check_set_tally(&tally);
+}
+
+/// The runs were worth it.
+fn check_set_tally(tally: &SetTally) {
+    let steps = tally.steps;
+    assert!(tally.rules > 6 * tally.sets && tally.rule_steps > 6 * steps, "{tally:?}");
+    assert!(tally.pairs > 2 * steps && tally.late > steps, "{tally:?}");
+    assert!(tally.several > steps / 2 && tally.unordered > steps / 4, "{tally:?}");
+    assert!(tally.live_before_last > steps / 2, "{tally:?}");
+    assert!(tally.batches > steps / 20 && tally.full_batches > steps / 40, "{tally:?}");
+    assert!(tally.foreign > steps / 4, "{tally:?}");
+    assert!(tally.refused.each_at_least(&[17, 18, 19], steps / 100), "{tally:?}");
+}
+
+#[test]
+fn set_runs_first_half() {
+    check_set_runs(1_017);
+}
+
+#[test]
+fn set_runs_second_half() {
+    check_set_runs(1_018);
+}
+
+#[test]
+fn set_openings() {
+    let numbers = compare::set_openings(&Linked, 1_019, SET_OPENINGS).unwrap();
+    let often = SET_OPENINGS as u64 / 80;
+    assert!(numbers.each_at_least(RULE_REFUSALS, often), "{numbers:?}");
+    assert!(numbers.each_at_least(&[0, 1, 2, 17, 18, 27], 2 * often), "{numbers:?}");
+}
+
+#[test]
+fn set_limits() {
+    let numbers = compare::set_sums(&Linked).unwrap();
+    assert!(numbers.each_at_least(&[0, 27], 500), "{numbers:?}");
+    let numbers = compare::set_orders(&Linked, 1_020).unwrap();
+    assert!(numbers.each_at_least(RULE_REFUSALS, 40), "{numbers:?}");
+    assert!(numbers.each_at_least(&[0, 1, 2, 17, 18], 9), "{numbers:?}");
 }

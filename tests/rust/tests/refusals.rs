@@ -1,12 +1,14 @@
 //! Refusals and their order: "a number comes when its line holds and nothing
 //! earlier in the order does, and never otherwise".
 
+use rust_tests::library::Running;
 use rust_tests::notation::*;
 use rust_tests::paper::{
-    evaluate, figures, open, read_body, rule_body, rule_place, step_refusal, write_body,
-    write_sheet, Formula, Lengths, Refusal,
+    evaluate, figures, open, open_set, read_body, rule_body, rule_place, set_step_refusal,
+    step_refusal, write_body, write_sheet, Formula, Lengths, OpenedSet, Refusal, SetLengths,
 };
-use rust_tests::random::sheet_of;
+use rust_tests::random::{rule_of_cells, sheet_of, sheet_of_rules};
+use rust_tests::records;
 use rust_tests::states;
 
 #[track_caller]
@@ -433,6 +435,148 @@ fn steps_on_state_bytes() {
     }
     assert_eq!(number(states::OPENED_AT, 4096, Lengths { history: 4096, ..right }), (0, 0));
     assert_eq!(number(states::LIVE_AT, u64::MAX, right), (0, 0));
+}
+
+/// Flag 0 at X, and the example: history 0 and 1, delay 0 and 2, cells 1 and 21. Twice the sum
+/// of all delay + 1 is 8.
+fn two_rules() -> Vec<u8> {
+    let example = bytes("02 04 01 00 00 05 02 00 FF FF 02 00 02 00 01 01 00");
+    sheet_of(&[vec![1, 0, 0], example])
+}
+
+const RIGHT: SetLengths = SetLengths { records: 2, history: 1, table: 88, report: 8 };
+
+#[test]
+fn set_openings() {
+    let number = |lengths| open_set(&two_rules(), lengths).err();
+    assert_eq!(number(RIGHT), None);
+    assert_eq!(number(SetLengths { records: 9, history: 4096, table: 90, report: 0 }), None);
+    // "17 reads the largest history figure".
+    assert_eq!(number(SetLengths { history: 0, ..RIGHT }), Some(17));
+    assert_eq!(number(SetLengths { history: 4097, ..RIGHT }), Some(17));
+    // "18 the sum of the cells (or fewer records than rules)".
+    assert_eq!(number(SetLengths { table: 87, ..RIGHT }), Some(18));
+    assert_eq!(number(SetLengths { records: 1, ..RIGHT }), Some(18));
+    assert_eq!(number(SetLengths { records: 0, history: 0, table: 0, report: 0 }), Some(17));
+    let sum = |cells: &[u64]| {
+        let rules: Vec<_> = cells.iter().map(|&cells| rule_of_cells(cells)).collect();
+        let lengths = SetLengths { records: 9, history: 4096, table: 99_999, report: 0 };
+        open_set(&sheet_of_rules(&rules), lengths).err()
+    };
+    assert_eq!(sum(&[4096]), None);
+    assert_eq!(sum(&[4000, 95, 1]), None);
+    assert_eq!(sum(&[4000, 96, 1]), Some(27));
+    assert_eq!(sum(&[1, 4096]), Some(27));
+}
+
+/// 1 and 2; the rules' own in rule order; 27, though a rule before it passed the sum; 17.
+#[test]
+fn set_openings_in_order() {
+    let none = SetLengths { records: 0, history: 9999, table: 0, report: 0 };
+    let number = |sheet: &[u8]| open_set(sheet, none).err();
+    let large = rule_of_cells(4096).body;
+    let (unknown, early) = (vec![6], vec![2]);
+    let all_wrong = sheet_of(&[large.clone(), large.clone(), unknown.clone(), early.clone()]);
+    assert_eq!(number(&all_wrong), Some(5));
+    assert_eq!(number(&sheet_of(&[early, large.clone(), unknown])), Some(4));
+    assert_eq!(number(&[&all_wrong[..], &[0]].concat()), Some(2));
+    assert_eq!(number(&[0]), Some(1));
+    assert_eq!(number(&[]), Some(1));
+    assert_eq!(number(&sheet_of(&[large.clone(), large])), Some(27));
+    assert_eq!(number(&two_rules()), Some(17));
+}
+
+#[test]
+fn set_steps() {
+    let opened = open_set(&two_rules(), SetLengths { history: 5, ..RIGHT }).unwrap();
+    let right = SetLengths { history: 5, ..RIGHT };
+    let number = |lengths, tick| set_step_refusal(&opened, lengths, tick);
+    assert_eq!(number(right, 0), None);
+    assert_eq!(number(right, 4_294_967_294), None);
+    assert_eq!(number(SetLengths { history: 6, ..right }, 0), Some(17));
+    assert_eq!(number(SetLengths { table: 87, ..right }, 0), Some(18));
+    assert_eq!(number(SetLengths { records: 1, ..right }, 0), Some(18));
+    assert_eq!(number(SetLengths { report: 7, ..right }, 0), Some(19));
+    assert_eq!(number(right, 4_294_967_295), Some(20));
+    // In this order; where no record is lent, no opened length is known.
+    let last = 4_294_967_295;
+    let none = SetLengths { records: 1, history: 0, table: 0, report: 0 };
+    assert_eq!(number(none, last), Some(17));
+    assert_eq!(number(SetLengths { records: 0, ..none }, last), Some(18));
+    assert_eq!(number(SetLengths { history: 5, ..none }, last), Some(18));
+    assert_eq!(number(SetLengths { report: 0, ..right }, last), Some(19));
+}
+
+fn opened_set() -> OpenedSet {
+    open_set(&two_rules(), RIGHT).unwrap()
+}
+
+/// What an opening writes: the example's sheet has its bodies at 9 and 12.
+#[test]
+fn fresh_records() {
+    let due = [[9, 3, 0, 1, 0, 1, 0, 0], [12, 17, 1, 21, 2, 1, 0, 0]].map(Running::of_words);
+    assert_eq!(records::fresh(&opened_set()), due);
+}
+
+/// The same on records, where 21 comes before all others.
+#[test]
+fn steps_on_records() {
+    let number = |change: fn(&mut [Running]), lengths: SetLengths| {
+        let mut running = records::fresh(&opened_set());
+        change(&mut running);
+        let lent = &running[..lengths.records];
+        let step = records::admit_step(&two_rules(), lent, lengths).err().unwrap_or(0);
+        (step, records::admit_batch(&two_rules(), lent, lengths).err().unwrap_or(0))
+    };
+    assert_eq!(number(|_| (), RIGHT), (0, 0));
+    assert_eq!(number(|_| (), SetLengths { report: 7, ..RIGHT }), (19, 0));
+    assert_eq!(number(|_| (), SetLengths { records: 1, report: 7, ..RIGHT }), (18, 18));
+    assert_eq!(number(|_| (), SetLengths { history: 2, table: 0, ..RIGHT }), (17, 17));
+    assert_eq!(number(|_| (), SetLengths { records: 0, history: 2, ..RIGHT }), (18, 18));
+    assert_eq!(number(|all| all.iter_mut().for_each(|one| one.next = u32::MAX), RIGHT), (20, 20));
+    assert_eq!(number(|all| all[0].live = 99, RIGHT), (0, 0));
+    // A record that is not lent is not looked at.
+    assert_eq!(number(|all| all[1].cells = 9, SetLengths { records: 1, ..RIGHT }), (18, 18));
+    let wrong = SetLengths { records: 2, history: 4, table: 0, report: 0 };
+    let changes: [fn(&mut [Running]); 12] = [
+        |all| all[0].start = u32::MAX,
+        |all| all[1].start = u32::MAX - 16,
+        |all| all[1].size = 18,
+        |all| all[0].size = 2,
+        |all| all[1].first = 0,
+        |all| all[1].cells = 22,
+        |all| all[1].delay = 1,
+        |all| all[1].opened = 2,
+        |all| all[1].next = 1,
+        |all| all.iter_mut().for_each(|one| one.opened = 4097),
+        |all| all.iter_mut().for_each(|one| one.opened = 0),
+        |all| all.swap(0, 1),
+    ];
+    for lengths in [RIGHT, wrong] {
+        for change in changes {
+            assert_eq!(number(change, lengths), (21, 21));
+        }
+    }
+}
+
+/// 21 for a sheet with no rules or more than 32; else only its bodies count.
+#[test]
+fn steps_on_sheets() {
+    let running = records::fresh(&opened_set());
+    let number = |change: fn(&mut Vec<u8>)| {
+        let mut sheet = two_rules();
+        change(&mut sheet);
+        records::admit_step(&sheet, &running, RIGHT).err().unwrap_or(0)
+    };
+    assert_eq!(number(|sheet| sheet.push(7)), 0);
+    assert_eq!(number(|sheet| sheet[1..9].fill(0)), 0);
+    assert_eq!(number(|sheet| sheet[0] = 1), 0);
+    assert_eq!(number(|sheet| sheet[0] = 3), 18);
+    assert_eq!(number(|sheet| sheet[0] = 32), 18);
+    assert_eq!(number(|sheet| sheet[0] = 33), 21);
+    assert_eq!(number(|sheet| sheet[0] = 0), 21);
+    assert_eq!(number(|sheet| sheet.clear()), 21);
+    assert_eq!(number(|sheet| sheet.truncate(28)), 21);
 }
 
 #[test]

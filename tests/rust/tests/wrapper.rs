@@ -4,13 +4,16 @@
 use rust_tests::paper;
 use rust_tests::random::{self, Random};
 use station_watch::{bodies, body_from_text, figures, outcome, rule_body, sheet_of};
-use station_watch::{text_from_body, Figures, Outcome, Pair, Refusal, Verdict, Watch};
+use station_watch::{set_figures, text_from_body, Figures, Outcome, Pair, Refusal, SetFigures};
+use station_watch::{Triple, Verdict, Watch, WatchSet};
 
 const RULES: usize = 1_000;
 const STEPS: usize = 80;
 const BODIES: usize = 20_000;
 const SHEETS: usize = 4_000;
 const TEXTS: usize = 20_000;
+const SETS: usize = 200;
+const SET_SHEETS: usize = 4_000;
 
 fn numbered<T>(answer: Result<T, Refusal>) -> Result<T, u32> {
     answer.map_err(Refusal::number)
@@ -133,4 +136,80 @@ fn texts() {
         let printed = numbered(text_from_body(&body)).map(String::into_bytes);
         assert_eq!(printed, paper::text_of_body(&body, usize::MAX), "{body:?}");
     }
+}
+
+/// A set's stream, taken in single steps and in batches of random length; and now and then a
+/// set that is made of its parts.
+#[test]
+fn watch_sets() {
+    let mut random = Random::new(3_005);
+    let mut late = 0;
+    for _ in 0..SETS {
+        let sheet = random::sheet_of_rules(&random::rule_set(&mut random));
+        let rules = paper::set_rules(&sheet).unwrap();
+        let mut due = paper::SetWatch::new(&rules);
+        let mut set = WatchSet::open(&sheet).unwrap();
+        let figures: Vec<_> = rules.iter().map(|rule| wrapped_figures(rule.figures)).collect();
+        assert_eq!(set.rule_figures(), figures);
+        let stream = random::stream(&mut random, STEPS);
+        let mut rest = &stream[..];
+        while !rest.is_empty() {
+            let (now, later) = rest.split_at(random.size(1, 9).min(rest.len()));
+            let seen = take_set(&mut set, now, random.one_in(2));
+            assert_eq!(seen, due_triples(&mut due, now), "{sheet:?}");
+            assert_eq!((set.live(), set.next_tick()), (due.live() as u64, due.tick() as u64));
+            assert_eq!(set.live_counts().sum::<u64>(), set.live());
+            late += seen.iter().filter(|triple| triple.step > triple.tick).count();
+            if random.one_in(8) {
+                let (sheet, records, history, cells) = set.parts();
+                let (records, cells) = (records.to_vec(), cells.to_vec());
+                set =
+                    WatchSet::from_parts(sheet.to_vec(), records, history.to_vec(), cells).unwrap();
+            }
+            rest = later;
+        }
+    }
+    assert!(late > 20 * SETS, "{late} violations decided late");
+}
+
+fn take_set(set: &mut WatchSet, flags: &[u8], at_once: bool) -> Vec<Triple> {
+    let mut triples = Vec::new();
+    if at_once {
+        set.steps(flags, |triple| triples.push(triple)).unwrap();
+        return triples;
+    }
+    for &flag in flags {
+        triples.extend(set.step(flag).unwrap().triples());
+    }
+    triples
+}
+
+fn due_triples(due: &mut paper::SetWatch, flags: &[u8]) -> Vec<Triple> {
+    let mut triples = Vec::new();
+    for &flag in flags {
+        let step = due.tick() as u32;
+        let pairs = due.step(flag).pairs().into_iter();
+        triples.extend(pairs.map(|[rule, tick]| Triple { rule, tick, step }));
+    }
+    triples
+}
+
+/// Sheets whose rules open together or do not.
+#[test]
+fn set_sheets() {
+    let mut random = Random::new(3_006);
+    let mut opened = 0;
+    for _ in 0..SET_SHEETS {
+        let sheet = random::any_set_sheet(&mut random);
+        let due = paper::set_rules(&sheet).map(|rules| {
+            let set = paper::OpenedSet { rules, history_length: 0 };
+            let (history, pairs) = (set.history(), set.most_pairs());
+            SetFigures { rules: set.rules.len(), history, cells: set.needed_words() / 4, pairs }
+        });
+        assert_eq!(numbered(set_figures(&sheet)), due, "{sheet:?}");
+        let answer = WatchSet::open(&sheet).map(|set| set.figures());
+        assert_eq!(numbered(answer), due, "{sheet:?}");
+        opened += due.is_ok() as u64;
+    }
+    assert!(opened > SET_SHEETS as u64 / 4, "{opened} opened");
 }

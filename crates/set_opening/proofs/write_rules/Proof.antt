@@ -7,8 +7,8 @@ use lib.ListN.{length, length-map}
 use Rattle.refusal.specs.Answer.{accepted}
 use Rattle.refusal.proofs.Answers.{same-value}
 use Rattle.rule.specs.declared.Figures.{Figures}
+use Rattle.demand.specs.SetContract.{set-figures}
 use Rattle.running.specs.Records.{rule-in, rules-in}
-use Rattle.set_admission.specs.Together.{set-figures}
 use Rattle.set_admission.proofs.Judged.{together}
 use Rattle.set_opening.proofs.Writes.{Written, written-none, written-next, written-all, first-low}
 use borrow.Author.Needs.{needs}

@@ -415,7 +415,7 @@ impl<'a> Run<'a> {
 }
 
 /// As many words as needed, or a few more.
-fn words_for(random: &mut Random, needed: usize) -> Vec<u32> {
+pub(super) fn words_for(random: &mut Random, needed: usize) -> Vec<u32> {
     let tail = random.pick(&[0, 0, 1, 3, 9]);
     random.words(needed + tail)
 }

@@ -11,7 +11,7 @@ use crate::random::{self, Random, Rule, WriterInput};
 use std::ops::RangeInclusive;
 
 /// So many more than the most that is needed.
-const MORE: usize = 3;
+pub(super) const MORE: usize = 3;
 
 /// How often each number was answered, by all calls together.
 pub fn every_length(library: &dyn Library, seed: u64, rounds: usize) -> Check<Numbers> {
@@ -27,18 +27,18 @@ pub fn every_length(library: &dyn Library, seed: u64, rounds: usize) -> Check<Nu
 }
 
 /// The lengths around a limit.
-fn around(limit: usize) -> RangeInclusive<usize> {
+pub(super) fn around(limit: usize) -> RangeInclusive<usize> {
     limit.saturating_sub(MORE)..=limit + MORE
 }
 
 /// So many of the bytes, and random ones where these are fewer.
-fn of_length(random: &mut Random, bytes: &[u8], length: usize) -> Vec<u8> {
+pub(super) fn of_length(random: &mut Random, bytes: &[u8], length: usize) -> Vec<u8> {
     let begin = &bytes[..length.min(bytes.len())];
     [begin, &random.bytes(length - begin.len())].concat()
 }
 
 /// A rule whose tables can be lent in every length.
-fn small_rule(random: &mut Random) -> Rule {
+pub(super) fn small_rule(random: &mut Random) -> Rule {
     loop {
         let rule = random::accepted_rule(random);
         let figures = rule.figures;

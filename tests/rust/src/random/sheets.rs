@@ -56,7 +56,8 @@ pub fn damaged_sheet(random: &mut Random) -> Vec<u8> {
     sheet
 }
 
-fn damage(random: &mut Random, sheet: &mut Vec<u8>) {
+/// One damage, most often in the table of contents.
+pub(super) fn damage(random: &mut Random, sheet: &mut Vec<u8>) {
     if sheet.is_empty() {
         return;
     }

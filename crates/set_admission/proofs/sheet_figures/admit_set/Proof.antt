@@ -1,6 +1,7 @@
 -- `set_admission::admit_set` meets its contract. Assumes nothing.
 use mathlib.Core.Path.{sym, ap, _∙_}
-use Rattle.set_admission.specs.Together.{set-figures, set-figures-answer}
+use Rattle.demand.specs.SetContract.{set-figures}
+use Rattle.set_admission.specs.Together.{set-figures-answer}
 use Rattle.set_admission.proofs.Added.{summed-refused, summed-accepted}
 use Rattle.set_admission.proofs.Judged.{together, opening-no-figures, opening-judged}
 use borrow.Author.Needs.{needs}

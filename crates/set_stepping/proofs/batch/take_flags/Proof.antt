@@ -13,7 +13,7 @@ use Rattle.rule.specs.declared.Figures.{Figures}
 use Rattle.demand.specs.declared.Running.{Running}
 use Rattle.demand.specs.SetContract.{all-live, running-rules, next-tick, all-delays, admit-records}
 use Rattle.running.specs.Records.{rules-in}
-use Rattle.set_stepping.proofs.ManyFlags.{Under, few, few-rules, under-start, ends-full, ends-all, timed-fits, flag-pairs, under-more}
+use Rattle.set_stepping.proofs.ManyFlags.{Under, few, under-start, ends-full, ends-all, timed-fits, flag-pairs, under-more}
 use borrow.Author.Needs.{needs}
 use Rattle.set_stepping.proofs.batch.take_flags.Statement.{statement}
 use Rattle.set_stepping.proofs.batch.take_flags.Tie as tie
@@ -113,7 +113,7 @@ returns c figures admitted =
     let l = c .before .before .loop in
     let u = l .inv .1 figures admitted in
     let same : s₀ .pre .figures ≡ figures = same-value (sym (s₀ .pre .admitted) ∙ admitted) in
-    let delays : a .pairs ≡ all-delays figures = s₀ .pre .pairs-are ∙ ap all-delays same in
+    let delays : a .most ≡ all-delays figures = s₀ .pre .pairs-are ∙ ap all-delays same in
     ends-full (a .sheet .now) (rules-in (a .records .now)) (a .flags .now) (a .history .now) (a .cells .now) (a .report .now) figures (rules-in (l .records)) (l .history) (l .cells) (l .report) (l .taken) (l .triples) (l .live) u (omega (arith, c .if1 .taken, u .report-length, u .inside, delays))
 
 shared-slice-read-flag : tie.Need-shared-slice-read-flag Inv-loop μ-loop
@@ -194,7 +194,7 @@ take-timed-requires c κs =
     let most = few (a .sheet .now) (rules-in (a .records .now)) (a .flags .now) (a .history .now) (a .cells .now) (a .report .now) (s₀ .pre .figures) (s₀ .pre .admitted) in
     timed-fits (a .sheet .now) (rules-in (a .records .now)) (a .flags .now) (a .history .now) (a .cells .now) (a .report .now) (s₀ .pre .figures) (rules-in (l .records)) (l .history) (l .cells) (l .report) (l .taken) (l .triples) (l .live) u (omega (arith, c .before .before .before .before .before .if1 .left, u .report-length, u .inside, s₀ .pre .pairs-are)) (omega (arith, count, test)) (omega (arith, count, test, next)) most
     (take (length (l .report) - 3 * l .triples) (drop (3 * l .triples) (l .report)))
-    (take-all (length (l .report) - 3 * l .triples) (drop (3 * l .triples) (l .report)) (omega (arith, length-drop (3 * l .triples) (l .report)))) (a .pairs) (s₀ .pre .pairs-are)
+    (take-all (length (l .report) - 3 * l .triples) (drop (3 * l .triples) (l .report)) (omega (arith, length-drop (3 * l .triples) (l .report)))) (a .most) (s₀ .pre .pairs-are)
 
 add-triples : tie.Need-add-triples Inv-loop μ-loop
 add-triples c =
@@ -210,7 +210,7 @@ add-triples c =
     let m = c .before .before .before .before .before .before .before .before .take-timed in
     let pairs = flag-pairs (a .sheet .now) (rules-in (a .records .now)) (a .flags .now) (a .history .now) (a .cells .now) (a .report .now) (s₀ .pre .figures) (rules-in (l .records)) (l .history) (l .cells) (l .report) (l .taken) (l .triples) (l .live) u (omega (arith, c .before .before .before .before .before .before .before .before .before .before .before .before .before .before .if1 .left, u .report-length, u .inside, s₀ .pre .pairs-are)) (omega (arith, count, test)) (omega (arith, count, test, next)) most
     (take (length (l .report) - 3 * l .triples) (drop (3 * l .triples) (l .report)))
-    (take-all (length (l .report) - 3 * l .triples) (drop (3 * l .triples) (l .report)) (omega (arith, length-drop (3 * l .triples) (l .report)))) (a .pairs) (s₀ .pre .pairs-are) (m .result .reported) (m .result .live) (rules-in (m .last .1 .0)) (m .last .1 .1 .0) (m .last .1 .1 .1 .1 .0) (m .last .1 .1 .1 .1 .1 .0) (m .ensures) (m .kept .1 .1 .0) (m .kept .1 .1 .1 .1 .0) in
+    (take-all (length (l .report) - 3 * l .triples) (drop (3 * l .triples) (l .report)) (omega (arith, length-drop (3 * l .triples) (l .report)))) (a .most) (s₀ .pre .pairs-are) (m .result .reported) (m .result .live) (rules-in (m .last .1 .0)) (m .last .1 .1 .0) (m .last .1 .1 .1 .1 .0) (m .last .1 .1 .1 .1 .1 .0) (m .ensures) (m .kept .1 .1 .0) (m .kept .1 .1 .1 .1 .0) in
     omega (arith, pairs, u .inside, u .report-length)
 
 add-taken : tie.Need-add-taken Inv-loop μ-loop
@@ -259,7 +259,7 @@ loop-again c =
     let report′ : List ℕ = take at (l .report) ++ (m .last .1 .1 .1 .1 .1 .0 ++ drop words (drop at (l .report))) in
     let one = under-more (a .sheet .now) (rules-in (a .records .now)) (a .flags .now) (a .history .now) (a .cells .now) (a .report .now) (s₀ .pre .figures) (rules-in (l .records)) (l .history) (l .cells) (l .report) (l .taken) (l .triples) (l .live) u (omega (arith, c .before .before .before .before .before .before .before .before .before .before .before .before .before .before .if1 .left, u .report-length, u .inside, s₀ .pre .pairs-are)) (omega (arith, count, test)) (omega (arith, count, test, next)) most
     (take (length (l .report) - 3 * l .triples) (drop (3 * l .triples) (l .report)))
-    (take-all (length (l .report) - 3 * l .triples) (drop (3 * l .triples) (l .report)) (omega (arith, length-drop (3 * l .triples) (l .report)))) (a .pairs) (s₀ .pre .pairs-are) (m .result .reported) (m .result .live) (rules-in (m .last .1 .0)) (m .last .1 .1 .0) (m .last .1 .1 .1 .1 .0) (m .last .1 .1 .1 .1 .1 .0) (m .ensures) (m .kept .1 .1 .0) (m .kept .1 .1 .1 .1 .0) report′ pasted in
+    (take-all (length (l .report) - 3 * l .triples) (drop (3 * l .triples) (l .report)) (omega (arith, length-drop (3 * l .triples) (l .report)))) (a .most) (s₀ .pre .pairs-are) (m .result .reported) (m .result .live) (rules-in (m .last .1 .0)) (m .last .1 .1 .0) (m .last .1 .1 .1 .1 .0) (m .last .1 .1 .1 .1 .1 .0) (m .ensures) (m .kept .1 .1 .0) (m .kept .1 .1 .1 .1 .0) report′ pasted in
     rw (add-one (l .taken)) (
       m .kept .1 .0 ∙ l .inv .0,
       λ figures admitted.

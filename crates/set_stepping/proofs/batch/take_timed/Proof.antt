@@ -20,20 +20,20 @@ slice-aggregate-take-flag : tie.Need-slice-aggregate-take-flag
 slice-aggregate-take-flag c =
     let s₀ = c .before .before .before .before .before .before .before .before .before .before in
     let a = s₀ .args in
-    sym (lent-long (a .sheet .now) (rules-in (a .records .now)) (a .history .now) (a .flag) (a .cells .now) (a .report .now) (a .pairs) (s₀ .pre))
+    sym (lent-long (a .sheet .now) (rules-in (a .records .now)) (a .history .now) (a .flag) (a .cells .now) (a .report .now) (a .most) (s₀ .pre))
 
 take-flag-requires : tie.Need-take-flag-requires
 take-flag-requires c κs =
     let s₀ = c .before .before .before .before .before .before .before .before .before .before in
     let a = s₀ .args in
-    flag-fits (a .sheet .now) (rules-in (a .records .now)) (a .history .now) (a .flag) (a .cells .now) (a .report .now) (a .pairs) (s₀ .pre)
+    flag-fits (a .sheet .now) (rules-in (a .records .now)) (a .history .now) (a .flag) (a .cells .now) (a .report .now) (a .most) (s₀ .pre)
 
 time-pairs-requires : tie.Need-time-pairs-requires
 time-pairs-requires c κs =
     let s₀ = c .before .before .before .before .before .before .before .before .before .before .before .before .before .before .before .before .before .before .before in
     let a = s₀ .args in
     let m = c .before .before .before .before .before .before .before .before .take-flag in
-    timed-room (a .sheet .now) (rules-in (a .records .now)) (a .history .now) (a .flag) (a .cells .now) (a .report .now) (a .pairs) (s₀ .pre) (m .result .reported) (m .result .live) (rules-in (m .last .1 .0)) (m .last .1 .1 .0) (m .last .1 .1 .1 .1 .0) (m .last .1 .1 .1 .1 .1 .0) (m .ensures) (m .kept .1 .1 .1 .1 .1 .0)
+    timed-room (a .sheet .now) (rules-in (a .records .now)) (a .history .now) (a .flag) (a .cells .now) (a .report .now) (a .most) (s₀ .pre) (m .result .reported) (m .result .live) (rules-in (m .last .1 .0)) (m .last .1 .1 .0) (m .last .1 .1 .1 .1 .0) (m .last .1 .1 .1 .1 .1 .0) (m .ensures) (m .kept .1 .1 .1 .1 .1 .0)
 
 same-length : tie.Need-same-length
 same-length c = search needs
@@ -53,7 +53,7 @@ returns c =
     let a = s₀ .args in
     let m = c .before .before .before .before .before .before .before .before .before .before .before .take-flag in
     let lead = c .before .before .before .before .before .before .before .before .before .before .before .before .before .before .before .before .rule-at in
-    timed-moved (a .sheet .now) (rules-in (a .records .now)) (a .history .now) (a .flag) (a .cells .now) (a .report .now) (a .pairs) (s₀ .pre) (m .result .reported) (m .result .live) (rules-in (m .last .1 .0)) (m .last .1 .1 .0) (m .last .1 .1 .1 .1 .0) (m .last .1 .1 .1 .1 .1 .0) (m .ensures) (m .kept .1 .1 .1 .1 .1 .0) (lead .result) (lead .ensures) (c .before .before .time-pairs .last .0) (c .before .before .time-pairs .ensures)
+    timed-moved (a .sheet .now) (rules-in (a .records .now)) (a .history .now) (a .flag) (a .cells .now) (a .report .now) (a .most) (s₀ .pre) (m .result .reported) (m .result .live) (rules-in (m .last .1 .0)) (m .last .1 .1 .0) (m .last .1 .1 .1 .1 .0) (m .last .1 .1 .1 .1 .1 .0) (m .ensures) (m .kept .1 .1 .1 .1 .1 .0) (lead .result) (lead .ensures) (c .before .before .time-pairs .last .0) (c .before .before .time-pairs .ensures)
 
 pub take-timed-spec : {M : Type 1} → statement M
 take-timed-spec =

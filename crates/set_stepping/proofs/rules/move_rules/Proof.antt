@@ -54,8 +54,8 @@ mul-at c =
           (c .rule-at .result) (c .rule-at .ensures),
     )
 
-mul-move-rule : tie.Need-mul-move-rule Inv-loop μ-loop
-mul-move-rule c =
+mul-take-rule : tie.Need-mul-take-rule Inv-loop μ-loop
+mul-take-rule c =
     let s₀ = c .before .before .before .before .before .before .before .before .before .before in
     let a = s₀ .args in
     let l = c .before .before .before .before .loop in
@@ -70,8 +70,8 @@ mul-move-rule c =
           (c .before .rule-at .result) (c .before .rule-at .ensures),
     )
 
-sub-move-rule : tie.Need-sub-move-rule Inv-loop μ-loop
-sub-move-rule c =
+sub-take-rule : tie.Need-sub-take-rule Inv-loop μ-loop
+sub-take-rule c =
     let s₀ = c .before .before .before .before .before .before .before .before .before .before in
     let a = s₀ .args in
     let l = c .before .before .before .before .loop in
@@ -86,8 +86,8 @@ sub-move-rule c =
           (c .before .rule-at .result) (c .before .rule-at .ensures),
     )
 
-part-move-rule-start : tie.Need-part-move-rule-start Inv-loop μ-loop
-part-move-rule-start c =
+part-take-rule-start : tie.Need-part-take-rule-start Inv-loop μ-loop
+part-take-rule-start c =
     let s₀ = c .before .before .before .before .before .before .before .before .before .before in
     let a = s₀ .args in
     let l = c .before .before .before .before .loop in
@@ -102,8 +102,8 @@ part-move-rule-start c =
           (c .before .rule-at .result) (c .before .rule-at .ensures),
     )
 
-part-move-rule-end : tie.Need-part-move-rule-end Inv-loop μ-loop
-part-move-rule-end c =
+part-take-rule-end : tie.Need-part-take-rule-end Inv-loop μ-loop
+part-take-rule-end c =
     let s₀ = c .before .before .before .before .before .before .before .before .before .before in
     let a = s₀ .args in
     let l = c .before .before .before .before .loop in
@@ -118,8 +118,8 @@ part-move-rule-end c =
           (c .before .rule-at .result) (c .before .rule-at .ensures),
     )
 
-move-rule-requires : tie.Need-move-rule-requires Inv-loop μ-loop
-move-rule-requires c κs =
+take-rule-requires : tie.Need-take-rule-requires Inv-loop μ-loop
+take-rule-requires c κs =
     let s₀ = c .before .before .before .before .before .before .before .before .before .before .before in
     let a = s₀ .args in
     let l = c .before .before .before .before .before .loop in
@@ -141,7 +141,7 @@ next-rule-requires c κs =
     let u = l .inv .1 .1 .1 .1 (s₀ .pre .figures) (s₀ .pre .admitted) in
     let count : c .before .before .before .before .before .before .before .before .before .before .before .before .byte-after .result ≡ rule-count (a .sheet .now) = c .before .before .before .before .before .before .before .before .before .before .before .before .byte-after .ensures .0 in
     let more : l .index < rule-count (a .sheet .now) = omega (arith, count, c .before .before .before .before .before .before .before .before .before .before .loop-test .taken) in
-    let m = c .before .before .before .before .before .move-rule in
+    let m = c .before .before .before .before .before .take-rule in
     next-fits (a .sheet .now) (rules-in (a .records .now)) (a .history .now) (a .flag) (a .cells .now) (a .report .now) (s₀ .pre .figures) (s₀ .pre .admitted) (l .index) (l .pairs) (l .live) (rules-in (l .records)) (l .cells) (l .report) u more
     (c .before .before .before .before .before .before .before .before .rule-at .result) (c .before .before .before .before .before .before .before .before .rule-at .ensures) (take (length (l .report) - 2 * l .pairs) (drop (2 * l .pairs) (l .report)))
     (take-all (length (l .report) - 2 * l .pairs) (drop (2 * l .pairs) (l .report)) (omega (arith, length-drop (2 * l .pairs) (l .report))))
@@ -158,7 +158,7 @@ add-pairs c =
     let u = l .inv .1 .1 .1 .1 (s₀ .pre .figures) (s₀ .pre .admitted) in
     let count : c .before .before .before .before .before .before .before .before .before .before .before .before .before .before .before .before .byte-after .result ≡ rule-count (a .sheet .now) = c .before .before .before .before .before .before .before .before .before .before .before .before .before .before .before .before .byte-after .ensures .0 in
     let more : l .index < rule-count (a .sheet .now) = omega (arith, count, c .before .before .before .before .before .before .before .before .before .before .before .before .before .before .loop-test .taken) in
-    let m = c .before .before .before .before .before .before .before .before .before .move-rule in
+    let m = c .before .before .before .before .before .before .before .before .before .take-rule in
     let few = sums-few (a .sheet .now) (rules-in (a .records .now)) (a .history .now) (a .flag) (a .cells .now) (a .report .now) (s₀ .pre .figures) (s₀ .pre .admitted) (l .index) (l .pairs) (l .live) (rules-in (l .records)) (l .cells) (l .report) u more
     (c .before .before .before .before .before .before .before .before .before .before .before .before .rule-at .result) (c .before .before .before .before .before .before .before .before .before .before .before .before .rule-at .ensures) (take (length (l .report) - 2 * l .pairs) (drop (2 * l .pairs) (l .report)))
     (take-all (length (l .report) - 2 * l .pairs) (drop (2 * l .pairs) (l .report)) (omega (arith, length-drop (2 * l .pairs) (l .report))))
@@ -178,7 +178,7 @@ add-live c =
     let u = l .inv .1 .1 .1 .1 (s₀ .pre .figures) (s₀ .pre .admitted) in
     let count : c .before .before .before .before .before .before .before .before .before .before .before .before .before .before .before .before .before .byte-after .result ≡ rule-count (a .sheet .now) = c .before .before .before .before .before .before .before .before .before .before .before .before .before .before .before .before .before .byte-after .ensures .0 in
     let more : l .index < rule-count (a .sheet .now) = omega (arith, count, c .before .before .before .before .before .before .before .before .before .before .before .before .before .before .before .loop-test .taken) in
-    let m = c .before .before .before .before .before .before .before .before .before .before .move-rule in
+    let m = c .before .before .before .before .before .before .before .before .before .before .take-rule in
     let few = sums-few (a .sheet .now) (rules-in (a .records .now)) (a .history .now) (a .flag) (a .cells .now) (a .report .now) (s₀ .pre .figures) (s₀ .pre .admitted) (l .index) (l .pairs) (l .live) (rules-in (l .records)) (l .cells) (l .report) u more
     (c .before .before .before .before .before .before .before .before .before .before .before .before .before .rule-at .result) (c .before .before .before .before .before .before .before .before .before .before .before .before .before .rule-at .ensures) (take (length (l .report) - 2 * l .pairs) (drop (2 * l .pairs) (l .report)))
     (take-all (length (l .report) - 2 * l .pairs) (drop (2 * l .pairs) (l .report)) (omega (arith, length-drop (2 * l .pairs) (l .report))))
@@ -217,7 +217,7 @@ loop-again c =
     let l = c .before .before .before .before .before .before .before .before .before .before .before .before .before .before .before .before .loop in
     let count : c .before .before .before .before .before .before .before .before .before .before .before .before .before .before .before .before .before .byte-after .result ≡ rule-count (a .sheet .now) = c .before .before .before .before .before .before .before .before .before .before .before .before .before .before .before .before .before .byte-after .ensures .0 in
     let more : l .index < rule-count (a .sheet .now) = omega (arith, count, c .before .before .before .before .before .before .before .before .before .before .before .before .before .before .before .loop-test .taken) in
-    let m = c .before .before .before .before .before .before .before .before .before .before .move-rule in
+    let m = c .before .before .before .before .before .before .before .before .before .before .take-rule in
     let read = c .before .before .before .before .before .before .before .before .before .before .before .before .before .rule-at in
     let next = c .before .before .before .before .next-rule in
     let stored = c .before .before .before .store-rule in
@@ -265,11 +265,11 @@ move-rules-spec =
     cast-rule-at
     rule-at-requires
     mul-at
-    mul-move-rule
-    sub-move-rule
-    part-move-rule-start
-    part-move-rule-end
-    move-rule-requires
+    mul-take-rule
+    sub-take-rule
+    part-take-rule-start
+    part-take-rule-end
+    take-rule-requires
     cast-store-rule
     next-rule-requires
     store-rule-requires

@@ -1,4 +1,4 @@
--- `set_stepping::rules::move_rule` meets its contract. Assumes nothing.
+-- `set_stepping::rules::take_rule` meets its contract. Assumes nothing.
 use Prim.Native.Nat.{ℕ, _+_, _*_, _-_}
 use mathlib.Core.Path.{_≡_, refl, sym, ap}
 use mathlib.Core.List.{List, _++_}
@@ -7,8 +7,8 @@ use lib.ListN.{take, drop}
 use lib.Seq.{length-take-le}
 use Rattle.set_stepping.proofs.OneRule.{rule-room, rule-moved}
 use borrow.Author.Needs.{needs}
-use Rattle.set_stepping.proofs.rules.move_rule.Statement.{statement}
-use Rattle.set_stepping.proofs.rules.move_rule.Tie as tie
+use Rattle.set_stepping.proofs.rules.take_rule.Statement.{statement}
+use Rattle.set_stepping.proofs.rules.take_rule.Tie as tie
 
 cast-start : tie.Need-cast-start
 cast-start c = search needs
@@ -34,11 +34,11 @@ mul-high c = search needs
 add-high : tie.Need-add-high
 add-high c = search needs
 
-cast-half : tie.Need-cast-half
-cast-half c = search needs
+cast-ticks : tie.Need-cast-ticks
+cast-ticks c = search needs
 
-add-half : tie.Need-add-half
-add-half c = search needs
+add-ticks : tie.Need-add-ticks
+add-ticks c = search needs
 
 sub-take-tick : tie.Need-sub-take-tick
 sub-take-tick c = search needs
@@ -118,8 +118,8 @@ returns c =
     (counted .result .reported) (counted .result .live) (a .index) _ (c .before .before .number-ticks .last .0) (counted .ensures .0) (counted .ensures .1)
     (ap (λ (n : ℕ). take (4 * rule .first) (a .cells .now) ++ (tick .last .1 .1 .1 .1 .1 .0 ++ drop n (drop (4 * rule .first) (a .cells .now)))) room) (c .before .before .number-ticks .ensures)
 
-pub move-rule-spec : {M : Type 1} → statement M
-move-rule-spec =
+pub take-rule-spec : {M : Type 1} → statement M
+take-rule-spec =
     tie.close
     (tie.spec
     cast-start
@@ -130,8 +130,8 @@ move-rule-spec =
     cast-high
     mul-high
     add-high
-    cast-half
-    add-half
+    cast-ticks
+    add-ticks
     sub-take-tick
     part-take-tick-start
     part-take-tick-end
