@@ -12,17 +12,17 @@ use lib.Seq.{take-take, getD-take}
 use borrow.Author.Tests.{leb-true, le-leb, lt-leb, ne-eqb}
 use Rattle.refusal.specs.Answer.{Answer, refused, accepted, and-then}
 use Rattle.refusal.specs.Numbers.{number-of}
-use Rattle.refusal.proofs.Answers.{same-value, both-accepted}
+use Rattle.refusal.proofs.Answers.{both-accepted}
 use Rattle.refusal.proofs.Bools.{and-true}
-use Rattle.sheet.specs.Sheet.{rule-count, has-contents, laid-out}
+use Rattle.sheet.specs.Sheet.{rule-count}
 use Rattle.rule.specs.declared.Figures.{Figures}
 use Rattle.rule.proofs.Order.{by-order}
 use Rattle.demand.specs.Contract.{must, Invariant}
 use Rattle.demand.specs.declared.Running.{Running}
-use Rattle.demand.specs.SetContract.{no-rule, next-rule, rule-state, needs, own-cells, Ticked, running-rules, opened-length, next-tick, all-cells, all-delays, largest, all-run, fit-set, admit-records, bodies-from, sheet-bodies, all-figures, set-room, set-opening-of, set-step-of, SetTaken, SetOpens, SetTakes, SetOpenPromise, SetStepPromise}
-use Rattle.demand.proofs.Admission.{must-passed}
+use Rattle.demand.specs.SetContract.{no-rule, next-rule, rule-state, needs, own-cells, Ticked, running-rules, opened-length, next-tick, all-cells, all-delays, largest, all-run, fit-set, admit-records, set-figures, set-room, admit-set-lengths, set-opening-of, set-step-of, SetTaken, SetOpens, SetTakes, SetOpenPromise, SetStepPromise}
 use Rattle.demand.proofs.SetLists.{all-figures-told}
 use Rattle.demand.proofs.SetAdmission.{set-step-admitted}
+use Rattle.demand.proofs.SetRules.{sheet-told, figures-told}
 use Rattle.cell_runs.specs.Moves.{Stands}
 use Rattle.set_opening.specs.declared.SetOpenAnswer.{SetOpenAnswer}
 use Rattle.set_opening.specs.declared.SetOpenAnswer.the-variants as opens
@@ -73,22 +73,13 @@ module _ (ys zs : List Running) (same : drop 32 zs ≡ drop 32 ys) where
 
 -- ---- an opening
 
-bodies-length : (n : ℕ) (sheet : List ℕ) (i : ℕ) → length (bodies-from n sheet i) ≡ n
-unfolding bodies-from
-bodies-length zero sheet i = refl
-bodies-length (suc n) sheet i = ap suc (bodies-length n sheet (suc i))
-
--- A sheet with a table of contents has 32 rules at most, and as many bodies.
-few-rules : (sheet : List ℕ) (bodies : List (List ℕ)) → sheet-bodies sheet ≡ accepted bodies → (rule-count sheet ≤ 32) × (length bodies ≤ 32)
-unfolding sheet-bodies has-contents
-few-rules sheet bodies e =
-    let n = rule-count sheet in
-    let a = must-passed (has-contents sheet) 1 _ e in
-    let b = must-passed (laid-out n sheet 0 (1 + 4 * n)) 2 _ (a .1) in
-    let c = and-true (leb 1 (length sheet)) _ (a .0) in
-    let d = and-true (leb 1 n) _ (c .1) in
-    let most : n ≤ 32 = leb-true n 32 (and-true (leb n 32) _ (d .1) .0) in
-    (most, rw (sym (same-value (b .1)), bodies-length n sheet 0) most)
+-- A sheet whose rules have figures has 32 rules at most, and as many figures.
+few-rules : (sheet : List ℕ) (figures : List Figures) → set-figures sheet ≡ accepted figures → (rule-count sheet ≤ 32) × (length figures ≤ 32)
+few-rules sheet figures e =
+    let told = figures-told sheet figures e in
+    let rules = sheet-told sheet (told .bodies) (told .bodies-are) in
+    let most : rule-count sheet ≤ 32 = rules .contents .most in
+    (most, omega (arith, most, rules .as-many, all-figures-told (told .bodies) figures (told .figures-are) .as-many))
 
 and-then-same : {A B : Type 0} (x : Answer A) (f g : A → Answer B) → ((a : A) → x ≡ accepted a → f a ≡ g a) → and-then x f ≡ and-then x g
 unfolding and-then
@@ -99,15 +90,12 @@ room-cut : (history table : ℕ) (ys : List Running) (figures : List Figures) �
     → set-room history table (length (take 32 ys)) figures ≡ set-room history table (length ys) figures
 unfolding set-room
 room-cut history table ys figures h =
-    ap (λ (b : Bool). must (leb (all-cells figures) 4096) 27 (must (leb (largest figures) history && leb history 4096) 17 (must (leb (4 * all-cells figures) table && b) 18 (accepted figures))))
+    ap (λ (b : Bool). must (leb (largest figures) history && leb history 4096) 17 (must (leb (4 * all-cells figures) table && b) 18 (accepted figures)))
     (ap (leb (length figures)) (length-take 32 ys) ∙ leb-cut (length figures) 32 (length ys) h)
 
-admit-cut : (sheet : List ℕ) (history table : ℕ) (ys : List Running)
-    → and-then (sheet-bodies sheet) (λ bodies. and-then (all-figures bodies) (set-room history table (length (take 32 ys))))
-    ≡ and-then (sheet-bodies sheet) (λ bodies. and-then (all-figures bodies) (set-room history table (length ys)))
+admit-cut : (sheet : List ℕ) (history table : ℕ) (ys : List Running) → admit-set-lengths sheet history table (length (take 32 ys)) ≡ admit-set-lengths sheet history table (length ys)
 admit-cut sheet history table ys =
-    and-then-same (sheet-bodies sheet) _ _ (λ bodies there. and-then-same (all-figures bodies) _ _ (λ figures e.
-    room-cut history table ys figures (rw (all-figures-told bodies figures e .as-many) (few-rules sheet bodies there .1))))
+    and-then-same (set-figures sheet) _ _ (λ figures e. room-cut history table ys figures (few-rules sheet figures e .1))
 
 module _ (Stands : Invariant) (sheet : List ℕ) (ys zs : List Running) (history table history′ : List ℕ) (same : drop 32 zs ≡ drop 32 ys) where
   pub opening-refused : (n : ℕ) → SetOpenPromise Stands (set-opening-of (refused n) sheet (take 32 ys) history table (take 32 zs) history′)
@@ -130,7 +118,7 @@ module _ (Stands : Invariant) (sheet : List ℕ) (ys zs : List Running) (history
       → SetOpenPromise Stands (set-opening-of (accepted (running-rules sheet zs)) sheet ys history table zs history′)
   opening-accepted p =
       let n = rule-count sheet in
-      let there = both-accepted (sheet-bodies sheet) _ (p .0) (p .1) in
+      let there = both-accepted (set-figures sheet) _ (p .0) (p .1) in
       let most : n ≤ 32 = few-rules sheet (there .0) (there .1) .0 in
       let short : length (running-rules sheet (take 32 zs)) ≤ 32 = omega (arith, most, length-take n (take 32 zs)) in (
         p .0,
