@@ -34,9 +34,11 @@
  *
  * COST. Every call returns, and waits for nothing. As measured (docs/PERFORMANCE.md names
  * the machine): a call uses at most SW_MAX_STACK bytes of stack, also for a body or a text
- * that nests as deep as it can. A step of a small rule takes 0.1 to 5 microseconds, the dearest
- * one found 2 milliseconds; it grows with the positions that the rule looks at, about
- * 20 ns each, and never with the recording. sw_outcome takes about 15 ns for each position
+ * that nests as deep as it can. A step of a small rule takes 0.1 to 2 microseconds, the dearest
+ * one found 1.2 milliseconds; it grows with the positions that the rule looks at, about
+ * 10 ns each, and never with the recording. A step of a set takes 1.2 to 1.8 times what single
+ * steps of its rules take, and a batch of a set about what these take, so to replay a long
+ * recording sw_steps rule by rule is faster. sw_outcome takes about 15 ns for each position
  * of a range; k nested ranges up to infinity whose variables are all named take n^k for n
  * ticks, which for k of 3 or 4 and long recordings nobody can wait for. */
 #ifndef STATION_WATCH_H

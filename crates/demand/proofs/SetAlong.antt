@@ -19,11 +19,11 @@ use Rattle.rule.specs.Figures.{body-figures}
 use Rattle.rule.proofs.Order.{by-order}
 use Rattle.demand.specs.declared.Running.{Running}
 use Rattle.demand.specs.Contract.{Invariant, must}
-use Rattle.demand.specs.SetContract.{SetOpening, SetTaken, SetStep, SetBatch, no-rule, body-at, next-rule, running-rules, opened-length, next-tick, all-cells, all-delays, figures-or-none, needs, all-run, fit-set, admit-records, admit-set-step, SetOpens, SetTakes, SetStepped, SetBatched}
+use Rattle.demand.specs.SetContract.{SetOpening, SetTaken, SetStep, SetBatch, no-rule, body-at, next-rule, running-rules, opened-length, next-tick, all-cells, all-delays, figures-or-none, needs, all-run, fit-set, admit-records, admit-set-step, SetOpens, SetTakes, SetStepped, SetBatched, opened-rule}
 use Rattle.demand.specs.SetDemand.{no-figures, SetRefused, set-ticks-after, SetUnfit, SetRefusal, SetBatchRefusal, SetAcceptable}
 use Rattle.demand.proofs.SetLists.{history-inside, cells-prefix}
 use Rattle.demand.proofs.SetAdmission.{short-figures, delays-low, Placed, all-run-there}
-use Rattle.demand.proofs.SetRules.{SheetTold, sheet-told, opened-rule, opened-rules-length, opened-at, own-figures}
+use Rattle.demand.proofs.SetRules.{SheetTold, sheet-told, opened-rules-length, opened-at, own-figures}
 
 -- ---- the tests of a step
 

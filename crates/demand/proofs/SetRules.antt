@@ -19,19 +19,19 @@ use Rattle.rule.specs.Body.{body}
 use Rattle.rule.specs.Figures.{figures, body-figures}
 use Rattle.demand.specs.declared.Running.{Running}
 use Rattle.demand.specs.Contract.{must}
-use Rattle.demand.specs.SetContract.{SetOpening, no-rule, all-cells, largest, bodies-from, sheet-bodies, all-figures, set-figures, set-room, admit-set-lengths, admit-set, opened-rules}
+use Rattle.demand.specs.SetContract.{SetOpening, no-rule, all-cells, largest, bodies-from, sheet-bodies, all-figures, set-figures, set-room, admit-set-lengths, admit-set, opened-rule, opened-rules}
 use Rattle.demand.specs.SetDemand.{no-figures, no-formula, SetAcceptable}
 use Rattle.demand.proofs.Admission.{must-passed, formula-of}
 use Rattle.demand.proofs.SetLists.{AllFigures, all-figures-told}
 
 -- ---- the bodies of a sheet
 
-bodies-length : (n : ℕ) (s : List ℕ) (i : ℕ) → length (bodies-from n s i) ≡ n
+pub bodies-length : (n : ℕ) (s : List ℕ) (i : ℕ) → length (bodies-from n s i) ≡ n
 unfolding bodies-from
 bodies-length zero s i = refl
 bodies-length (suc n) s i = ap suc (bodies-length n s (suc i))
 
-bodies-at : (n : ℕ) (s : List ℕ) (i j : ℕ) → j < n → getD (bodies-from n s i) j [] ≡ take (extent s (i + j)) (drop (body-offset s (i + j)) s)
+pub bodies-at : (n : ℕ) (s : List ℕ) (i j : ℕ) → j < n → getD (bodies-from n s i) j [] ≡ take (extent s (i + j)) (drop (body-offset s (i + j)) s)
 unfolding bodies-from
 bodies-at zero s i j h = absurd (not-suc-le-zero h)
 bodies-at (suc n) s i zero h = rw (add-zero i) refl
@@ -67,10 +67,6 @@ sheet-told s bs e =
     }
 
 -- ---- the records that an opening gives
-
-abbrev pub opened-rule : List ℕ → ℕ → ℕ → ℕ → Figures → Running
-opened-rule s L index first f =
-    record { start = body-offset s index; size = extent s index; first = first; cells = f .cells; delay = f .delay; opened = L; next = 0; live = 0 }
 
 pub opened-rules-length : (s : List ℕ) (L index first : ℕ) (fs : List Figures) → length (opened-rules s L index first fs) ≡ length fs
 unfolding opened-rules

@@ -242,11 +242,9 @@ admit-set-lengths sheet history table records = and-then (set-figures sheet) (se
 abbrev pub admit-set : SetOpening → Answer (List Figures)
 admit-set opening = admit-set-lengths (opening .sheet) (length (opening .history)) (length (opening .table)) (length (opening .records))
 
--- The records of a set's rules with these figures, from entry `index` and cell `first` on, over a history of L bytes: next tick 0 and 0 live. "No rule's
--- cells are touched by another's": each has its own part of the table.
-unfoldable pub opened-rules : List ℕ → ℕ → ℕ → ℕ → List Figures → List Running
-opened-rules sheet L index first [] = []
-opened-rules sheet L index first (figures ∷ rest) =
+-- The record of the rule of entry `index` with these figures, its first cell at `first`, over a history of L bytes: next tick 0 and 0 live.
+abbrev pub opened-rule : List ℕ → ℕ → ℕ → ℕ → Figures → Running
+opened-rule sheet L index first figures =
     record {
       start = body-offset sheet index;
       size = extent sheet index;
@@ -257,7 +255,13 @@ opened-rules sheet L index first (figures ∷ rest) =
       next = 0;
       live = 0;
     }
-    ∷ opened-rules sheet L (suc index) (first + figures .cells) rest
+
+-- The records of a set's rules with these figures, from entry `index` and cell `first` on. "No rule's cells are touched by another's": each has its own part of
+-- the table.
+unfoldable pub opened-rules : List ℕ → ℕ → ℕ → ℕ → List Figures → List Running
+opened-rules sheet L index first [] = []
+opened-rules sheet L index first (figures ∷ rest) =
+    opened-rule sheet L index first figures ∷ opened-rules sheet L (suc index) (first + figures .cells) rest
 
 -- ---- the refusals of a step, exactly
 

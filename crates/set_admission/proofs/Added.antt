@@ -28,11 +28,6 @@ bodies-next (suc n) s k =
     let q : k + suc n ≡ suc k + n = omega arith in
     rw q (ap (λ (l : List (List ℕ)). entry-body s k ∷ l) (bodies-next n s (suc k)))
 
-pub length-bodies : (n : ℕ) (s : List ℕ) (k : ℕ) → length (bodies-from n s k) ≡ n
-unfolding bodies-from
-length-bodies zero s k = refl
-length-bodies (suc n) s k = ap suc (length-bodies n s (suc k))
-
 -- ---- the figures of one body more
 
 figures-added : (x : Answer Figures) (xs ys : Answer (List Figures)) (y : Answer Figures) → ys ≡ and-then xs (λ fs. and-then y (λ f. accepted (fs ++ (f ∷ []))))

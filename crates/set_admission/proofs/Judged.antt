@@ -13,11 +13,11 @@ use Rattle.rule.specs.declared.Figures.{Figures}
 use Rattle.rule.specs.Figures.{body-figures}
 use Rattle.demand.specs.Contract.{must}
 use Rattle.demand.specs.SetContract.{all-cells, largest, bodies-from, sheet-bodies, all-figures, set-figures, set-room, admit-set-lengths}
-use Rattle.demand.proofs.SetRules.{figures-told}
+use Rattle.demand.proofs.SetRules.{bodies-length, figures-told}
 use Rattle.admission.specs.Admitted.{FiguresWithin}
 use Rattle.set_admission.specs.declared.sheet_figures.SetFigures.{SetFigures}
 use Rattle.set_admission.specs.Together.{sums-of, summed, few-cells, with-figures, SmallSums, Laid}
-use Rattle.set_admission.proofs.Added.{length-bodies, summed-next, within, all-small, small-sums, summed-accepted}
+use Rattle.set_admission.proofs.Added.{summed-next, within, all-small, small-sums, summed-accepted}
 use Rattle.set_admission.proofs.Laying.{LaidOut, laid-told, entry-is}
 
 -- ---- the rules one after another
@@ -33,7 +33,7 @@ module _ (s : List ℕ) (i : ℕ) where
     sums-small low sums e =
         let bodies = bodies-from i s 0 in
         let x = summed-accepted (all-figures bodies) (sym e ∙ sofar) in
-        rw (x .2) (small-sums (length bodies) (x .0) (all-small bodies (x .0) (x .1)) (rw (length-bodies i s 0) low))
+        rw (x .2) (small-sums (length bodies) (x .0) (all-small bodies (x .0) (x .1)) (rw (bodies-length i s 0) low))
 
     pub one-rule-more : LaidOut s → i < rule-count s → (b : Answer Figures) (r : Answer SetFigures) → b ≡ and-then (rule-body s i) body-figures
         → r ≡ and-then a (λ sums. and-then b (λ f. accepted (with-figures sums f))) → r ≡ summed (all-figures (bodies-from (i + 1) s 0))
@@ -79,7 +79,7 @@ together s fs e =
     record {
       laid = l .0;
       bodies-are = b;
-      as-many = all-small (bodies-from (rule-count s) s 0) fs b .as-many ∙ length-bodies (rule-count s) s 0;
+      as-many = all-small (bodies-from (rule-count s) s 0) fs b .as-many ∙ bodies-length (rule-count s) s 0;
       few = x .cells-low;
     }
 

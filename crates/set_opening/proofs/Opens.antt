@@ -11,7 +11,7 @@ use Rattle.sheet.specs.Sheet.{rule-count}
 use Rattle.rule.specs.declared.Figures.{Figures}
 use Rattle.demand.specs.declared.Running.{Running}
 use Rattle.demand.specs.SetContract.{no-rule, rule-state, running-rules, set-figures, admit-set-lengths, opened-rules, set-opening-of, SetOpenPromise}
-use Rattle.demand.proofs.SetRules.{RoomTold, opening-told}
+use Rattle.demand.proofs.SetRules.{opened-rules-length, RoomTold, opening-told}
 use Rattle.cell_runs.specs.Moves.{Stands}
 use Rattle.cell_runs.proofs.Rules.{stands-at-start}
 use Rattle.set_admission.specs.declared.sheet_figures.SetFiguresAnswer.{SetFiguresAnswer}
@@ -23,7 +23,7 @@ use Rattle.set_admission.proofs.Judged.{Together, together}
 use Rattle.set_opening.specs.declared.SetOpenAnswer.{SetOpenAnswer}
 use Rattle.set_opening.specs.declared.SetOpenAnswer.the-variants as answer
 use Rattle.set_opening.specs.Opening.{set-open-answer, Openable}
-use Rattle.set_opening.proofs.Writes.{as-many-opened, not-begun}
+use Rattle.set_opening.proofs.Writes.{not-begun}
 
 -- m records are lent, and the rules are admitted with answer a.
 module _ (s : List ℕ) (records : List Running) (history cells : List ℕ) (m : ℕ) (m-is : length records ≡ m) (a : SetFiguresAnswer)
@@ -70,7 +70,7 @@ module _ (s : List ℕ) (records : List Running) (history cells : List ℕ) (m :
         let given = running-rules s records′ in
         let opened = opened-rules s (length history) 0 0 fs in
         let e : records′ ≡ opened ++ drop (length fs) records = written fs (told .0) in
-        let n : length opened ≡ length fs = as-many-opened s (length history) fs 0 0 in
+        let n : length opened ≡ length fs = opened-rules-length s (length history) 0 0 fs in
         let g : given ≡ opened = ap (take (rule-count s)) e ∙ take-at opened (drop (length fs) records) (rule-count s) (n ∙ known .as-many) in (
           fs,
           admit-is (accepted fs) (admitted .1),

@@ -15,13 +15,13 @@ use Rattle.sheet.proofs.Entries.{place-told}
 use Rattle.rule.specs.declared.Figures.{Figures}
 use Rattle.rule.specs.Figures.{body-figures}
 use Rattle.demand.specs.declared.Running.{Running}
-use Rattle.demand.specs.SetContract.{no-rule, all-cells, bodies-from, opened-rules}
+use Rattle.demand.specs.SetContract.{no-rule, all-cells, bodies-from, opened-rule, opened-rules}
 use Rattle.demand.specs.SetDemand.{no-figures}
 use Rattle.demand.proofs.SetLists.{cells-prefix, all-figures-told}
-use Rattle.set_admission.proofs.Added.{entry-body, length-bodies, cells-next}
+use Rattle.demand.proofs.SetRules.{bodies-length, bodies-at, opened-rules-length}
+use Rattle.set_admission.proofs.Added.{cells-next}
 use Rattle.set_admission.proofs.Laying.{entry-is}
 use Rattle.set_admission.proofs.Judged.{Together}
-use Rattle.set_opening.specs.Opening.{opened-rule}
 
 -- ---- one record
 
@@ -45,14 +45,6 @@ module _ (s : List ℕ) (i : ℕ) (p : Found) (found-is : found p ≡ rule-place
 
 -- ---- one record more
 
-bodies-there : (n : ℕ) (s : List ℕ) (k i : ℕ) → i < n → getD (bodies-from n s k) i [] ≡ entry-body s (k + i)
-unfolding bodies-from
-bodies-there zero s k i h = absurd (omega arith)
-bodies-there (suc n) s k zero h = rw add-zero refl
-bodies-there (suc n) s k (suc i) h =
-    let q : k + suc i ≡ suc k + i = omega arith in
-    rw q (bodies-there n s (suc k) i (omega arith))
-
 module _ (s : List ℕ) (fs : List Figures) (t : Together s fs) where
   figures-there : (i : ℕ) → i < length fs → and-then (rule-body s i) body-figures ≡ accepted (getD fs i no-figures)
   unfolding and-then
@@ -60,8 +52,8 @@ module _ (s : List ℕ) (fs : List Figures) (t : Together s fs) where
       let n = rule-count s in
       let k : i < n = omega (arith, t .as-many) in
       let told = all-figures-told (bodies-from n s 0) fs (t .bodies-are) in
-      let e = told .each i (rw (length-bodies n s 0) k) in
-      rw (entry-is s (t .laid) i k) (rw (bodies-there n s 0 i k, zero-add i) at e)
+      let e = told .each i (rw (bodies-length n s 0) k) in
+      rw (entry-is s (t .laid) i k) (rw (bodies-at n s 0 i k, zero-add i) at e)
 
 module _ (s : List ℕ) (L : ℕ) where
   opened-next : (fs : List Figures) (k c : ℕ) (f : Figures)
@@ -72,11 +64,6 @@ module _ (s : List ℕ) (L : ℕ) where
       let a : k + suc (length fs) ≡ suc k + length fs = omega arith in
       let b : c + (g .cells + all-cells fs) ≡ (c + g .cells) + all-cells fs = omega arith in
       rw (a, b) (ap (λ (l : List Running). opened-rule s L k c g ∷ l) (opened-next fs (suc k) (c + g .cells) f))
-
-  pub as-many-opened : (fs : List Figures) (k c : ℕ) → length (opened-rules s L k c fs) ≡ length fs
-  unfolding opened-rules
-  as-many-opened [] k c = refl
-  as-many-opened (g ∷ fs) k c = ap suc (as-many-opened fs (suc k) (c + g .cells))
 
   -- no tick is taken yet
   pub not-begun : (fs : List Figures) (k c i : ℕ) → (getD (opened-rules s L k c fs) i no-rule) .next ≡ 0
@@ -132,7 +119,7 @@ module _ (s : List ℕ) (L : ℕ) where
             let c : all-cells (take i fs ++ (f ∷ [])) ≡ all-cells (take i fs) + f .cells = cells-next (take i fs) f in
             let g : rule .cells ≡ f .cells = ap (λ (r : Running). r .cells) here in
             let stored : set (done ++ drop i rules₀) i rule ≡ done ++ (rule ∷ drop (suc i) rules₀) =
-            rw (drop-cons rules₀ i no-rule (omega arith)) (set-at done (getD rules₀ i no-rule) (drop (suc i) rules₀) rule i (as-many-opened (take i fs) 0 0 ∙ length-front)) in
+            rw (drop-cons rules₀ i no-rule (omega arith)) (set-at done (getD rules₀ i no-rule) (drop (suc i) rules₀) rule i (opened-rules-length s L 0 0 (take i fs) ∙ length-front)) in
             record {
               first-is = rw front (omega (arith, c, g, w .first-is));
               rules-are = e ∙ ap (λ (l : List Running). set l i rule) (w .rules-are) ∙ stored ∙ rw (done-next, q) (sym (append-assoc done (rule ∷ []) (drop (suc i) rules₀)));

@@ -5,7 +5,6 @@ use mathlib.Core.List.{List}
 use lib.ListN.{length}
 use Rattle.refusal.specs.Answer.{Answer, refused, accepted}
 use Rattle.refusal.specs.Numbers.{number-of}
-use Rattle.sheet.specs.Sheet.{body-offset, extent}
 use Rattle.rule.specs.declared.Figures.{Figures}
 use Rattle.demand.specs.declared.Running.{Running}
 use Rattle.demand.specs.SetContract.{running-rules, set-figures}
@@ -16,20 +15,6 @@ use Rattle.set_opening.specs.declared.SetOpenAnswer.the-variants.{Opened
 abbrev pub set-open-answer : SetOpenAnswer → List ℕ → List Running → Answer (List Running)
 set-open-answer Opened sheet records = accepted (running-rules sheet records)
 set-open-answer (Refused refusal) sheet records = refused (number-of refusal)
-
--- One record of `opened-rules`: of entry `index`, its first cell at `first`, over a history of L bytes.
-abbrev pub opened-rule : List ℕ → ℕ → ℕ → ℕ → Figures → Running
-opened-rule sheet L index first figures =
-    record {
-      start = body-offset sheet index;
-      size = extent sheet index;
-      first = first;
-      cells = figures .cells;
-      delay = figures .delay;
-      opened = L;
-      next = 0;
-      live = 0;
-    }
 
 -- The rules of a sheet can be opened: there are `count` of them, with figures, and as many records at least.
 pub record Openable (sheet : List ℕ) (records count opened : ℕ) : Type 0 where
