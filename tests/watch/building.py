@@ -107,9 +107,9 @@ class Building(Repository):
         self.assertEqual(self.calls(), ["rt check watch"])
 
 
-LIBRARY_CRATES = "words:\nexports_rules: words\nexports_watch: words\n"
+LIBRARY_CRATES = "words:\nexports_rules: words\nexports_watch: words\nexports_sets: words\n"
 
-# Each part has a function of its own and one that is local to it and called the same in both.
+# Each part has a function of its own and one that is local to it and called the same in each.
 LIBRARY_RT = """#!/bin/sh
 echo "rt $*" >> "$RECORD"
 echo "rt: words proved (2 s)"
@@ -121,8 +121,10 @@ ar rcs "lib$2.a" ./*.o
 rm ./*.o
 """
 
-LIBRARY_BEGIN = BEGIN.replace("watch", "library") + "library: building: 1 of 3 crates proved (words, 2 s)\n"
+PART_BEGUN = "library: building: 1 of 4 crates proved (words, 2 s)\n"
+LIBRARY_BEGIN = BEGIN.replace("watch", "library") + PART_BEGUN
 LIBRARY_BUILT = "library: built target/lib/libstation_watch.a and target/lib/libstation_watch.so\n"
+ALL_PARTS = LIBRARY_BEGIN + PART_BEGUN + PART_BEGUN + LIBRARY_BUILT
 
 
 class Library(Repository):
@@ -143,17 +145,16 @@ class Library(Repository):
 
     def test_the_parts_are_one_library(self):
         """And the archive is the same from build to build."""
-        twice = LIBRARY_BEGIN + LIBRARY_BEGIN.splitlines(True)[1] + LIBRARY_BUILT
-        self.ends(0, "", twice)
-        self.assertEqual(self.calls(), ["rt staticlib exports_rules", "rt staticlib exports_watch"])
-        parts = ["sw_exports_rules", "sw_exports_watch"]
+        self.ends(0, "", ALL_PARTS)
+        self.assertEqual(self.calls(), ["rt staticlib exports_rules", "rt staticlib exports_watch", "rt staticlib exports_sets"])
+        parts = ["sw_exports_rules", "sw_exports_sets", "sw_exports_watch"]
         self.assertEqual(self.functions("--extern-only", self.archive), parts)
         self.assertEqual(self.functions("--dynamic", self.path("target", "lib", "libstation_watch.so")), parts)
         self.assertEqual(os.readlink(self.path("target", "lib", "libstation_watch.so.9.8")), "libstation_watch.so")
         built = self.bytes()
         self.ends(0, "", "")
         self.write("// changed", "crates", "words", "src", "lib.rt")
-        self.ends(0, "", twice)
+        self.ends(0, "", ALL_PARTS)
         self.assertEqual(self.bytes(), built)
 
     def test_a_part_that_is_not_proved(self):
@@ -162,17 +163,16 @@ class Library(Repository):
         named = "library: not built: the last lines of %s stand above\n" % log
         first = "rt: words proved (2 s)\n"
         self.ends(1, "", LIBRARY_BEGIN + first + "exports_rules.rt:1: error: no\n" + named, FAILS="exports_rules")
-        said = LIBRARY_BEGIN + LIBRARY_BEGIN.splitlines(True)[1] + first + first + "exports_watch.rt:1: error: no\n" + named
+        said = LIBRARY_BEGIN + PART_BEGUN + first + first + "exports_watch.rt:1: error: no\n" + named
         self.ends(1, "", said, FAILS="exports_watch")
         self.assertEqual(os.listdir(self.path("target", "lib")), ["built.new"])
 
     def test_the_shared_librarys_own_name_is_gone(self):
         """Programs that were linked with it start by that name, so it is built again."""
-        twice = LIBRARY_BEGIN + LIBRARY_BEGIN.splitlines(True)[1] + LIBRARY_BUILT
-        self.ends(0, "", twice)
+        self.ends(0, "", ALL_PARTS)
         own_name = self.path("target", "lib", "libstation_watch.so.9.8")
         os.remove(own_name)
-        self.ends(0, "", twice)
+        self.ends(0, "", ALL_PARTS)
         self.assertTrue(os.path.exists(own_name))
 
     def test_a_part_that_is_not_in_its_archive(self):
