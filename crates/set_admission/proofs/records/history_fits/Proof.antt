@@ -4,10 +4,10 @@ use Rattle.set_admission.proofs.records.history_fits.Statement.{stateme
 use Rattle.set_admission.proofs.records.history_fits.Tie as tie
 
 returns : tie.Need-returns
-returns c = rw (eq-eqb _ _ (c .if1 .taken))
+returns c = rw (eq-eqb (c .before .args .records) 0 (c .if1 .taken))
 
 returns-2 : tie.Need-returns-2
-returns-2 c = rw (ne-eqb _ _ (c .if1 .left))
+returns-2 c = rw (ne-eqb (c .before .args .records) 0 (c .if1 .left))
 
 pub history-fits-spec : {M : Type 1} → statement M
 history-fits-spec = tie.close (tie.spec returns returns-2)

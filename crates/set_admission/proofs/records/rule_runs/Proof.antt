@@ -33,7 +33,7 @@ returns-3 c = simp (le-leb _ _ (c .before .before .before .before .before .if1 .
 
 returns-4 : tie.Need-returns-4
 unfolding runs
-returns-4 c = simp (le-leb _ _ (c .before .before .before .before .before .before .before .before .if1 .left), eq-eqb _ _ (c .before .before .before .before .before .before .if2 .left), eq-eqb _ _ (c .before .before .before .if3 .left), ne-eqb _ _ (c .if4 .taken))
+returns-4 c = simp (le-leb _ _ (c .before .before .before .before .before .before .before .before .if1 .left), eq-eqb _ _ (c .before .before .before .before .before .before .if2 .left), eq-eqb _ _ (c .before .before .before .if3 .left), ne-eqb (c .before .before .before .before .before .before .before .before .before .before .before .before .args .rule .next) (c .before .before .before .before .before .before .before .before .before .before .before .before .args .lead .next) (c .if4 .taken))
 
 sub-figures : tie.Need-sub-figures
 sub-figures c = search needs
@@ -55,7 +55,7 @@ unfolding runs
 returns-5 c =
     c .same-figures .ensures
     ∙ rw (c .before .figures .ensures, add-sub-cancel-left)
-    (simp (le-leb _ _ (c .before .before .before .before .before .before .before .before .before .before .before .if1 .left), eq-eqb _ _ (c .before .before .before .before .before .before .before .before .before .if2 .left), eq-eqb _ _ (c .before .before .before .before .before .before .if3 .left), eq-eqb _ _ (c .before .before .before .if4 .left)))
+    (simp (le-leb _ _ (c .before .before .before .before .before .before .before .before .before .before .before .if1 .left), eq-eqb _ _ (c .before .before .before .before .before .before .before .before .before .if2 .left), eq-eqb _ _ (c .before .before .before .before .before .before .if3 .left), eq-eqb (c .before .before .before .before .before .before .before .before .before .before .before .before .before .before .before .args .rule .next) (c .before .before .before .before .before .before .before .before .before .before .before .before .before .before .before .args .lead .next) (c .before .before .before .if4 .left)))
 
 pub rule-runs-spec : {M : Type 1} → statement M
 rule-runs-spec =

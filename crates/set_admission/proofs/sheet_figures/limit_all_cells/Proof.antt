@@ -1,4 +1,5 @@
 -- `set_admission::limit_all_cells` meets its contract. Assumes nothing.
+use native.Mathlib.Omega.{arith}
 use borrow.Author.Tests.{le-leb, lt-leb}
 use Rattle.refusal.specs.Answer.{and-then}
 use Rattle.demand.specs.Contract.{must}
@@ -14,7 +15,7 @@ enum-known-answer-2 c = search needs
 
 returns : tie.Need-returns
 unfolding and-then must
-returns c = simp (c .before .before .before .answer2 .given .1, lt-leb _ _ (c .if1 .taken))
+returns c = let known = c .before .before .before .answer2 .given in simp (known .1, lt-leb (known .0 .0 .cells) 4096 (omega (arith, c .if1 .taken)))
 
 returns-2 : tie.Need-returns-2
 unfolding and-then must
@@ -22,7 +23,7 @@ returns-2 c = rw (c .before .answer .given .1)
 
 returns-3 : tie.Need-returns-3
 unfolding and-then must
-returns-3 c = simp (c .before .before .before .answer2 .given .1, le-leb _ _ (c .if1 .left))
+returns-3 c = let known = c .before .before .before .answer2 .given in simp (known .1, le-leb (known .0 .0 .cells) 4096 (omega (arith, c .if1 .left)))
 
 pub limit-all-cells-spec : {M : Type 1} → statement M
 limit-all-cells-spec =
