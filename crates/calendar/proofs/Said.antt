@@ -1,0 +1,109 @@
+-- What the recursions of `Search` say, in terms of each tick: the first and the last that is up, the nearest, "the earlier of two equally near", and
+-- none exactly where no tick is up.
+use mathlib.Core.Path.{_≡_, refl, sym, ap, _∙_, subst}
+use mathlib.Core.Bool.{Bool, true, false, cond}
+use Prim.Native.Nat.{ℕ, zero, suc, _+_, _≤_, _<_}
+use native.Mathlib.Nat.{le-trans, le-refl, lt-of-lt-of-le, le-of-lt}
+use native.Mathlib.Omega.{arith}
+use lib.Dec.{ltb}
+use borrow.Author.Tests.{ltb-true, ltb-false}
+use Rattle.calendar.specs.Search.{earliest, latest, apart, nearer, nearest}
+use Rattle.calendar.specs.declared.UpTick.{UpTick}
+use Rattle.calendar.specs.declared.UpTick.the-variants.{At, None}
+use Rattle.calendar.proofs.Digits.{clash}
+
+-- ---- the first
+
+unfoldable pub First : (ℕ → Bool) → ℕ → ℕ → UpTick → Type 0
+First f a n (At p) = (a ≤ p) × (p < a + n) × (f p ≡ true) × ((q : ℕ) → a ≤ q → q < p → f q ≡ false)
+First f a n None = (q : ℕ) → a ≤ q → q < a + n → f q ≡ false
+
+from-next : (f : ℕ → Bool) (a q : ℕ) → f a ≡ false → a ≤ q → (suc a ≤ q → f q ≡ false) → f q ≡ false
+from-next f a q e l next = go (ltb a q) refl
+  where
+    go : (t : Bool) → ltb a q ≡ t → f q ≡ false
+    go true t = next (ltb-true a q t)
+    go false t = ap f (let s : q ≡ a = omega (arith, ltb-false a q t) in s) ∙ e
+
+pub earliest-said : (f : ℕ → Bool) (a n : ℕ) → First f a n (earliest f a n)
+unfolding earliest First
+earliest-said f a zero = λ q l m. absurd (omega arith)
+earliest-said f a (suc n) = go (f a) refl (earliest f (suc a) n) (earliest-said f (suc a) n)
+  where
+    go : (b : Bool) → f a ≡ b → (o : UpTick) → First f (suc a) n o → First f a (suc n) (cond b (At a) o)
+    go true e o w = (omega arith, omega arith, e, λ q l m. absurd (omega arith))
+    go false e (At p) w = (omega (arith, w .0), omega (arith, w .1), w .2, λ q l m. from-next f a q e l (λ i. w .3 q i m))
+    go false e None w = λ q l m. from-next f a q e l (λ i. w q i (omega arith))
+
+-- ---- the last
+
+unfoldable pub Last : (ℕ → Bool) → ℕ → ℕ → UpTick → Type 0
+Last f a n (At p) = (a ≤ p) × (p < a + n) × (f p ≡ true) × ((q : ℕ) → p < q → q < a + n → f q ≡ false)
+Last f a n None = (q : ℕ) → a ≤ q → q < a + n → f q ≡ false
+
+before-last : (f : ℕ → Bool) (e q : ℕ) → f e ≡ false → q < suc e → (q < e → f q ≡ false) → f q ≡ false
+before-last f e q z l next = go (ltb q e) refl
+  where
+    go : (t : Bool) → ltb q e ≡ t → f q ≡ false
+    go true t = next (ltb-true q e t)
+    go false t = ap f (let s : q ≡ e = omega (arith, ltb-false q e t) in s) ∙ z
+
+pub latest-said : (f : ℕ → Bool) (a n : ℕ) → Last f a n (latest f a n)
+unfolding latest Last
+latest-said f a zero = λ q l m. absurd (omega arith)
+latest-said f a (suc n) = go (f (a + n)) refl (latest f a n) (latest-said f a n)
+  where
+    go : (b : Bool) → f (a + n) ≡ b → (o : UpTick) → Last f a n o → Last f a (suc n) (cond b (At (a + n)) o)
+    go true e o w = (omega arith, omega arith, e, λ q l m. absurd (omega arith))
+    go false e (At p) w = (w .0, omega (arith, w .1), w .2, λ q l m. before-last f (a + n) q e (omega arith) (λ i. w .3 q l i))
+    go false e None w = λ q l m. before-last f (a + n) q e (omega arith) (λ i. w q l i)
+
+-- ---- the nearest
+
+unfoldable pub Near : (ℕ → Bool) → ℕ → ℕ → UpTick → Type 0
+Near f t n (At p) = (p < n) × (f p ≡ true) × ((q : ℕ) → q < n → f q ≡ true → apart t p ≤ apart t q) × ((q : ℕ) → q < p → f q ≡ true → apart t p < apart t q)
+Near f t n None = (q : ℕ) → q < n → f q ≡ false
+
+-- of the ticks 0 .. n the last, or one before it
+last-or : (n q : ℕ) (A : Type 0) → q < suc n → (q ≡ n → A) → (q < n → A) → A
+last-or n q A l here before = go (ltb q n) refl
+  where
+    go : (t : Bool) → ltb q n ≡ t → A
+    go true t = before (ltb-true q n t)
+    go false t = here (let s : q ≡ n = omega (arith, ltb-false q n t) in s)
+
+pub nearest-said : (f : ℕ → Bool) (t n : ℕ) → Near f t n (nearest f t n)
+unfolding nearest nearer Near
+nearest-said f t zero = λ q l. absurd (omega arith)
+nearest-said f t (suc n) = go (f n) refl (nearest f t n) (nearest-said f t n)
+  where
+    two : (p : ℕ) → Near f t n (At p) → f n ≡ true → (b : Bool) → ltb (apart t n) (apart t p) ≡ b → Near f t (suc n) (cond b (At n) (At p))
+    two p w e true c = (
+      omega arith,
+      e,
+      λ q l u. last-or n q (apart t n ≤ apart t q) l (λ s. subst (λ (x : ℕ). apart t n ≤ apart t x) (sym s) (le-refl (apart t n)))
+          (λ i. le-trans (le-of-lt (ltb-true (apart t n) (apart t p) c)) (w .2 q i u)),
+      λ q i u. lt-of-lt-of-le (ltb-true (apart t n) (apart t p) c) (w .2 q i u),
+    )
+    two p w e false c = (
+      omega (arith, w .0),
+      w .1,
+      λ q l u. last-or n q (apart t p ≤ apart t q) l (λ s. subst (λ (x : ℕ). apart t p ≤ apart t x) (sym s) (ltb-false (apart t n) (apart t p) c)) (λ i. w .2 q i u),
+      w .3,
+    )
+
+    go : (b : Bool) → f n ≡ b → (o : UpTick) → Near f t n o → Near f t (suc n) (nearer t o (cond b (At n) None))
+    go false e (At p) w = (
+      omega (arith, w .0),
+      w .1,
+      λ q l u. last-or n q (apart t p ≤ apart t q) l (λ s. absurd (clash (sym u ∙ ap f s ∙ e))) (λ i. w .2 q i u),
+      w .3,
+    )
+    go false e None w = λ q l. last-or n q (f q ≡ false) l (λ s. ap f s ∙ e) (λ i. w q i)
+    go true e (At p) w = two p w e (ltb (apart t n) (apart t p)) refl
+    go true e None w = (
+      omega arith,
+      e,
+      λ q l u. last-or n q (apart t n ≤ apart t q) l (λ s. subst (λ (x : ℕ). apart t n ≤ apart t x) (sym s) (le-refl (apart t n))) (λ i. absurd (clash (sym u ∙ w q i))),
+      λ q i u. absurd (clash (sym u ∙ w q i)),
+    )
