@@ -1,0 +1,4 @@
+pub mod Searching
+pub mod Runs
+pub mod Flags
+pub mod Nearness

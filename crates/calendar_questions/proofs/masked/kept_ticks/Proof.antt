@@ -1,0 +1,15 @@
+-- `calendar_questions::masked::kept_ticks` meets its contract.
+use borrow.Author.Needs.{needs}
+use Rattle.calendar.specs.Calendar.{kept}
+use Rattle.calendar_questions.proofs.masked.kept_ticks.Statement.{statement}
+use Rattle.calendar_questions.proofs.masked.kept_ticks.Tie as tie
+
+mul-result : tie.Need-mul-result
+mul-result c = search needs
+
+returns : tie.Need-returns
+unfolding kept
+returns c = search needs
+
+pub kept-ticks-spec : {M : Type 1} → statement M
+kept-ticks-spec = tie.close (tie.spec mul-result returns)

@@ -1,0 +1,84 @@
+-- `calendar_questions::nearing::nearest` meets its contract: the nearest is the last up to t, or the first after it.
+use mathlib.Core.Path.{_≡_, sym, ap, ap₂, _∙_}
+use Prim.Native.Nat.{ℕ, suc, _+_, _-_}
+use native.Mathlib.Omega.{arith}
+use Rattle.calendar.specs.declared.UpTick.{UpTick}
+use Rattle.calendar.specs.Search.{earliest, latest, nearer}
+use Rattle.calendar.specs.Calendar.{kept, up-at, nearest-up}
+use Rattle.calendar_questions.proofs.Nearness.{up-to, both-sides, last-before}
+use borrow.Author.Needs.{needs}
+use Rattle.calendar_questions.proofs.nearing.nearest.Statement.{statement}
+use Rattle.calendar_questions.proofs.nearing.nearest.Tie as tie
+use Rattle.calendar_questions.proofs.nearing.nearest.Reads as reads
+use Rattle.calendar_questions.proofs.nearing.nearest.Lts as lts
+use Rattle.calendar_questions.proofs.masked.kept_ticks.Reads as kept-ticks-reads
+use Rattle.calendar_questions.proofs.nearing.nearer_after.Reads as nearer-after-reads
+use Rattle.calendar_questions.proofs.seeking.earliest.Reads as earliest-reads
+use Rattle.calendar_questions.proofs.seeking.latest.Reads as latest-reads
+
+kept-ticks-requires : tie.Need-kept-ticks-requires
+kept-ticks-requires c κs = search needs
+
+latest-requires : tie.Need-latest-requires
+latest-requires c κs = search needs
+
+returns : tie.Need-returns
+unfolding nearest-up
+returns c =
+    let start = c .before .before .before .before in
+    let f = up-at (start .args .words .now) (start .args .k) in
+    let end = kept (start .args .words .now) in
+    c .latest .ensures ∙ ap (latest f 0) (let e : c .before .before .kept-ticks .result - 0 ≡ end = omega arith in e)
+    ∙ sym (up-to f (start .args .t) end (omega arith))
+
+add-latest : tie.Need-add-latest
+add-latest c = search needs
+
+latest-requires-2 : tie.Need-latest-requires-2
+latest-requires-2 c κs = search needs
+
+enum-known-last : tie.Need-enum-known-last
+enum-known-last c = search needs
+
+nearer-after-requires : tie.Need-nearer-after-requires
+nearer-after-requires c κs =
+    let start = c .before .before .before .before .before .before .before in
+    let f = up-at (start .args .words .now) (start .args .k) in
+    let t = start .args .t in
+    let e : t + 1 - 0 ≡ suc t = omega arith in (
+      start .pre,
+      last-before f t (c .before .last2 .given .0 .0) (sym (c .before .before .before .latest2 .ensures ∙ ap (latest f 0) e) ∙ c .before .last2 .given .1),
+      omega arith,
+    )
+
+enum-told : tie.Need-enum-told
+enum-told c = search needs
+
+add-earliest : tie.Need-add-earliest
+add-earliest c = search needs
+
+earliest-requires : tie.Need-earliest-requires
+earliest-requires c κs = search needs
+
+returns-2 : tie.Need-returns-2
+returns-2 c = ?
+
+returns-3 : tie.Need-returns-3
+returns-3 c = ?
+
+pub nearest-spec : {M : Type 1} → statement M
+nearest-spec =
+    tie.close
+    (tie.spec
+    kept-ticks-requires
+    latest-requires
+    returns
+    add-latest
+    latest-requires-2
+    enum-known-last
+    nearer-after-requires
+    enum-told
+    add-earliest
+    earliest-requires
+    returns-2
+    returns-3)
