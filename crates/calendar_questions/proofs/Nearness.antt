@@ -99,8 +99,11 @@ after f t (suc m) =
     ∙ farther f t m (latest f 0 (suc t)) (earliest f (suc t) m) (f (suc t + m)) (earliest-said f (suc t) m)
     ∙ ap (nearer t (latest f 0 (suc t))) (sym (earliest-more f (suc t) m))
 
-pub both-sides : (f : ℕ → Bool) (t end : ℕ) → t < end → nearest f t end ≡ nearer t (latest f 0 (suc t)) (earliest f (suc t) (end - suc t))
-both-sides f t end h = ap (nearest f t) (let e : end ≡ suc t + (end - suc t) = omega arith in e) ∙ after f t (end - suc t)
+-- as `o` is the last up to t
+pub both-sides : (f : ℕ → Bool) (t end : ℕ) (o : UpTick) → t < end → latest f 0 (suc t) ≡ o → nearer t o (earliest f (suc t) (end - suc t)) ≡ nearest f t end
+both-sides f t end o h e =
+    ap (λ (x : UpTick). nearer t x (earliest f (suc t) (end - suc t))) (sym e) ∙ sym (after f t (end - suc t))
+    ∙ ap (nearest f t) (let s : suc t + (end - suc t) ≡ end = omega arith in s)
 
 pub last-before : (f : ℕ → Bool) (t p : ℕ) → latest f 0 (suc t) ≡ At p → p ≤ t
 unfolding Last

@@ -5,10 +5,10 @@ ghost use lib.Count.{trailingZeros, leadingZeros};
 ghost use Rattle.calendar.specs.Search.{earliest, latest};
 ghost use Rattle.calendar.specs.Calendar.{kept, up-at};
 ghost use Rattle.calendar_questions.specs.Parts.{Quiet};
-use calendar::UpTick;
 use crate::masked::piece;
 use crate::masked::piece_before;
 use crate::masked::shown;
+use calendar::UpTick;
 
 // The place of the lowest bit set.
 fn lowest(word: u64) -> u64

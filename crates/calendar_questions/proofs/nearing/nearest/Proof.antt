@@ -2,7 +2,7 @@
 use mathlib.Core.Path.{_≡_, sym, ap, ap₂, _∙_}
 use Prim.Native.Nat.{ℕ, suc, _+_, _-_}
 use native.Mathlib.Omega.{arith}
-use Rattle.calendar.specs.declared.UpTick.{UpTick}
+use Rattle.calendar.specs.declared.UpTick.the-variants.{At, None}
 use Rattle.calendar.specs.Search.{earliest, latest, nearer}
 use Rattle.calendar.specs.Calendar.{kept, up-at, nearest-up}
 use Rattle.calendar_questions.proofs.Nearness.{up-to, both-sides, last-before}
@@ -15,6 +15,14 @@ use Rattle.calendar_questions.proofs.masked.kept_ticks.Reads as kept-ti
 use Rattle.calendar_questions.proofs.nearing.nearer_after.Reads as nearer-after-reads
 use Rattle.calendar_questions.proofs.seeking.earliest.Reads as earliest-reads
 use Rattle.calendar_questions.proofs.seeking.latest.Reads as latest-reads
+
+-- what was sought first: the last up to t
+sought : (c : lts.After-latest2 (kept-ticks-reads.Asked, kept-ticks-reads.Learnt, latest-reads.Asked, latest-reads.Learnt, nearer-after-reads.Asked, nearer-after-reads.Learnt, earliest-reads.Asked, earliest-reads.Learnt) reads.Pre reads.Post)
+    → let start = c .before .before .before .before in
+    latest (up-at (start .args .words .now) (start .args .k)) 0 (suc (start .args .t)) ≡ c .latest2 .result
+sought c =
+    let start = c .before .before .before .before in
+    sym (c .latest2 .ensures ∙ ap (latest (up-at (start .args .words .now) (start .args .k)) 0) (let e : start .args .t + 1 - 0 ≡ suc (start .args .t) = omega arith in e))
 
 kept-ticks-requires : tie.Need-kept-ticks-requires
 kept-ticks-requires c κs = search needs
@@ -42,12 +50,9 @@ enum-known-last c = search needs
 
 nearer-after-requires : tie.Need-nearer-after-requires
 nearer-after-requires c κs =
-    let start = c .before .before .before .before .before .before .before in
-    let f = up-at (start .args .words .now) (start .args .k) in
-    let t = start .args .t in
-    let e : t + 1 - 0 ≡ suc t = omega arith in (
+    let start = c .before .before .before .before .before .before .before in (
       start .pre,
-      last-before f t (c .before .last2 .given .0 .0) (sym (c .before .before .before .latest2 .ensures ∙ ap (latest f 0) e) ∙ c .before .last2 .given .1),
+      last-before (up-at (start .args .words .now) (start .args .k)) (start .args .t) (c .before .last .given .0 .0) (sought (c .before .before .before) ∙ c .before .last .given .1),
       omega arith,
     )
 
@@ -61,10 +66,25 @@ earliest-requires : tie.Need-earliest-requires
 earliest-requires c κs = search needs
 
 returns-2 : tie.Need-returns-2
-returns-2 c = ?
+unfolding nearest-up
+returns-2 c =
+    let start = c .before .before .before .before .before .before .before .before in
+    let f = up-at (start .args .words .now) (start .args .k) in
+    c .nearer-after .ensures
+    ∙ both-sides f (start .args .t) (kept (start .args .words .now)) (At (c .before .before .last .given .0 .0)) (omega arith)
+    (sought (c .before .before .before .before) ∙ c .before .before .last .given .1)
 
 returns-3 : tie.Need-returns-3
-returns-3 c = ?
+unfolding nearest-up nearer
+returns-3 c =
+    let start = c .before .before .before .before .before .before .before in
+    let f = up-at (start .args .words .now) (start .args .k) in
+    let t = start .args .t in
+    let end = kept (start .args .words .now) in
+    c .earliest .ensures
+    ∙ ap₂ (λ (x y : ℕ). earliest f x (y - x)) (let s : t + 1 ≡ suc t = omega arith in s)
+    (let s : c .before .before .before .before .before .kept-ticks .result ≡ end = omega arith in s)
+    ∙ both-sides f t end None (omega arith) (sought (c .before .before .before) ∙ c .before .enum-told .given .1)
 
 pub nearest-spec : {M : Type 1} → statement M
 nearest-spec =
