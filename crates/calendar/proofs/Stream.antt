@@ -49,7 +49,7 @@ unfolding cleared
 rest-cleared ws =
     let n = 8 * (length ws / 8) in drop-each (cleared-word n) 0 ws n (λ j w l. cleared-out n j w (omega arith))
 
-up-zero : (k : ℕ) → up k 0 ≡ false
+pub up-zero : (k : ℕ) → up k 0 ≡ false
 up-zero k = up-above 0 k (pow-pos k)
 
 pub up-cleared : (ws : List ℕ) (k q : ℕ) → k < 8 → q < kept ws → up-at (cleared ws) k q ≡ false
