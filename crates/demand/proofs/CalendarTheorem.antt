@@ -53,6 +53,11 @@ module _ (Stands : Invariant) (d : ℕ) (flags report : List ℕ) (s : State) (h
       let before = chain-next c .0 in
       (omega arith, length-take-le (suc n) flags below)
 
+  pub chain-fits : {n : ℕ} {s′ : State} {history′ cells′ words : List ℕ} → Chain Stands d flags report s history cells n s′ history′ cells′ words
+      → n ≤ length flags
+  chain-fits none = omega arith
+  chain-fits (more k c below room flag-is own lent report-is e w) = below
+
 module _ (Stands : Invariant) where
   step-next : (s : State) (k : Step) (a : Answer Taken) → Stepped Stands s k a
       → ((state-after s a) .next ≡ length (flags-of a (k .flag)) + s .next) × ((t : ℕ) → ticks-after t a ≡ length (flags-of a (k .flag)) + t)
