@@ -1,5 +1,5 @@
 -- Words stored one after another, from the front, and what `each` says of them.
-use mathlib.Core.Path.{_≡_, refl, sym, ap, _∙_}
+use mathlib.Core.Path.{_≡_, refl, sym, ap, ap₂, _∙_}
 use mathlib.Core.Bool.{Bool, true, false, cond}
 use mathlib.Core.List.{List, [], _∷_}
 use Prim.{⊥}
@@ -7,7 +7,7 @@ use Prim.Native.Nat.{ℕ, zero, suc, _+_, _/_, _%_, _≤_, _<_}
 use native.Mathlib.Nat.{add-zero, le-of-suc-le-suc}
 use native.Mathlib.Omega.{arith}
 use lib.Dec.{ltb, eqb}
-use lib.ListN.{length, getD, set, length-set}
+use lib.ListN.{length, getD, drop, set, length-set}
 use lib.Seq.{getD-set-same, getD-set-other, ext-getD}
 use borrow.Author.Tests.{lt-ltb, le-ltb, eq-eqb, ne-eqb, eqb-true, eqb-false, ltb-true, ltb-false}
 use Rattle.calendar.specs.Calendar.{each, cleared-word, marked-word, flagged}
@@ -23,6 +23,14 @@ getD-each f j [] i h = absurd (omega arith)
 getD-each f j (w ∷ ws) zero h = ap (λ (x : ℕ). f x w) (sym (add-zero j))
 getD-each f j (w ∷ ws) (suc i) h =
     getD-each f (suc j) ws i (le-of-suc-le-suc h) ∙ ap (λ (x : ℕ). f x (getD ws i 0)) (let e : suc j + i ≡ j + suc i = omega arith in e)
+
+-- from place n on nothing changes, if f changes nothing there
+pub drop-each : (f : ℕ → ℕ → ℕ) (j : ℕ) (ws : List ℕ) (n : ℕ) → ((i w : ℕ) → j + n ≤ i → f i w ≡ w) → drop n (each f j ws) ≡ drop n ws
+unfolding each
+drop-each f j [] n h = refl
+drop-each f j (w ∷ ws) zero h =
+    ap₂ (λ (x : ℕ) (xs : List ℕ). x ∷ xs) (h j w (omega arith)) (drop-each f (suc j) ws zero (λ i v l. h i v (omega arith)))
+drop-each f j (w ∷ ws) (suc n) h = drop-each f (suc j) ws n (λ i v l. h i v (omega arith))
 
 -- The first n words of ws are those of `each f 0 ws₀`, the others are those of ws₀.
 pub record Done (f : ℕ → ℕ → ℕ) (ws₀ : List ℕ) (n : ℕ) (ws : List ℕ) : Type 0 where

@@ -60,7 +60,7 @@ pub fn fill(words: &mut [u64], tick: u64, bytes: &[u8])
     let mut next = tick;
     let mut at = 0;
     while at < bytes.len() && next < end {
-        mark(words, next, bytes[at]);
+        mark_run(words, next, bytes[at]);
         next += 1;
         at += 1;
     }
