@@ -7,10 +7,11 @@ use native.Mathlib.Omega.{arith}
 use lib.Dec.{ltb}
 use borrow.Author.Tests.{lt-ltb, le-ltb, ltb-true, ltb-false}
 use Rattle.calendar.specs.Search.{earliest, latest, apart, nearer, nearest}
+use Rattle.calendar.specs.Said.{First, Last}
 use Rattle.calendar.specs.declared.UpTick.{UpTick}
 use Rattle.calendar.specs.declared.UpTick.the-variants.{At, None}
 use Rattle.calendar.proofs.Digits.{clash}
-use Rattle.calendar.proofs.Said.{First, earliest-said, Last, latest-said}
+use Rattle.calendar.proofs.Said.{earliest-said, latest-said}
 use Rattle.calendar_questions.specs.Parts.{Quiet}
 use Rattle.calendar_questions.proofs.Searching.{earliest-at}
 

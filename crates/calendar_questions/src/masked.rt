@@ -4,13 +4,6 @@ ghost use Prim.Native.Nat.{_+_, _-_, _/_, _%_, _^_, _<_, _≤_, min};
 ghost use Rattle.calendar.specs.Calendar.{kept, run-word, up-at};
 ghost use Rattle.calendar_questions.specs.Parts.{Shown};
 
-// How many ticks the words keep: 64 for each full group of eight.
-pub fn kept_ticks(words: &[u64]) -> u64
-    ensures { λ r. ⌜ r ≡ kept (now (words .entry)) ⌝ }
-{
-    64 * (words.len() / 8) as u64
-}
-
 // The `count` bits of a word from `bit` on, as the low bits of a number.
 fn masked(word: u64, bit: u64, count: u64) -> u64
     requires { ⌜ (0 < count) × (bit + count ≤ 64) ⌝ }

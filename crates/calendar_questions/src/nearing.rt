@@ -3,10 +3,10 @@ ghost use mathlib.Core.Path.{_≡_};
 ghost use Prim.Native.Nat.{suc, _+_, _-_, _<_, _≤_, min};
 ghost use Rattle.calendar.specs.Search.{earliest, nearer};
 ghost use Rattle.calendar.specs.Calendar.{kept, up-at, nearest-up};
-use crate::masked::kept_ticks;
 use crate::seeking::earliest;
 use crate::seeking::latest;
 use calendar::UpTick;
+use calendar_marks::kept_ticks;
 
 // The first tick after t that is not nearer to it than p, cut at the end.
 fn nearer_end(t: u64, p: u64, end: u64) -> u64

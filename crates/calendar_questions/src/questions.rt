@@ -3,12 +3,12 @@ ghost use mathlib.Core.Path.{_≡_};
 ghost use Prim.Native.Nat.{suc, min};
 ghost use Rattle.calendar.specs.Calendar.{kept, ups, first-up, last-up, nearest-up};
 ghost use Rattle.calendar_questions.specs.Answers.{of-flag, count-answer, tick-answer};
-use crate::masked::kept_ticks;
 use crate::nearing::nearest;
 use crate::seeking::earliest;
 use crate::seeking::latest;
 use crate::tallying::tally;
 use calendar::UpTick;
+use calendar_marks::kept_ticks;
 use refusal::Refusal;
 
 // A number of ups, or why there is none.

@@ -10,7 +10,7 @@ use Rattle.calendar_questions.proofs.nearing.nearer_after.Statement.{st
 use Rattle.calendar_questions.proofs.nearing.nearer_after.Tie as tie
 use Rattle.calendar_questions.proofs.nearing.nearer_after.Reads as reads
 use Rattle.calendar_questions.proofs.nearing.nearer_after.Lts as lts
-use Rattle.calendar_questions.proofs.masked.kept_ticks.Reads as kept-ticks-reads
+use Rattle.calendar_marks.proofs.kept_ticks.Reads as kept-ticks-reads
 use Rattle.calendar_questions.proofs.nearing.nearer_end.Reads as nearer-end-reads
 use Rattle.calendar_questions.proofs.seeking.earliest.Reads as earliest-reads
 

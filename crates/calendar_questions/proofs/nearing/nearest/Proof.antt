@@ -11,7 +11,7 @@ use Rattle.calendar_questions.proofs.nearing.nearest.Statement.{stateme
 use Rattle.calendar_questions.proofs.nearing.nearest.Tie as tie
 use Rattle.calendar_questions.proofs.nearing.nearest.Reads as reads
 use Rattle.calendar_questions.proofs.nearing.nearest.Lts as lts
-use Rattle.calendar_questions.proofs.masked.kept_ticks.Reads as kept-ticks-reads
+use Rattle.calendar_marks.proofs.kept_ticks.Reads as kept-ticks-reads
 use Rattle.calendar_questions.proofs.nearing.nearer_after.Reads as nearer-after-reads
 use Rattle.calendar_questions.proofs.seeking.earliest.Reads as earliest-reads
 use Rattle.calendar_questions.proofs.seeking.latest.Reads as latest-reads
