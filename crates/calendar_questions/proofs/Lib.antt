@@ -1,3 +1,4 @@
+pub mod Digits
 pub mod Searching
 pub mod Runs
 pub mod Flags

@@ -1,6 +1,6 @@
 -- The nearest tick is the nearer of the last up to t and the first after it, and the first after it need only be sought while it can be nearer.
 use mathlib.Core.Path.{_≡_, refl, sym, ap, _∙_, subst}
-use mathlib.Core.Bool.{Bool, true, false, cond}
+use mathlib.Core.Bool.{Bool, true, false, cond, false≢true}
 use Prim.Native.Nat.{ℕ, zero, suc, _+_, _-_, _≤_, _<_, min}
 use native.Mathlib.Nat.{add-zero, add-suc, zero-add, le-trans}
 use native.Mathlib.Omega.{arith}
@@ -10,7 +10,6 @@ use Rattle.calendar.specs.Search.{earliest, latest, apart, nearer, nearest}
 use Rattle.calendar.specs.Said.{First, Last}
 use Rattle.calendar.specs.declared.UpTick.{UpTick}
 use Rattle.calendar.specs.declared.UpTick.the-variants.{At, None}
-use Rattle.calendar.proofs.Digits.{clash}
 use Rattle.calendar.proofs.Said.{earliest-said, latest-said}
 use Rattle.calendar_questions.specs.Parts.{Quiet}
 use Rattle.calendar_questions.proofs.Searching.{earliest-at}
@@ -148,11 +147,10 @@ module _ (f : ℕ → Bool) (t p end : ℕ) (before : p ≤ t) where
     where
       go : First f (suc t) (cut - suc t) None → (o : UpTick) → First f (suc t) (end - suc t) o → nearer t (At p) o ≡ At p
       go quiet None w = refl
-      go quiet (At q) w =
-          let low = w .0 in
-          let high = w .1 in
-          at (ltb q (t + (t - p))) refl low high (w .2)
+      go quiet (At q) w = at (ltb q (t + (t - p))) refl (w .0) (w .1) (w .2)
         where
           at : (x : Bool) → ltb q (t + (t - p)) ≡ x → suc t ≤ q → q < suc t + (end - suc t) → f q ≡ true → nearer t (At p) (At q) ≡ At p
-          at true x low high u = absurd (clash (sym u ∙ quiet q low (let l : q < t + (t - p) = ltb-true q (t + (t - p)) x in omega arith)))
+          at true x low high u =
+              let l : q < t + (t - p) = ltb-true q (t + (t - p)) x in
+              absurd (false≢true (sym (quiet q low (omega arith)) ∙ u))
           at false x low high u = nearer-first t p q (as-far t p q before (ltb-false q (t + (t - p)) x))

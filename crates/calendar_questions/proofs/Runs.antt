@@ -8,7 +8,7 @@ use lib.ListN.{getD}
 use lib.Pow.{pow-pos}
 use Rattle.rule.specs.Meaning.{up}
 use Rattle.calendar.specs.Calendar.{run-word, up-at}
-use Rattle.calendar.proofs.Digits.{up-shr, up-mod}
+use Rattle.calendar_questions.proofs.Digits.{up-shr, up-mod}
 use Rattle.calendar_questions.specs.Parts.{Shown, Quiet}
 use Rattle.calendar_questions.proofs.Searching.{quiet-shown}
 

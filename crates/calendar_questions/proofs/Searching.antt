@@ -1,19 +1,21 @@
 -- Laws of counting and seeking: over two parts of a range, and over a piece that a masked word shows.
 use mathlib.Core.Path.{_≡_, refl, sym, ap, ap₂, _∙_, subst}
-use mathlib.Core.Bool.{Bool, true, false, cond}
+use mathlib.Core.Bool.{Bool, true, false, cond, false≢true}
 use Prim.Native.Nat.{ℕ, zero, suc, _+_, _-_, _*_, _/_, _%_, _^_, _≤_, _<_}
 use native.Mathlib.Nat.{add-zero, zero-add, add-suc, suc-add, zero-lt-suc, add-assoc, lt-of-lt-of-le, lt-of-not-le}
 use native.Mathlib.Omega.{arith}
 use lib.Arith.{lt-one}
 use lib.Dec.{ltb}
-use lib.Pow.{pow-pos, pow-mono}
+use lib.Pow.{pow-mono}
 use lib.Count.{ones, ones-step, leadingZeros, trailingZeros}
 use borrow.Author.Tests.{ltb-true, ltb-false}
 use Rattle.rule.specs.Meaning.{up}
 use Rattle.calendar.specs.Search.{one-if, tally, earliest, latest}
 use Rattle.calendar.specs.declared.UpTick.the-variants.{At}
-use Rattle.calendar.proofs.Digits.{up-half, lowest, half-lt, trailing-up, trailing-below, leading-up, up-above, clash}
+use Rattle.calendar.proofs.Marking.{up-above}
+use Rattle.calendar.proofs.Stream.{up-zero}
 use Rattle.calendar_questions.specs.Parts.{Shown, Quiet}
+use Rattle.calendar_questions.proofs.Digits.{up-half, lowest, half-lt, trailing-up, trailing-below, leading-up}
 
 -- ---- ticks of which none is up
 
@@ -137,7 +139,7 @@ module _ (f : ℕ → Bool) (q d m : ℕ) (s : Shown f q d m) where
   -- a bit that is set lies in the piece, and its tick is up
   inside : (j : ℕ) → up j m ≡ true → j < d
   unfolding Shown
-  inside j u = lt-of-not-le (λ (g : d ≤ j). clash (sym u ∙ up-above m j (lt-of-lt-of-le (s .0) (pow-mono g))))
+  inside j u = lt-of-not-le (λ (g : d ≤ j). false≢true (sym (up-above m j (lt-of-lt-of-le (s .0) (pow-mono g))) ∙ u))
 
   up-inside : (j : ℕ) → up j m ≡ true → f (q + j) ≡ true
   unfolding Shown
@@ -145,7 +147,7 @@ module _ (f : ℕ → Bool) (q d m : ℕ) (s : Shown f q d m) where
 
   pub quiet-shown : m ≡ 0 → Quiet f q (q + d)
   unfolding Quiet
-  quiet-shown z p l h = up-shown p l h ∙ ap (up (p - q)) z ∙ up-above 0 (p - q) (pow-pos (p - q))
+  quiet-shown z p l h = up-shown p l h ∙ ap (up (p - q)) z ∙ up-zero (p - q)
 
   pub tally-turn : (e : ℕ) → q + d ≤ e → tally f q (e - q) ≡ ones m + tally f (q + d) (e - (q + d))
   unfolding Shown

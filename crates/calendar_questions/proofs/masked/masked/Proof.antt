@@ -2,7 +2,7 @@
 use Prim.Native.Nat.{_/_, _^_}
 use native.Mathlib.Omega.{arith}
 use borrow.Author.Needs.{needs}
-use Rattle.calendar.proofs.Digits.{mask-word}
+use Rattle.calendar_questions.proofs.Digits.{mask-word}
 use Rattle.calendar_questions.proofs.masked.masked.Statement.{statement}
 use Rattle.calendar_questions.proofs.masked.masked.Tie as tie
 
