@@ -21,10 +21,7 @@ sought : (c : lts.After-earliest (kept-ticks-reads.Asked, kept-ticks-reads.Learn
     c .earliest .result ≡ earliest (up-at (start .args .words .now) (start .args .k)) (suc t) (min (kept (start .args .words .now)) (t + (t - start .args .p)) - suc t)
 sought c =
     let start = c .before .before .before .before in
-    let t = start .args .t in
-    c .earliest .ensures
-    ∙ ap₂ (λ (x y : ℕ). earliest (up-at (start .args .words .now) (start .args .k)) x (y - x)) (let s : t + 1 ≡ suc t = omega arith in s)
-    (let s : c .before .nearer-end .result ≡ min (kept (start .args .words .now)) (t + (t - start .args .p)) = omega arith in s)
+    c .earliest .ensures ∙ ap₂ (λ (x y : ℕ). earliest (up-at (start .args .words .now) (start .args .k)) x (y - x)) (omega arith) (omega arith)
 
 kept-ticks-requires : tie.Need-kept-ticks-requires
 kept-ticks-requires c κs = search needs

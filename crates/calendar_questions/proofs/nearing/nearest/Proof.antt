@@ -22,7 +22,7 @@ sought : (c : lts.After-latest2 (kept-ticks-reads.Asked, kept-ticks-reads.Learnt
     latest (up-at (start .args .words .now) (start .args .k)) 0 (suc (start .args .t)) ≡ c .latest2 .result
 sought c =
     let start = c .before .before .before .before in
-    sym (c .latest2 .ensures ∙ ap (latest (up-at (start .args .words .now) (start .args .k)) 0) (let e : start .args .t + 1 - 0 ≡ suc (start .args .t) = omega arith in e))
+    sym (c .latest2 .ensures ∙ ap (latest (up-at (start .args .words .now) (start .args .k)) 0) (omega arith))
 
 kept-ticks-requires : tie.Need-kept-ticks-requires
 kept-ticks-requires c κs = search needs
@@ -35,9 +35,7 @@ unfolding nearest-up
 returns c =
     let start = c .before .before .before .before in
     let f = up-at (start .args .words .now) (start .args .k) in
-    let end = kept (start .args .words .now) in
-    c .latest .ensures ∙ ap (latest f 0) (let e : c .before .before .kept-ticks .result - 0 ≡ end = omega arith in e)
-    ∙ sym (up-to f (start .args .t) end (omega arith))
+    c .latest .ensures ∙ ap (latest f 0) (omega arith) ∙ sym (up-to f (start .args .t) (kept (start .args .words .now)) (omega arith))
 
 add-latest : tie.Need-add-latest
 add-latest c = search needs
@@ -79,12 +77,8 @@ unfolding nearest-up nearer
 returns-3 c =
     let start = c .before .before .before .before .before .before .before in
     let f = up-at (start .args .words .now) (start .args .k) in
-    let t = start .args .t in
-    let end = kept (start .args .words .now) in
-    c .earliest .ensures
-    ∙ ap₂ (λ (x y : ℕ). earliest f x (y - x)) (let s : t + 1 ≡ suc t = omega arith in s)
-    (let s : c .before .before .before .before .before .kept-ticks .result ≡ end = omega arith in s)
-    ∙ both-sides f t end None (omega arith) (sought (c .before .before .before) ∙ c .before .enum-told .given .1)
+    c .earliest .ensures ∙ ap₂ (λ (x y : ℕ). earliest f x (y - x)) (omega arith) (omega arith)
+    ∙ both-sides f (start .args .t) (kept (start .args .words .now)) None (omega arith) (sought (c .before .before .before) ∙ c .before .enum-told .given .1)
 
 pub nearest-spec : {M : Type 1} → statement M
 nearest-spec =
