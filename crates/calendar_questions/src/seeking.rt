@@ -72,6 +72,7 @@ pub fn earliest(words: &[u64], k: usize, first: u64, end: u64) -> UpTick
         }
         q += count;
         let bit = q % 64;
+        // a piece that ends inside a run ends the range
         if bit != 0 {
             return UpTick::None;
         }
@@ -94,6 +95,7 @@ pub fn latest(words: &[u64], k: usize, first: u64, end: u64) -> UpTick
             return UpTick::At(q + highest(word));
         }
         let bit = q % 64;
+        // a piece that begins inside a run begins the range
         if bit != 0 {
             return UpTick::None;
         }

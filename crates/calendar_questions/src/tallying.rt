@@ -41,6 +41,7 @@ pub fn tally(words: &[u64], k: usize, first: u64, end: u64) -> u64
         sum += ones(shown(words, k, q, count));
         q += count;
         let bit = q % 64;
+        // a piece that ends inside a run ends the range
         if bit != 0 {
             return sum;
         }

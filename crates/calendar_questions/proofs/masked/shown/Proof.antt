@@ -1,7 +1,6 @@
 -- `calendar_questions::masked::shown` meets its contract: by the law of masked words.
 use mathlib.Core.Path.{_∙_, ap}
 use Prim.Native.Nat.{ℕ, _/_, _%_, _^_}
-use native.Mathlib.Omega.{arith}
 use borrow.Author.Needs.{needs}
 use Rattle.calendar_questions.proofs.Runs.{run-shown, word-of-run}
 use Rattle.calendar_questions.proofs.masked.shown.Statement.{statement}
