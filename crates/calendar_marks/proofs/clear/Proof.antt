@@ -5,7 +5,8 @@ use Prim.Native.Nat.{_+_, _-_, _*_, _/_, _≤_}
 use native.Mathlib.Omega.{arith}
 use lib.ListN.{length}
 use Rattle.calendar.specs.Calendar.{cleared, cleared-word}
-use Rattle.calendar.proofs.Storing.{Done, done-none, done-more, done-all, cleared-in, cleared-out}
+use Rattle.calendar.proofs.Each.{cleared-in, cleared-out}
+use Rattle.calendar_marks.proofs.Storing.{Done, done-none, done-more, done-all}
 use borrow.Author.Needs.{needs}
 use Rattle.calendar_marks.proofs.clear.Statement.{statement}
 use Rattle.calendar_marks.proofs.clear.Tie as tie

@@ -5,7 +5,8 @@ use Prim.Native.Nat.{ℕ, _+_, _-_, _*_, _/_, _%_, _≤_}
 use native.Mathlib.Omega.{arith}
 use lib.ListN.{getD}
 use Rattle.calendar.specs.Calendar.{kept, marked-word, flagged}
-use Rattle.calendar.proofs.Storing.{Done, done-none, done-more, done-all, marked-in, marked-out}
+use Rattle.calendar.proofs.Each.{marked-in, marked-out}
+use Rattle.calendar_marks.proofs.Storing.{Done, done-none, done-more, done-all}
 use borrow.Author.Needs.{needs}
 use Rattle.calendar_marks.proofs.mark_run.Statement.{statement}
 use Rattle.calendar_marks.proofs.mark_run.Tie as tie
