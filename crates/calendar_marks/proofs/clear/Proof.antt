@@ -39,7 +39,8 @@ loop-again : tie.Need-loop-again Inv-loop μ-loop
 loop-again c =
     let turn = c .before .loop in (
       omega arith,
-      done-more _ (c .before .before .args .words .now) (turn .at) (turn .words) 0 (turn .inv .1) (omega arith) (sym (cleared-in _ (turn .at) _ (omega arith))) (turn .at + 1) refl,
+      done-more _ (c .before .before .args .words .now) (turn .at) (turn .words) 0 (turn .inv .1) (omega arith)
+          (sym (cleared-in _ (turn .at) _ (omega arith))) (turn .at + 1) refl,
     )
 
 same-length : tie.Need-same-length Inv-loop μ-loop

@@ -71,7 +71,8 @@ loop-again c =
     let e : at % 8 ≡ k = omega arith in (
       omega arith,
       done-more (marked-word t b) (start .args .words .now) at ws (c .with-flag .result) (c .before .before .before .loop .inv .1) (omega arith)
-          (c .with-flag .ensures ∙ ap (λ (x : ℕ). flagged (t % 64) b x (getD ws at 0)) (sym e) ∙ sym (marked-in t b at (getD ws at 0) (omega arith))) (8 * (t / 64) + (k + 1)) (omega arith),
+          (c .with-flag .ensures ∙ ap (λ (x : ℕ). flagged (t % 64) b x (getD ws at 0)) (sym e)
+          ∙ sym (marked-in t b at (getD ws at 0) (omega arith))) (8 * (t / 64) + (k + 1)) (omega arith),
     )
 
 same-length : tie.Need-same-length Inv-loop μ-loop
