@@ -1,4 +1,3 @@
-pub mod Digits
 pub mod Marking
 pub mod Each
 pub mod Stream

@@ -16,6 +16,12 @@ use Rattle.calendar.specs.Calendar.{with-bit, flagged}
 two-pos : zero < 2
 two-pos = lit< tt
 
+-- ---- no digit at or above the length
+
+pub up-above : (m j : ℕ) → m < 2 ^ j → up j m ≡ false
+unfolding up
+up-above m j h = ap (λ (x : ℕ). eqb (x % 2) 1) (div-eq-of-lt h)
+
 -- ---- `w | (1 << i)`
 
 -- `w & (1 << i)`

@@ -1,7 +1,7 @@
 -- What the recursions of `Search` say, in terms of each tick: the first and the last that is up, the nearest, "the earlier of two equally near", and
 -- none exactly where no tick is up.
 use mathlib.Core.Path.{_≡_, refl, sym, ap, _∙_, subst}
-use mathlib.Core.Bool.{Bool, true, false, cond}
+use mathlib.Core.Bool.{Bool, true, false, cond, false≢true}
 use mathlib.Core.List.{List}
 use Prim.Native.Nat.{ℕ, zero, suc, _+_, _≤_, _<_}
 use native.Mathlib.Nat.{le-trans, le-refl, lt-of-lt-of-le, le-of-lt}
@@ -13,7 +13,6 @@ use Rattle.calendar.specs.Said.{First, Last, Near, InRange, FirstUp, Las
 use Rattle.calendar.specs.Calendar.{kept, up-at, span, first-up, last-up, nearest-up}
 use Rattle.calendar.specs.declared.UpTick.{UpTick}
 use Rattle.calendar.specs.declared.UpTick.the-variants.{At, None}
-use Rattle.calendar.proofs.Digits.{clash}
 
 -- ---- the first
 
@@ -87,7 +86,7 @@ nearest-said f t (suc n) = go (f n) refl (nearest f t n) (nearest-said f t n)
     go false e (At p) w = (
       omega (arith, w .0),
       w .1,
-      λ q l u. last-or n q (apart t p ≤ apart t q) l (λ s. absurd (clash (sym u ∙ ap f s ∙ e))) (λ i. w .2 q i u),
+      λ q l u. last-or n q (apart t p ≤ apart t q) l (λ s. absurd (false≢true (sym e ∙ ap f (sym s) ∙ u))) (λ i. w .2 q i u),
       w .3,
     )
     go false e None w = λ q l. last-or n q (f q ≡ false) l (λ s. ap f s ∙ e) (λ i. w q i)
@@ -95,8 +94,8 @@ nearest-said f t (suc n) = go (f n) refl (nearest f t n) (nearest-said f t n)
     go true e None w = (
       omega arith,
       e,
-      λ q l u. last-or n q (apart t n ≤ apart t q) l (λ s. subst (λ (x : ℕ). apart t n ≤ apart t x) (sym s) (le-refl (apart t n))) (λ i. absurd (clash (sym u ∙ w q i))),
-      λ q i u. absurd (clash (sym u ∙ w q i)),
+      λ q l u. last-or n q (apart t n ≤ apart t q) l (λ s. subst (λ (x : ℕ). apart t n ≤ apart t x) (sym s) (le-refl (apart t n))) (λ i. absurd (false≢true (sym (w q i) ∙ u))),
+      λ q i u. absurd (false≢true (sym (w q i) ∙ u)),
     )
 
 -- ---- of the kept ticks of a calendar

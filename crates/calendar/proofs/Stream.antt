@@ -12,8 +12,7 @@ use lib.Pow.{pow-pos}
 use borrow.Author.Tests.{lt-ltb, le-ltb, ltb-true, ltb-false, eqb-true, eqb-false}
 use Rattle.rule.specs.Meaning.{up}
 use Rattle.calendar.specs.Calendar.{kept, run-word, up-at, each, cleared-word, cleared, flagged, marked-word, marked, filled}
-use Rattle.calendar.proofs.Digits.{up-above}
-use Rattle.calendar.proofs.Marking.{flagged-here, flagged-other}
+use Rattle.calendar.proofs.Marking.{up-above, flagged-here, flagged-other}
 use Rattle.calendar.proofs.Each.{length-each, getD-each, drop-each, cleared-in, cleared-out, marked-in, marked-out}
 
 -- ---- the word of a kept tick

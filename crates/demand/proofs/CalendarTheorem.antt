@@ -169,11 +169,12 @@ module _ (Stands : Invariant) (C : Carrier) (h L : ℕ) (lent bytes : List ℕ) 
   throughout (with-other-history {carried = x} {carried′ = y} {calls = calls} {made = k} n other taken p r) w =
       (here-agrees w, throughout r (after-step x y (stream calls) k w p))
   throughout (batched {carried = x} {carried′ = y} {t = t} {calls = calls} {batch = b} n own taken p r) w =
-      let m = batch-next Stands (K .holds x) b (b .answer) (p .keeps) in
-      (here-agrees w,
-      throughout r
-      (onward (batch-flags (b .answer) (b .flags)) w (batch-stream Stands (K .holds x) b (b .answer) (p .keeps) calls)
-      (ap (λ (s : State). s .next) (p .goes-on) ∙ m .0) (m .1 t) (batch-words x y b (b .answer) (p .left))))
+      let m = batch-next Stands (K .holds x) b (b .answer) (p .keeps) in (
+        here-agrees w,
+        throughout r
+            (onward (batch-flags (b .answer) (b .flags)) w (batch-stream Stands (K .holds x) b (b .answer) (p .keeps) calls)
+            (ap (λ (s : State). s .next) (p .goes-on) ∙ m .0) (m .1 t) (batch-words x y b (b .answer) (p .left))),
+      )
   throughout (batch-with-other-history {carried = x} {carried′ = y} {t = t} {calls = calls} {batch = b} n e p r) w =
       let same : y ≡ x = p .left ∙ ap (λ (a : Answer Counts). or-kept (λ counts. K .moved x (take (counts .taken) (b .flags)) ((counts .state) .next) ((counts .state) .live-count)) a x) e in
       (here-agrees w, throughout r (subst (λ (z : K .Carried). Here z t (stream calls)) (sym same) w))

@@ -36,7 +36,13 @@ fn put_tick(answer: TickAnswer, tick: &mut u64) -> u32
 
 // The number of ups of a flag from tick `first` to tick `last`. A flag above 7 gets 7.
 #[no_mangle]
-pub extern "C" fn sw_calendar_ups(words: &[u64], flag: u8, first: u64, last: u64, count: &mut u64) -> u32
+pub extern "C" fn sw_calendar_ups(
+    words: &[u64],
+    flag: u8,
+    first: u64,
+    last: u64,
+    count: &mut u64,
+) -> u32
     ensures { λ r. ⌜ answered r (now (count .exit)) ≡ of-flag flag (ups (now (words .entry)) flag first last) ⌝ }
     ensures { λ r. ⌜ KeptIfRefused r (now (count .entry)) (now (count .exit)) ⌝ }
 {
@@ -52,7 +58,13 @@ pub extern "C" fn sw_calendar_ups(words: &[u64], flag: u8, first: u64, last: u64
 
 // The first tick from `first` to `last` at which a flag is up.
 #[no_mangle]
-pub extern "C" fn sw_calendar_first(words: &[u64], flag: u8, first: u64, last: u64, tick: &mut u64) -> u32
+pub extern "C" fn sw_calendar_first(
+    words: &[u64],
+    flag: u8,
+    first: u64,
+    last: u64,
+    tick: &mut u64,
+) -> u32
     ensures { λ r. ⌜ answered r (now (tick .exit)) ≡ of-flag flag (tick-number (first-up (now (words .entry)) flag first last)) ⌝ }
     ensures { λ r. ⌜ KeptIfRefused r (now (tick .entry)) (now (tick .exit)) ⌝ }
 {
@@ -61,7 +73,13 @@ pub extern "C" fn sw_calendar_first(words: &[u64], flag: u8, first: u64, last: u
 
 // The last tick from `first` to `last` at which a flag is up.
 #[no_mangle]
-pub extern "C" fn sw_calendar_last(words: &[u64], flag: u8, first: u64, last: u64, tick: &mut u64) -> u32
+pub extern "C" fn sw_calendar_last(
+    words: &[u64],
+    flag: u8,
+    first: u64,
+    last: u64,
+    tick: &mut u64,
+) -> u32
     ensures { λ r. ⌜ answered r (now (tick .exit)) ≡ of-flag flag (tick-number (last-up (now (words .entry)) flag first last)) ⌝ }
     ensures { λ r. ⌜ KeptIfRefused r (now (tick .entry)) (now (tick .exit)) ⌝ }
 {

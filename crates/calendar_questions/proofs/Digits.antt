@@ -1,9 +1,8 @@
--- The binary digits of a word under a shift, a mask and the three counts.
+-- The binary digits of a word under a shift, a mask and the three counts of its bits.
 use mathlib.Core.Path.{_≡_, refl, sym, ap, _∙_, subst}
 use mathlib.Core.Bool.{true, false}
-use Prim.{⊥}
 use Prim.Native.Nat.{ℕ, zero, suc, _+_, _-_, _/_, _%_, _^_, _≤_, _<_}
-use native.Mathlib.Nat.{mod-lt, div-one, div-eq-of-lt, div-eq-of-lt-le, lt-of-lt-of-le, one-mul, pow-suc, mul-comm, le-of-suc-le-suc, zero-lt-suc}
+use native.Mathlib.Nat.{mod-lt, div-one, div-eq-of-lt-le, lt-of-lt-of-le, one-mul, pow-suc, mul-comm, le-of-suc-le-suc, zero-lt-suc}
 use native.Mathlib.Omega.{arith}
 use native.Mathlib.Numerals.{add-one, one-add}
 use lib.Dec.{eqb}
@@ -12,7 +11,8 @@ use lib.Pow.{pow-mono, shr-shr, shr-lt, field, mod-mod-pow, ones-split, ones-lt,
 use lib.Bits.{bitAnd, and-mask}
 use lib.Count.{leadingZeros, leading-top, trailingZeros, under}
 use Rattle.rule.specs.Meaning.{up}
 use Rattle.calendar.specs.Search.{one-if}
+use Rattle.calendar.proofs.Marking.{up-above}
 
 -- ---- a digit after a shift, and under a mask of the d low digits
 
@@ -26,11 +26,6 @@ up-half w j = up-shr w 1 j ∙ ap (λ (x : ℕ). up x w) (one-add j)
 pub up-lowest : (w : ℕ) → up 0 w ≡ eqb (w % 2) 1
 unfolding up
 up-lowest w = ap (λ (x : ℕ). eqb (x % 2) 1) (div-one w)
-
--- no digit at or above the length
-pub up-above : (m j : ℕ) → m < 2 ^ j → up j m ≡ false
-unfolding up
-up-above m j h = ap (λ (x : ℕ). eqb (x % 2) 1) (div-eq-of-lt h)
 
 up-low : (n e j : ℕ) → up j (n % 2 ^ ((e + 1) + j)) ≡ up j n
 unfolding up
@@ -109,8 +104,3 @@ leading-up m p h =
       set = ap (λ (x : ℕ). eqb (x % 2) 1) (one-over m (t .0) (t .2) (t .3));
       above = λ i l. up-above m i (lt-of-lt-of-le (t .3) (pow-mono l));
     })
-
--- ---- true is not false
-
-pub clash : true ≡ false → ⊥
-clash e = let z : _≡_ {A = ℕ} 0 1 = cc in omega arith
