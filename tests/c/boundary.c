@@ -769,10 +769,10 @@ static void ask_range(uint8_t flag, uint64_t first, uint64_t last)
 
 static void ask_near(uint8_t flag, uint64_t asked)
 {
-    uint64_t nearest = SW_NO_TICK, distance = UINT64_MAX;
+    uint64_t nearest = SW_NO_TICK, distance = 0;
     for (uint64_t tick = 0; tick < KEPT; tick++) {
         uint64_t apart = tick < asked ? asked - tick : tick - asked;
-        if (was_up(flag, tick) && apart < distance) {
+        if (was_up(flag, tick) && (nearest == SW_NO_TICK || apart < distance)) {
             nearest = tick;
             distance = apart;
         }
@@ -824,6 +824,9 @@ static void calendar_questions(void)
     SAME(66, nearest_to(5, 65));
     SAME(127, nearest_to(6, 128));
     SAME(191, nearest_to(4, UINT64_MAX));
+    words[0] = 1; /* flag 0 at tick 0 alone, as far away as can be */
+    SAME(0, nearest_to(0, UINT64_MAX));
+    words[0] = 0;
     SAME(SW_NO_TICK, nearest_to(0, 64));
 
     /* A flag above 7, also where there is nothing to ask. */
