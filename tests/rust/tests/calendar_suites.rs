@@ -91,6 +91,7 @@ const CAUGHT: &[(CalendarFlaw, Suite, &str)] = &[
     (CalendarFlaw::NearestNotPastTheEnd, every_length, "nearest up of flag"),
     (CalendarFlaw::NearestInItsRun, questions, "nearest up of flag"),
     (CalendarFlaw::NearestBefore, questions, "nearest up of flag"),
+    (CalendarFlaw::FarthestIsNone, questions, "nearest up of flag"),
     (CalendarFlaw::NoneIsZero, questions, "first up of flag"),
     (CalendarFlaw::NoneIsZero, empty, "no words, flag 0"),
     (CalendarFlaw::FlagEightIsZero, questions, "answered 0, due is 7"),

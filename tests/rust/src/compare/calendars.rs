@@ -147,7 +147,18 @@ pub fn calendar_questions(library: &dyn Library, seed: u64, count: usize) -> Che
         }
         equally_near(library, &mut random)?;
     }
+    farthest(library)?;
     Ok(numbers)
+}
+
+/// Tick 0 alone is up, as far as can be from the tick asked about.
+fn farthest(library: &dyn Library) -> Check {
+    for flag in 0..8 {
+        let mut words = [0; 8];
+        words[flag] = 1;
+        questions(library, &mut Lent::new(&words), flag as u8, u64::MAX, 0)?;
+    }
+    Ok(())
 }
 
 /// Two ups, asked about the tick in the middle between them and those beside it.

@@ -27,6 +27,7 @@ pub enum CalendarFlaw {
     NearestNotPastTheEnd,
     NearestInItsRun,
     NearestBefore,
+    FarthestIsNone,
     NoneIsZero,
     FlagEightIsZero,
     RefusesFlagSeven,
@@ -143,6 +144,12 @@ impl StandIn {
         let ups = all.filter(|&at| self.is_up(words, flag, at));
         if self.in_calendar(CalendarFlaw::LaterOfTwo) {
             return ups.min_by_key(|&at| (at.abs_diff(tick), Reverse(at)));
+        }
+        if self.in_calendar(CalendarFlaw::FarthestIsNone) {
+            // The distance stands for "none yet".
+            return ups
+                .filter(|&at| at.abs_diff(tick) < u64::MAX)
+                .min_by_key(|&at| at.abs_diff(tick));
         }
         ups.min_by_key(|&at| at.abs_diff(tick))
     }
