@@ -29,6 +29,8 @@ pub enum Words {
 /// What was seen over all calls with a calendar.
 #[derive(Clone, Debug, Default)]
 pub struct CalendarTally {
+    /// Openings, steps and batches with a calendar, refused ones too.
+    pub calls: u64,
     pub openings: u64,
     /// Ticks taken that the words keep, and ticks past them.
     pub kept: u64,
@@ -131,6 +133,7 @@ impl Held {
     }
 
     fn check_words(&mut self, call: &str, number: u32, due: &[u64]) -> Check {
+        self.tally.calls += 1;
         if number != 0 {
             self.tally.refused.add(number);
         }
