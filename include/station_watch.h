@@ -17,10 +17,17 @@
  * they need together, sw_set_open opens them, sw_set_step takes a flag byte for all of
  * them. sw_set_steps takes many.
  *
+ * To keep when each flag was up, in a calendar beside the stream: sw_calendar_open,
+ * sw_calendar_step and sw_calendar_steps do what sw_open, sw_step and sw_steps do, and keep
+ * it. sw_calendar_clear and sw_calendar_fill make one of a recording, or beside a set.
+ * sw_calendar_ups, sw_calendar_first, sw_calendar_last and sw_calendar_nearest answer
+ * questions from its words alone.
+ *
  * To write a sheet: sw_rule_from_text makes a rule's body from its text, sw_write_sheet a
  * sheet from bodies; sw_rule_to_text shows a body as text. Examples: examples/c.
  *
- * ANSWERS. Every function answers SW_OK (0) or the number of a refusal (1 to 27, below).
+ * ANSWERS. Every function answers SW_OK (0) or the number of a refusal (1 to 27, below);
+ * only sw_calendar_clear and sw_calendar_fill answer nothing, as they refuse nothing.
  * On a refusal nothing that was lent is changed: no buffer, no state, no record, and none
  * of the numbers that answers are written to.
  *
@@ -38,9 +45,11 @@
  * one found 1.2 milliseconds; it grows with the positions that the rule looks at, about
  * 10 ns each, and never with the recording. A step of a set takes 1.2 to 1.8 times what single
  * steps of its rules take, and a batch of a set about what these take, so to replay a long
- * recording sw_steps rule by rule is faster. sw_outcome takes about 15 ns for each position
- * of a range; k nested ranges up to infinity whose variables are all named take n^k for n
- * ticks, which for k of 3 or 4 and long recordings nobody can wait for. */
+ * recording sw_steps rule by rule is faster. A question to a calendar looks at one word for
+ * each 64 ticks of its range, and no further than to the tick that it finds; sw_calendar_nearest
+ * looks both ways. sw_outcome takes about 15 ns for each position of a range; k nested ranges
+ * up to infinity whose variables are all named take n^k for n ticks, which for k of 3 or 4 and
+ * long recordings nobody can wait for. */
 #ifndef STATION_WATCH_H
 #define STATION_WATCH_H
 
@@ -54,9 +63,9 @@ extern "C" {
 /* ---- Version ---- */
 
 #define SW_VERSION_MAJOR 0
-#define SW_VERSION_MINOR 5
+#define SW_VERSION_MINOR 6
 #define SW_VERSION_PATCH 0
-#define SW_VERSION "0.5.0"
+#define SW_VERSION "0.6.0"
 
 /* ---- Refusals: the sentence that sw_sentence writes, and what to do ---- */
 
@@ -268,11 +277,28 @@ typedef struct {
  * all delay + 1) words, and next tick and live count of the first n records. But what it
  * reports means nothing. */
 
+/* A calendar: words that keep at which ticks each flag was up. Eight words keep a run of 64
+ * ticks. Run r of flag k is word 8r + k, and its bit worth 2^i is 1 where the flag was up at
+ * tick 64r + i. So many words keep 64 * (words / 8) ticks, from tick 0 on, a byte for each;
+ * later ticks are not kept, and the words of a last group under eight are never read or
+ * written. They are plain numbers, which may be copied, stored and moved, and any words may
+ * be asked.
+ *
+ * A calendar agrees with the stream where each step since the opening was lent all of its
+ * words, as the last one left them: at each kept tick before the next one exactly those
+ * flags are up that were up in its flag byte, and from the next tick on none is. A step on a
+ * state that was not left by an opening and its steps, where that is not noticed, may mark
+ * another kept tick. */
+
 /* ---- Verdicts: what sw_outcome answers ---- */
 
 #define SW_OPEN 0
 #define SW_TRUE 1
 #define SW_FALSE 2
+
+/* ---- No tick: what sw_calendar_first, _last and _nearest answer where none is up ---- */
+
+#define SW_NO_TICK UINT64_MAX
 
 /* ---- Functions ---- */
 
@@ -491,6 +517,86 @@ uint32_t sw_set_steps(const uint8_t *sheet, size_t sheet_len,
                       uint32_t *cells, size_t cells_len,
                       uint32_t *report, size_t report_len,
                       size_t *taken, size_t *triples, size_t *live);
+
+/* Opens a rule as sw_open does, with the words of a calendar, of which there may be any
+ * number.
+ * Answers 0, or those of sw_open: 1 to 15, 23, 24, 17, 18.
+ * After 0, all is as after sw_open, and the words are 0 but for a last group under eight,
+ * which is as it was. */
+uint32_t sw_calendar_open(const uint8_t *sheet, size_t sheet_len, size_t rule,
+                          uint8_t *history, size_t history_len,
+                          const uint32_t *cells, size_t cells_len,
+                          uint64_t *words, size_t words_len,
+                          uint8_t state[SW_STATE_BYTES]);
+
+/* Takes one flag byte as sw_step does, at the state's next tick t, and marks t in the words
+ * of a calendar.
+ * Answers 0, or those of sw_step: 21, 17, 18, 19, 20, in this order. The number of words is
+ * never refused.
+ * After 0, all is as after sw_step. Where the words keep t, the bit of t is 1 in the word of
+ * each flag that is up in the flag byte; every other bit is as it was. */
+uint32_t sw_calendar_step(uint8_t state[SW_STATE_BYTES], uint8_t flag,
+                          uint8_t *history, size_t history_len,
+                          uint32_t *cells, size_t cells_len,
+                          uint32_t *report, size_t report_len,
+                          uint64_t *words, size_t words_len,
+                          size_t *reported, size_t *live);
+
+/* Takes flag bytes one after another as sw_steps does, and marks the ticks of those that
+ * were taken, each as sw_calendar_step does.
+ * Answers 0, or those of sw_steps: 21, 17, 18, 20, in this order.
+ * After 0, all is as after sw_steps, and the words are what *taken calls of
+ * sw_calendar_step leave. */
+uint32_t sw_calendar_steps(uint8_t state[SW_STATE_BYTES],
+                           const uint8_t *flags, size_t flags_len,
+                           uint8_t *history, size_t history_len,
+                           uint32_t *cells, size_t cells_len,
+                           uint32_t *report, size_t report_len,
+                           uint64_t *words, size_t words_len,
+                           size_t *taken, size_t *pairs, size_t *live);
+
+/* Zeroes the words of a calendar as sw_calendar_open does: no flag is up at any tick. A last
+ * group under eight is as it was. */
+void sw_calendar_clear(uint64_t *words, size_t words_len);
+
+/* Marks the ticks `tick`, `tick` + 1, .., one for each flag byte, in the words of a calendar
+ * as sw_calendar_step does. Ticks past the words are not kept. A bit that is 1 stays 1, so
+ * fill in each tick once after the words were zeroed.
+ *
+ * Of a recording: clear the words, and fill in its bytes from tick 0. Beside a set: clear
+ * the words when it is opened, and after each step or batch that answers 0 fill in the flags
+ * that were taken, from the `next` on that its records had before the call. The tick numbers
+ * are the set's. */
+void sw_calendar_fill(uint64_t *words, size_t words_len, uint64_t tick,
+                      const uint8_t *flags, size_t flags_len);
+
+/* At how many ticks from `first` to `last` a flag was up. Both ends are in the range. It is
+ * empty if `first` is the larger, and a range past the last kept tick is cut there.
+ * Answers 0, or 7.
+ * After 0, *ups is the number. */
+uint32_t sw_calendar_ups(const uint64_t *words, size_t words_len, uint8_t flag,
+                         uint64_t first, uint64_t last, uint64_t *ups);
+
+/* The first tick of such a range at which a flag was up.
+ * Answers 0, or 7.
+ * After 0, *tick is this tick; SW_NO_TICK where the flag is up at no tick of the range so
+ * cut. */
+uint32_t sw_calendar_first(const uint64_t *words, size_t words_len, uint8_t flag,
+                           uint64_t first, uint64_t last, uint64_t *tick);
+
+/* The last tick of such a range at which a flag was up.
+ * Answers 0, or 7.
+ * After 0, *tick is this tick; SW_NO_TICK where the flag is up at no tick of the range so
+ * cut. */
+uint32_t sw_calendar_last(const uint64_t *words, size_t words_len, uint8_t flag,
+                          uint64_t first, uint64_t last, uint64_t *tick);
+
+/* The tick nearest to `tick` at which a flag was up, the earlier of two equally near. It is
+ * sought among all kept ticks; `tick` itself may lie past them.
+ * Answers 0, or 7.
+ * After 0, *nearest is this tick; SW_NO_TICK where the flag is up at no kept tick. */
+uint32_t sw_calendar_nearest(const uint64_t *words, size_t words_len, uint8_t flag,
+                             uint64_t tick, uint64_t *nearest);
 
 #ifdef __cplusplus
 }

@@ -27,8 +27,12 @@
 //! [`WatchSet`] runs all rules of a sheet on one stream, and reports each violation with
 //! its rule's number.
 //!
+//! [`Calendar`] keeps at which ticks each flag was up, and answers how often, when first and
+//! last, and when nearest to a tick. A `Watch` can keep one beside its stream.
+//!
 //! [`State`] is a watch over memory that the caller lends, as in C, and so are [`set_open`],
-//! [`set_step`] and [`set_steps`] a set. [`figures`] says what a rule needs, [`set_figures`]
+//! [`set_step`] and [`set_steps`] a set, and [`calendar_fill`], [`calendar_ups`] and those
+//! beside them a calendar. [`figures`] says what a rule needs, [`set_figures`]
 //! what all rules of a sheet need together, [`outcome`] how a rule stands at a tick of a
 //! recording, [`rule_body`], [`bodies`] and [`write_sheet`] read and write sheets,
 //! [`rule_from_text`] and [`rule_to_text`] rules as text. A call that cannot be answered gives
@@ -36,8 +40,8 @@
 //! have taken some of their flags before tick numbers were used up.
 //!
 //! The crate needs no `std`. Without its feature `alloc`, which is on unless it is
-//! turned off, `Watch`, `WatchSet`, `sheet_of`, `body_from_text` and `text_from_body` are
-//! gone and nothing is allocated.
+//! turned off, `Watch`, `WatchSet`, `Calendar`, `sheet_of`, `body_from_text` and
+//! `text_from_body` are gone and nothing is allocated.
 //!
 //! [`raw`] has the functions as C sees them. All `unsafe` of this crate are calls of
 //! these with the pointer and length of a slice, and one view of a report as words.
@@ -49,6 +53,9 @@
 #[cfg(feature = "alloc")]
 extern crate alloc;
 
+#[cfg(feature = "alloc")]
+mod calendar;
+mod calendar_words;
 mod figures;
 mod limits;
 mod outcome;
@@ -69,10 +76,16 @@ mod watch_set;
 /// The version of this crate, which is that of the library.
 ///
 /// ```
-/// assert_eq!(station_watch::VERSION, "0.5.0");
+/// assert_eq!(station_watch::VERSION, "0.6.0");
 /// ```
 pub const VERSION: &str = env!("CARGO_PKG_VERSION");
 
+#[cfg(feature = "alloc")]
+pub use calendar::Calendar;
+pub use calendar_words::{
+    calendar_clear, calendar_fill, calendar_first, calendar_kept, calendar_last, calendar_nearest,
+    calendar_ups,
+};
 pub use figures::{figures, Figures};
 pub use limits::*;
 pub use outcome::{outcome, Outcome, Verdict};

@@ -24,6 +24,9 @@ pub const TRUE: u32 = 1;
 /// What `sw_outcome` answers as a verdict: false.
 pub const FALSE: u32 = 2;
 
+/// What a question to a calendar answers as a tick where there is none.
+pub const NO_TICK: u64 = u64::MAX;
+
 extern "C" {
     /// Where the body of a rule lies in a sheet.
     pub fn sw_rule_place(
@@ -181,6 +184,105 @@ extern "C" {
         taken: *mut usize,
         triples: *mut usize,
         live: *mut usize,
+    ) -> u32;
+
+    /// Opens a rule of a sheet, and a calendar.
+    pub fn sw_calendar_open(
+        sheet: *const u8,
+        sheet_len: usize,
+        rule: usize,
+        history: *mut u8,
+        history_len: usize,
+        cells: *const u32,
+        cells_len: usize,
+        words: *mut u64,
+        words_len: usize,
+        state: *mut u8,
+    ) -> u32;
+
+    /// Takes one flag byte, and marks its tick.
+    pub fn sw_calendar_step(
+        state: *mut u8,
+        flag: u8,
+        history: *mut u8,
+        history_len: usize,
+        cells: *mut u32,
+        cells_len: usize,
+        report: *mut u32,
+        report_len: usize,
+        words: *mut u64,
+        words_len: usize,
+        reported: *mut usize,
+        live: *mut usize,
+    ) -> u32;
+
+    /// Takes flag bytes one after another, and marks their ticks.
+    pub fn sw_calendar_steps(
+        state: *mut u8,
+        flags: *const u8,
+        flags_len: usize,
+        history: *mut u8,
+        history_len: usize,
+        cells: *mut u32,
+        cells_len: usize,
+        report: *mut u32,
+        report_len: usize,
+        words: *mut u64,
+        words_len: usize,
+        taken: *mut usize,
+        pairs: *mut usize,
+        live: *mut usize,
+    ) -> u32;
+
+    /// Zeroes the words of a calendar.
+    pub fn sw_calendar_clear(words: *mut u64, words_len: usize);
+
+    /// Marks the ticks of flag bytes.
+    pub fn sw_calendar_fill(
+        words: *mut u64,
+        words_len: usize,
+        tick: u64,
+        flags: *const u8,
+        flags_len: usize,
+    );
+
+    /// At how many ticks of a range a flag was up.
+    pub fn sw_calendar_ups(
+        words: *const u64,
+        words_len: usize,
+        flag: u8,
+        first: u64,
+        last: u64,
+        ups: *mut u64,
+    ) -> u32;
+
+    /// The first tick of a range at which a flag was up.
+    pub fn sw_calendar_first(
+        words: *const u64,
+        words_len: usize,
+        flag: u8,
+        first: u64,
+        last: u64,
+        tick: *mut u64,
+    ) -> u32;
+
+    /// The last tick of a range at which a flag was up.
+    pub fn sw_calendar_last(
+        words: *const u64,
+        words_len: usize,
+        flag: u8,
+        first: u64,
+        last: u64,
+        tick: *mut u64,
+    ) -> u32;
+
+    /// The tick nearest to another at which a flag was up.
+    pub fn sw_calendar_nearest(
+        words: *const u64,
+        words_len: usize,
+        flag: u8,
+        tick: u64,
+        nearest: *mut u64,
     ) -> u32;
 
     /// The sentence of a refusal, in ASCII with a 0 after it.

@@ -160,6 +160,144 @@ impl State {
         Ok(Steps { taken, pairs: &report[..pairs], live })
     }
 
+    /// Opens as [`open`](State::open) does, and zeroes the words of a calendar: every full
+    /// group of eight, which keeps 64 ticks. Lend every step all of the words.
+    ///
+    /// ```
+    /// use station_watch::{calendar_ups, Refusal, State};
+    ///
+    /// // Flag 0 at X.
+    /// let (sheet, mut cells, mut words) = ([1, 5, 0, 3, 0, 1, 0, 0], [0; 4], [9; 8]);
+    /// let mut state = State::calendar_open(&sheet, 0, &mut [], &cells, &mut words)?;
+    /// assert_eq!(words, [0; 8]);
+    /// state.calendar_step(0x81, &mut [], &mut cells, &mut [0], &mut words)?;
+    /// state.calendar_step(0x01, &mut [], &mut cells, &mut [0], &mut words)?;
+    /// assert_eq!(words, [3, 0, 0, 0, 0, 0, 0, 1]);
+    /// assert_eq!(calendar_ups(&words, 0, 0, 1)?, 2);
+    /// # Ok::<(), Refusal>(())
+    /// ```
+    pub fn calendar_open(
+        sheet: &[u8],
+        rule: usize,
+        history: &mut [u8],
+        cells: &[u32],
+        words: &mut [u64],
+    ) -> Result<State, Refusal> {
+        let mut bytes = [0; STATE_BYTES];
+        // SAFETY: pointers and lengths of slices, and an array of a state's size; what is
+        // written, the history, the words and that array, is borrowed alone.
+        Refusal::unless_0(unsafe {
+            raw::sw_calendar_open(
+                sheet.as_ptr(),
+                sheet.len(),
+                rule,
+                history.as_mut_ptr(),
+                history.len(),
+                cells.as_ptr(),
+                cells.len(),
+                words.as_mut_ptr(),
+                words.len(),
+                bytes.as_mut_ptr(),
+            )
+        })?;
+        Ok(State(bytes))
+    }
+
+    /// Takes one flag byte as [`step`](State::step) does, and marks its tick in the words of
+    /// a calendar, if they keep it.
+    ///
+    /// ```
+    /// use station_watch::{calendar_first, Refusal, State};
+    ///
+    /// // Flag 0 at X.
+    /// let (sheet, mut cells, mut words) = ([1, 5, 0, 3, 0, 1, 0, 0], [0; 4], [0; 8]);
+    /// let mut state = State::calendar_open(&sheet, 0, &mut [], &cells, &mut words)?;
+    /// let mut report = [0];
+    /// let step = state.calendar_step(0x80, &mut [], &mut cells, &mut report, &mut words)?;
+    /// assert_eq!(step.ticks, [0]);
+    /// assert_eq!(calendar_first(&words, 7, 0, 63)?, Some(0));
+    /// # Ok::<(), Refusal>(())
+    /// ```
+    pub fn calendar_step<'r>(
+        &mut self,
+        flag: u8,
+        history: &mut [u8],
+        cells: &mut [u32],
+        report: &'r mut [u32],
+        words: &mut [u64],
+    ) -> Result<Step<'r>, Refusal> {
+        let step = self.next_tick() as u32; // a tick above 32 bits is refused: 21
+        let (mut reported, mut live) = (0, 0);
+        // SAFETY: pointers and lengths of slices, an array of a state's size, and two
+        // numbers of this frame; all are written, and each is borrowed alone.
+        Refusal::unless_0(unsafe {
+            raw::sw_calendar_step(
+                self.0.as_mut_ptr(),
+                flag,
+                history.as_mut_ptr(),
+                history.len(),
+                cells.as_mut_ptr(),
+                cells.len(),
+                report.as_mut_ptr(),
+                report.len(),
+                words.as_mut_ptr(),
+                words.len(),
+                &mut reported,
+                &mut live,
+            )
+        })?;
+        Ok(Step { step, ticks: &report[..reported], live })
+    }
+
+    /// Takes flag bytes one after another as [`steps`](State::steps) does, and marks the
+    /// ticks of those that were taken in the words of a calendar, as far as they keep them.
+    ///
+    /// ```
+    /// use station_watch::{calendar_last, Pair, Refusal, State};
+    ///
+    /// // Flag 0 at X.
+    /// let (sheet, mut cells, mut words) = ([1, 5, 0, 3, 0, 1, 0, 0], [0; 4], [0; 8]);
+    /// let mut state = State::calendar_open(&sheet, 0, &mut [], &cells, &mut words)?;
+    /// let mut report = [Pair::default(); 1];
+    /// let steps =
+    ///     state.calendar_steps(&[1, 0, 1], &mut [], &mut cells, &mut report, &mut words)?;
+    /// assert_eq!((steps.taken, steps.pairs), (2, &[Pair { tick: 1, step: 1 }][..]));
+    /// assert_eq!(calendar_last(&words, 0, 0, 63)?, Some(0));
+    /// # Ok::<(), Refusal>(())
+    /// ```
+    pub fn calendar_steps<'r>(
+        &mut self,
+        flags: &[u8],
+        history: &mut [u8],
+        cells: &mut [u32],
+        report: &'r mut [Pair],
+        words: &mut [u64],
+    ) -> Result<Steps<'r>, Refusal> {
+        let (mut taken, mut pairs, mut live) = (0, 0, 0);
+        let report_words = as_words(report);
+        // SAFETY: pointers and lengths of slices, an array of a state's size, and three
+        // numbers of this frame; all but the flags are written, and each is borrowed alone.
+        Refusal::unless_0(unsafe {
+            raw::sw_calendar_steps(
+                self.0.as_mut_ptr(),
+                flags.as_ptr(),
+                flags.len(),
+                history.as_mut_ptr(),
+                history.len(),
+                cells.as_mut_ptr(),
+                cells.len(),
+                report_words.as_mut_ptr(),
+                report_words.len(),
+                words.as_mut_ptr(),
+                words.len(),
+                &mut taken,
+                &mut pairs,
+                &mut live,
+            )
+        })?;
+        Ok(Steps { taken, pairs: &report[..pairs], live })
+    }
+
     /// The rule's body, as it was opened.
     ///
     /// ```

@@ -8,7 +8,7 @@ use alloc::vec::Vec;
 
 impl Watch {
     /// The watch as bytes, to be stored: the state, the history, and the cells as words
-    /// of four bytes, low byte first.
+    /// of four bytes, low byte first. The calendar is not part of it: store its words beside.
     ///
     /// ```
     /// use station_watch::{sheet_of, Refusal, Watch};
@@ -26,9 +26,9 @@ impl Watch {
         bytes
     }
 
-    /// A watch that was stored as bytes, which goes on where it was left. Refusals as
-    /// of `from_parts`: bytes that are cut short are always refused. So are bytes that are
-    /// left over: 21.
+    /// A watch that was stored as bytes, which goes on where it was left, without a
+    /// calendar. Refusals as of `from_parts`: bytes that are cut short are always refused. So
+    /// are bytes that are left over: 21.
     ///
     /// ```
     /// use station_watch::{sheet_of, Refusal, Watch};

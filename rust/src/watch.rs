@@ -1,5 +1,6 @@
 //! A rule that runs on a stream, with the memory that it needs.
 
+use crate::calendar::Calendar;
 use crate::figures::{figures, Figures};
 use crate::limits::MAX_REPORT;
 use crate::refusal::Refusal;
@@ -35,6 +36,8 @@ pub struct Watch {
     history: Vec<u8>,
     cells: Vec<u32>,
     report: Vec<Pair>,
+    /// Without words, unless one was asked for: then it keeps no ticks.
+    calendar: Calendar,
 }
 
 impl Watch {
@@ -49,11 +52,31 @@ impl Watch {
     /// # Ok::<(), Refusal>(())
     /// ```
     pub fn open(sheet: &[u8], rule: usize) -> Result<Watch, Refusal> {
+        Watch::calendar_open(sheet, rule, 0)
+    }
+
+    /// Opens a rule of a sheet, with a calendar that has room for at least so many ticks, a
+    /// byte for each. Each step marks its tick in it; later ticks are not kept. Refusals as
+    /// of [`open`](Watch::open).
+    ///
+    /// ```
+    /// use station_watch::{sheet_of, Refusal, Watch};
+    ///
+    /// // Flag 7 at X, for a day of one tick a second.
+    /// let mut watch = Watch::calendar_open(&sheet_of(&[&[1, 0, 7]])?, 0, 86_400)?;
+    /// watch.steps(&[0x01, 0x80, 0x81], |_| {})?;
+    /// assert_eq!(watch.calendar().ups(7, 0, 86_399)?, 2);
+    /// assert_eq!(watch.calendar().first_up(7, 0, 86_399)?, Some(1));
+    /// # Ok::<(), Refusal>(())
+    /// ```
+    pub fn calendar_open(sheet: &[u8], rule: usize, ticks: u64) -> Result<Watch, Refusal> {
         let figures = figures(rule_body(sheet, rule)?)?;
         let mut history = vec![0; figures.history];
         let cells = vec![0; figures.cell_words()];
-        let state = State::open(sheet, rule, &mut history, &cells)?;
-        Ok(Watch { figures, state, history, cells, report: report() })
+        let mut calendar = Calendar::new(ticks);
+        let words = calendar.words_mut();
+        let state = State::calendar_open(sheet, rule, &mut history, &cells, words)?;
+        Ok(Watch { figures, state, history, cells, report: report(), calendar })
     }
 
     /// Takes one flag byte. Refusal 20.
@@ -68,8 +91,8 @@ impl Watch {
     /// # Ok::<(), Refusal>(())
     /// ```
     pub fn step(&mut self, flag: u8) -> Result<Step<'_>, Refusal> {
-        let words = as_words(&mut self.report);
-        self.state.step(flag, &mut self.history, &mut self.cells, words)
+        let (report, words) = (as_words(&mut self.report), self.calendar.words_mut());
+        self.state.calendar_step(flag, &mut self.history, &mut self.cells, report, words)
     }
 
     /// Takes all of these flag bytes, one after another, and hands over the violations
@@ -91,11 +114,46 @@ impl Watch {
         let mut rest = flags;
         while !rest.is_empty() {
             let (history, cells) = (&mut self.history, &mut self.cells);
-            let steps = self.state.steps(rest, history, cells, &mut self.report)?;
+            let (report, words) = (&mut self.report, self.calendar.words_mut());
+            let steps = self.state.calendar_steps(rest, history, cells, report, words)?;
             steps.pairs.iter().copied().for_each(&mut take);
             rest = &rest[steps.taken..];
         }
         Ok(())
+    }
+
+    /// The calendar that its steps mark. One that was opened without keeps no ticks.
+    ///
+    /// ```
+    /// use station_watch::{sheet_of, Refusal, Watch};
+    ///
+    /// let sheet = sheet_of(&[&[1, 0, 7]])?;
+    /// assert_eq!(Watch::open(&sheet, 0)?.calendar().kept(), 0);
+    /// assert_eq!(Watch::calendar_open(&sheet, 0, 100)?.calendar().kept(), 128);
+    /// # Ok::<(), Refusal>(())
+    /// ```
+    pub fn calendar(&self) -> &Calendar {
+        &self.calendar
+    }
+
+    /// The watch with this calendar, as it is, in place of its own: its next steps mark it.
+    /// So a watch of stored parts goes on with the calendar that was stored beside them.
+    ///
+    /// ```
+    /// use station_watch::{sheet_of, Calendar, Refusal, Watch};
+    ///
+    /// let mut watch = Watch::calendar_open(&sheet_of(&[&[1, 0, 7]])?, 0, 64)?;
+    /// watch.step(0x80)?;
+    /// let (bytes, words) = (watch.to_bytes(), watch.calendar().words().to_vec());
+    ///
+    /// let calendar = Calendar::from_words(words);
+    /// let mut again = Watch::from_bytes(&bytes)?.with_calendar(calendar);
+    /// again.step(0x80)?;
+    /// assert_eq!(again.calendar().ups(7, 0, 63)?, 2);
+    /// # Ok::<(), Refusal>(())
+    /// ```
+    pub fn with_calendar(self, calendar: Calendar) -> Watch {
+        Watch { calendar, ..self }
     }
 
     /// What the rule needs.
@@ -141,7 +199,8 @@ impl Watch {
         self.state.live()
     }
 
-    /// State, history and cells. The report is not part of it: each step writes it anew.
+    /// State, history and cells. The report is not part of it: each step writes it anew. Nor
+    /// is the calendar.
     ///
     /// ```
     /// use station_watch::{sheet_of, Refusal, Watch};
@@ -155,9 +214,9 @@ impl Watch {
         (&self.state, &self.history, &self.cells)
     }
 
-    /// A watch of stored parts, which goes on where they were left. Refusals 21, 17, 18,
-    /// 20, as of a first step; after that only 20 can come. Of the cells it keeps those
-    /// that the rule needs. Parts that were not left together by one watch, or were
+    /// A watch of stored parts, which goes on where they were left, without a calendar.
+    /// Refusals 21, 17, 18, 20, as of a first step; after that only 20 can come. Of the cells
+    /// it keeps those that the rule needs. Parts that were not left together by one watch, or were
     /// changed, may go unnoticed: their steps report something.
     ///
     /// ```
@@ -181,7 +240,8 @@ impl Watch {
         state.steps(&[], &mut history, &mut cells, &mut [])?;
         let figures = figures(state.body())?;
         cells.truncate(figures.cell_words());
-        Ok(Watch { figures, state, history, cells, report: report() })
+        let calendar = Calendar::default();
+        Ok(Watch { figures, state, history, cells, report: report(), calendar })
     }
 }
 

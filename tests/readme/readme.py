@@ -16,7 +16,7 @@ CHANGELOG = os.path.join(ROOT, "CHANGELOG.md")
 USAGE = os.path.join(ROOT, "command", "usage", "station-watch.txt")
 
 # How many blocks are typed at least, so that one which loses its fence or its kind is seen.
-LEAST = 7
+LEAST = 8
 
 # The folders that a block may use.
 FOLDERS = ("bin", "include", "rust", "target")
@@ -58,7 +58,7 @@ def commands_told():
 
 def functions_told():
     """The table of functions has those of the header."""
-    due = re.findall(r"^uint32_t (sw_\w+)\(", HEADER, re.MULTILINE)
+    due = re.findall(r"^\w+ (sw_\w+)\(", HEADER, re.MULTILINE)
     told = [name for row in found(r"^\| (`sw_.*?) \|", README) for name in re.findall(r"`(sw_\w+)`", row)]
     if sorted(told) != sorted(due):
         raise Wrong("the table of functions has %s, and the header %s" % (told, due))

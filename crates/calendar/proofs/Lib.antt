@@ -1,5 +1,6 @@
 pub mod Marking
-pub mod Storing
+pub mod Each
 pub mod Stream
 pub mod Said
 pub mod Agreement
+pub mod Examples

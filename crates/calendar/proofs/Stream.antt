@@ -13,7 +13,7 @@ use borrow.Author.Tests.{lt-ltb, le-ltb, ltb-true, ltb-false, eqb-true, eqb-fals
 use Rattle.rule.specs.Meaning.{up}
 use Rattle.calendar.specs.Calendar.{kept, run-word, up-at, each, cleared-word, cleared, flagged, marked-word, marked, filled}
 use Rattle.calendar.proofs.Marking.{up-above, flagged-here, flagged-other}
-use Rattle.calendar.proofs.Storing.{length-each, getD-each, drop-each, cleared-in, cleared-out, marked-in, marked-out}
+use Rattle.calendar.proofs.Each.{length-each, getD-each, drop-each, cleared-in, cleared-out, marked-in, marked-out}
 
 -- ---- the word of a kept tick
 

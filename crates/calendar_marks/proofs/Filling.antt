@@ -6,7 +6,7 @@ use native.Mathlib.Numerals.{add-one}
 use lib.ListN.{length, getD, drop, drop-of-length-le}
 use lib.Seq.{drop-cons}
 use Rattle.calendar.specs.Calendar.{kept, each, marked-word, marked, filled}
-use Rattle.calendar.proofs.Storing.{length-each}
+use Rattle.calendar.proofs.Each.{length-each}
 use Rattle.calendar.proofs.Stream.{kept-marked, marked-kept, filled-past}
 
 -- The words ws with the bytes from place n on still to come, at the ticks from t on, are ws₀ with all the bytes bs, at the ticks from t₀ on.

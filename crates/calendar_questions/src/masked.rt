@@ -21,7 +21,7 @@ pub fn run_word(words: &[u64], k: usize, run: u64) -> u64
 }
 
 // The `count` ticks from q on, which lie in one run, as the low bits of a number.
-pub fn shown(words: &[u64], k: usize, q: u64, count: u64) -> u64
+pub(crate) fn shown(words: &[u64], k: usize, q: u64, count: u64) -> u64
     requires { ⌜ (k < 8) × (q < kept (now words)) × (0 < count) × (q % 64 + count ≤ 64) ⌝ }
     ensures { λ r. ⌜ Shown (up-at (now (words .entry)) k) q count r ⌝ }
 {
@@ -29,7 +29,7 @@ pub fn shown(words: &[u64], k: usize, q: u64, count: u64) -> u64
 }
 
 // How many ticks from q on lie before `end` and in one run.
-pub fn piece(q: u64, end: u64) -> u64
+pub(crate) fn piece(q: u64, end: u64) -> u64
     requires { ⌜ q < end ⌝ }
     ensures { λ r. ⌜ r ≡ min (end - q) (64 - q % 64) ⌝ }
 {
@@ -41,7 +41,7 @@ pub fn piece(q: u64, end: u64) -> u64
 }
 
 // How many ticks before `end` lie from `first` on and in one run.
-pub fn piece_before(first: u64, end: u64) -> u64
+pub(crate) fn piece_before(first: u64, end: u64) -> u64
     requires { ⌜ first < end ⌝ }
     ensures { λ r. ⌜ r ≡ min (end - first) ((end - 1) % 64 + 1) ⌝ }
 {

@@ -30,7 +30,7 @@ fn nearer_after(words: &[u64], k: usize, t: u64, p: u64) -> UpTick
 }
 
 // The up tick nearest to t, of all kept ones.
-pub fn nearest(words: &[u64], k: usize, t: u64) -> UpTick
+pub(crate) fn nearest(words: &[u64], k: usize, t: u64) -> UpTick
     requires { ⌜ k < 8 ⌝ }
     ensures { λ r. ⌜ r ≡ nearest-up (now (words .entry)) k t ⌝ }
 {

@@ -59,7 +59,7 @@ fn skip_runs_back(words: &[u64], k: usize, first: u64, end: u64) -> u64
 }
 
 // The first of the ticks from `first` to before `end` that is up.
-pub fn earliest(words: &[u64], k: usize, first: u64, end: u64) -> UpTick
+pub(crate) fn earliest(words: &[u64], k: usize, first: u64, end: u64) -> UpTick
     requires { ⌜ (k < 8) × (end ≤ kept (now words)) ⌝ }
     ensures { λ r. ⌜ r ≡ earliest (up-at (now (words .entry)) k) first (end - first) ⌝ }
 {
@@ -82,7 +82,7 @@ pub fn earliest(words: &[u64], k: usize, first: u64, end: u64) -> UpTick
 }
 
 // The last of the ticks from `first` to before `end` that is up.
-pub fn latest(words: &[u64], k: usize, first: u64, end: u64) -> UpTick
+pub(crate) fn latest(words: &[u64], k: usize, first: u64, end: u64) -> UpTick
     requires { ⌜ (k < 8) × (end ≤ kept (now words)) ⌝ }
     ensures { λ r. ⌜ r ≡ latest (up-at (now (words .entry)) k) first (end - first) ⌝ }
 {

@@ -30,7 +30,7 @@ fn tally_runs(words: &[u64], k: usize, first: u64, end: u64) -> u64
 }
 
 // How many of the ticks from `first` to before `end` are up: those of the first piece, of the whole runs after it, and of the rest.
-pub fn tally(words: &[u64], k: usize, first: u64, end: u64) -> u64
+pub(crate) fn tally(words: &[u64], k: usize, first: u64, end: u64) -> u64
     requires { ⌜ (k < 8) × (end ≤ kept (now words)) ⌝ }
     ensures { λ r. ⌜ r ≡ tally (up-at (now (words .entry)) k) first (end - first) ⌝ }
 {

@@ -1,7 +1,7 @@
 -- Opening, step and batch with a calendar keep their promises, by those without one and what happened to the words.
 use Prim.Native.Nat.{ℕ, zero, suc, _≤_}
 use Prim.{⊥}
-use mathlib.Core.Path.{_≡_, refl, ap₂, subst}
+use mathlib.Core.Path.{_≡_, refl, ap, ap₂, subst, _∙_}
 use mathlib.Core.List.{List, [], _∷_}
 use native.Mathlib.Omega.{arith}
 use lib.ListN.{length, take}
@@ -9,8 +9,11 @@ use Rattle.refusal.specs.Answer.{Answer, refused, accepted, or-kept, answered}
 use Rattle.refusal.proofs.Answers.{not-accepted, same-value}
 use Rattle.sheet.specs.Sheet.{rule-body, body-part}
 use Rattle.calendar.specs.Calendar.{cleared, marked, filled}
-use Rattle.demand.specs.Contract.{State, Opening, Taken, Step, Counts, Batch, Invariant, Batched, Carrier, OpenPromise, StepPromise, BatchPromise}
+use Rattle.demand.specs.Contract.{State, Opening, Taken, Step, Counts, Batch, Invariant, Batched, Carrier, OpenedHolds, OpenPromise, StepPromise, BatchPromise}
 use Rattle.demand.specs.CalendarDemand.{with-calendar}
+use Rattle.engine.specs.States.{state-of}
+use Rattle.state_bytes.specs.Numbers.{number-at}
+use Rattle.state_bytes.specs.States.{loaded, state-in}
 use Rattle.demand.proofs.CalendarTheorem.{chain-fits}
 
 module _ (Stands : Invariant) (C : Carrier) (x y : C .Carried) (words words′ : List ℕ) where
@@ -26,8 +29,12 @@ module _ (Stands : Invariant) (C : Carrier) (x y : C .Carried) (words words′ :
 
   pub opening-kept : (opening : Opening) → OpenPromise Stands C x opening y → WordsOpened (opening .answer) → OpenPromise Stands (with-calendar C) (x, words) opening (y, words′)
   opening-kept opening p w =
-      record { keeps = p .keeps; left = both (opening .answer) (p .left) w; goes-on = p .goes-on }
+      record { keeps = p .keeps; left = both (opening .answer) (p .left) w; goes-on = holds (opening .answer) (p .goes-on) }
     where
+      holds : (a : Answer State) → OpenedHolds C y a → OpenedHolds (with-calendar C) (y, words′) a
+      holds (refused n) g = tt
+      holds (accepted s) g = g
+
       both : (a : Answer State) → y ≡ or-kept (λ state. C .fresh x (body-part (rule-body (opening .sheet) (opening .rule))) (length (opening .history))) a x → WordsOpened a
           → (y, words′) ≡ or-kept (λ state. with-calendar C .fresh (x, words) (body-part (rule-body (opening .sheet) (opening .rule))) (length (opening .history))) a (x, words)
       both (refused n) e i = ap₂ (λ (a : C .Carried) (b : List ℕ). (a, b)) e i
@@ -63,12 +70,22 @@ module _ {A X : Type 0} (part : A → X) (value : A) (old new : X) where
   unchanged (suc n) e i = i
 
 -- A batch that was not refused took no more flags than there were.
-pub no-more : (Stands : Invariant) (C : Carrier) (x y : C .Carried) (batch : Batch) (counts : Counts) → batch .answer ≡ accepted counts → BatchPromise Stands C x batch y
-    → counts .taken ≤ length (batch .flags)
-no-more Stands C x y batch counts e p = go (batch .answer) e (p .keeps)
+pub no-more : (Stands : Invariant) (C : Carrier) {x y : C .Carried} {batch : Batch} → BatchPromise Stands C x batch y → (number : ℕ) (counts : Counts)
+    → batch .answer ≡ answered number counts → number ≡ 0 → counts .taken ≤ length (batch .flags)
+no-more Stands C {x} {y} {batch} p number counts e zero-is = go (batch .answer) (e ∙ ap (λ (n : ℕ). answered n counts) zero-is) (p .keeps)
   where
     go : (a : Answer Counts) → a ≡ accepted counts → Batched Stands (C .holds x) batch a → counts .taken ≤ length (batch .flags)
     go (refused n) i w = absurd (not-accepted i)
     go (accepted c) i w =
-        let same : c ≡ counts = same-value i in
-        subst (λ (z : Counts). z .taken ≤ length (batch .flags)) same (chain-fits Stands (w .0 .delay) (batch .flags) (batch .report) (C .holds x) (batch .history) (batch .cells) (w .2 .chain))
+        subst (λ (z : Counts). z .taken ≤ length (batch .flags)) (same-value i)
+        (chain-fits Stands (w .0 .delay) (batch .flags) (batch .report) (C .holds x) (batch .history) (batch .cells) (w .2 .chain))
+
+-- The tick that is marked is the next one of the state in bytes.
+module _ (bytes words words′ : List ℕ) (tick : ℕ) (at : tick ≡ number-at bytes 528) where
+  pub marked-at : (flag : ℕ) → words′ ≡ marked words tick flag → words′ ≡ marked words ((state-in bytes) .next) flag
+  unfolding state-in state-of loaded
+  marked-at flag e = e ∙ ap (λ (t : ℕ). marked words t flag) at
+
+  pub filled-at : (flags : List ℕ) → words′ ≡ filled words tick flags → words′ ≡ filled words ((state-in bytes) .next) flags
+  unfolding state-in state-of loaded
+  filled-at flags e = e ∙ ap (λ (t : ℕ). filled words t flags) at

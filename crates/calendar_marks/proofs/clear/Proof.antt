@@ -5,7 +5,8 @@ use Prim.Native.Nat.{_+_, _-_, _*_, _/_, _≤_}
 use native.Mathlib.Omega.{arith}
 use lib.ListN.{length}
 use Rattle.calendar.specs.Calendar.{cleared, cleared-word}
-use Rattle.calendar.proofs.Storing.{Done, done-none, done-more, done-all, cleared-in, cleared-out}
+use Rattle.calendar.proofs.Each.{cleared-in, cleared-out}
+use Rattle.calendar_marks.proofs.Storing.{Done, done-none, done-more, done-all}
 use borrow.Author.Needs.{needs}
 use Rattle.calendar_marks.proofs.clear.Statement.{statement}
 use Rattle.calendar_marks.proofs.clear.Tie as tie
@@ -20,7 +21,7 @@ mul-count : tie.Need-mul-count Inv-loop μ-loop
 mul-count c = search needs
 
 loop-holds : tie.Need-loop-holds Inv-loop μ-loop
-loop-holds c = (omega arith, done-none (cleared-word (8 * (length (c .args .words .now) / 8))) (c .args .words .now) 0 (λ j w l. absurd (omega arith)))
+loop-holds c = (omega arith, done-none _ (c .args .words .now) 0 (λ j w l. absurd (omega arith)))
 
 mul-words : tie.Need-mul-words Inv-loop μ-loop
 mul-words c = omega (arith, c .before .loop .inv .1 .same)
@@ -36,11 +37,10 @@ loop-less c = search needs
 
 loop-again : tie.Need-loop-again Inv-loop μ-loop
 loop-again c =
-    let ws = c .before .before .args .words .now in
-    let n = 8 * (length ws / 8) in (
+    let turn = c .before .loop in (
       omega arith,
-      done-more (cleared-word n) ws (c .before .loop .at) (c .before .loop .words) 0 (c .before .loop .inv .1) (omega arith)
-          (sym (cleared-in n (c .before .loop .at) _ (omega arith))) (c .before .loop .at + 1) refl,
+      done-more _ (c .before .before .args .words .now) (turn .at) (turn .words) 0 (turn .inv .1) (omega arith)
+          (sym (cleared-in _ (turn .at) _ (omega arith))) (turn .at + 1) refl,
     )
 
 same-length : tie.Need-same-length Inv-loop μ-loop

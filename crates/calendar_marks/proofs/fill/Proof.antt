@@ -46,10 +46,10 @@ loop-again : tie.Need-loop-again Inv-loop μ-loop
 loop-again c =
     let turn = c .before .before .before .before .before .before .before in
     let start = turn .before .before .before .before .before in
+    let kept-tick = ltb-true (turn .loop .next) (turn .before .kept-ticks .result) (c .before .before .before .before .before .if1 .taken) in
     left-less (start .args .words .now) (start .args .tick) (start .args .bytes .now) (turn .before .kept-ticks .result) (turn .loop .words) (turn .loop .next)
     (turn .loop .at) (turn .loop .inv) (c .before .before .mark-run .last .0)
-    (omega (arith, turn .loop .inv .stop, ltb-true (turn .loop .next) (turn .before .kept-ticks .result) (c .before .before .before .before .before .if1 .taken))) (search needs)
-    (c .before .before .mark-run .ensures)
+    (omega (arith, turn .loop .inv .stop, kept-tick)) (search needs) (c .before .before .mark-run .ensures)
 
 same-length : tie.Need-same-length Inv-loop μ-loop
 same-length c = c .before .before .loop .inv .same

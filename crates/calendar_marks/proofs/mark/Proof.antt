@@ -1,7 +1,6 @@
 -- `calendar_marks::mark` meets its contract.
 -- Assumes nothing.
 use mathlib.Core.Path.{sym, _∙_}
-use native.Mathlib.Omega.{arith}
 use Rattle.calendar.proofs.Stream.{marked-kept, marked-past}
 use borrow.Author.Needs.{needs}
 use Rattle.calendar_marks.proofs.mark.Statement.{statement}

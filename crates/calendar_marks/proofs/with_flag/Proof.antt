@@ -1,6 +1,6 @@
 -- `calendar_marks::with_flag` meets its contract: the bit is set where the flag is up.
 -- Assumes nothing.
-use Rattle.calendar.proofs.Marking.{or-flagged}
+use Rattle.calendar_marks.proofs.Flagged.{or-flagged}
 use borrow.Author.Needs.{needs}
 use Rattle.calendar_marks.proofs.with_flag.Statement.{statement}
 use Rattle.calendar_marks.proofs.with_flag.Tie as tie
