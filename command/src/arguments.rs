@@ -1,6 +1,7 @@
 //! The arguments, read.
 
 use crate::answer::Failure;
+use crate::calendar::Question;
 use crate::hexadecimal;
 use crate::usage;
 use std::ffi::OsString;
@@ -8,6 +9,7 @@ use std::path::PathBuf;
 
 /// What was asked for.
 pub enum Command {
+    Calendar { flags: PathBuf, question: Question },
     Compile { rules: PathBuf, out: PathBuf },
     Figures { sheet: PathBuf },
     Outcome { sheet: PathBuf, rule: usize, flags: PathBuf, tick: usize },
@@ -47,6 +49,9 @@ fn command(name: &str, rest: &[OsString]) -> Result<Command, Failure> {
     match (name, rest) {
         (_, [_]) if asks_help => Ok(Command::Help(usage)),
         _ if asks_help => Err(wrong_number(name, rest, usage::line(usage))),
+        ("calendar", [flags, asked @ ..]) if matches!(asked.len(), 0 | 1 | 3) => {
+            Ok(Command::Calendar { flags: flags.into(), question: question(asked, usage)? })
+        }
         ("compile", [rules, out]) => Ok(Command::Compile { rules: rules.into(), out: out.into() }),
         ("figures", [sheet]) => Ok(Command::Figures { sheet: sheet.into() }),
         ("outcome", [sheet, rule, flags, tick]) => Ok(Command::Outcome {
@@ -61,6 +66,21 @@ fn command(name: &str, rest: &[OsString]) -> Result<Command, Failure> {
         }
         ("watch", [sheet]) => Ok(Command::Watch { sheet: sheet.into() }),
         _ => Err(wrong_number(name, rest, usage::line(usage))),
+    }
+}
+
+/// What the words after the file ask: nothing, FLAG, FLAG FIRST LAST, or FLAG near TICK.
+fn question(asked: &[OsString], usage: &'static str) -> Result<Question, Failure> {
+    let [word, range @ ..] = asked else { return Ok(Question::All) };
+    // One above a byte's largest number is as little a flag: the library refuses both.
+    let flag = number("FLAG", word, usage)?.try_into().unwrap_or(u8::MAX);
+    let tick = |what, word| number(what, word, usage).map(|tick| tick as u64);
+    match range {
+        [near, word] if near == "near" => Ok(Question::Nearest { flag, tick: tick("TICK", word)? }),
+        [first, last] => {
+            Ok(Question::Range { flag, first: tick("FIRST", first)?, last: tick("LAST", last)? })
+        }
+        _ => Ok(Question::Whole { flag }),
     }
 }
 

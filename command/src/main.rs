@@ -5,11 +5,13 @@
 
 mod answer;
 mod arguments;
+mod calendar;
 mod column;
 mod figures;
 mod files;
 mod hexadecimal;
 mod outcome;
+mod recorded;
 mod rules;
 mod sheet;
 mod usage;
@@ -29,6 +31,7 @@ fn main() -> ExitCode {
 
 fn run(command: Command) -> Result<Answer, Stop> {
     match command {
+        Command::Calendar { flags, question } => calendar::ask(&flags, question),
         Command::Compile { rules, out } => rules::compile(&rules, &out),
         Command::Figures { sheet } => figures::of_sheet(&sheet),
         Command::Outcome { sheet, rule, flags, tick } => {

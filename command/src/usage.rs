@@ -2,6 +2,7 @@
 //! anything is built.
 
 pub const ALL: &str = include_str!("../usage/station-watch.txt");
+pub const CALENDAR: &str = include_str!("../usage/calendar.txt");
 pub const COMPILE: &str = include_str!("../usage/compile.txt");
 pub const FIGURES: &str = include_str!("../usage/figures.txt");
 pub const OUTCOME: &str = include_str!("../usage/outcome.txt");
@@ -12,6 +13,7 @@ pub const WATCH: &str = include_str!("../usage/watch.txt");
 /// The usage of a command by its name.
 pub fn of(command: &str) -> Option<&'static str> {
     match command {
+        "calendar" => Some(CALENDAR),
         "compile" => Some(COMPILE),
         "figures" => Some(FIGURES),
         "outcome" => Some(OUTCOME),
