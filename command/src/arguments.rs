@@ -2,6 +2,7 @@
 
 use crate::answer::Failure;
 use crate::calendar::Question;
+use crate::draw::Drawing;
 use crate::hexadecimal;
 use crate::usage;
 use std::ffi::OsString;
@@ -11,6 +12,7 @@ use std::path::PathBuf;
 pub enum Command {
     Calendar { flags: PathBuf, question: Question },
     Compile { rules: PathBuf, out: PathBuf },
+    Draw(Drawing),
     Figures { sheet: PathBuf },
     Outcome { sheet: PathBuf, rule: usize, flags: PathBuf, tick: usize },
     Print { sheet: PathBuf },
@@ -53,6 +55,7 @@ fn command(name: &str, rest: &[OsString]) -> Result<Command, Failure> {
             Ok(Command::Calendar { flags: flags.into(), question: question(asked, usage)? })
         }
         ("compile", [rules, out]) => Ok(Command::Compile { rules: rules.into(), out: out.into() }),
+        ("draw", _) => drawing(rest, usage).map(Command::Draw),
         ("figures", [sheet]) => Ok(Command::Figures { sheet: sheet.into() }),
         ("outcome", [sheet, rule, flags, tick]) => Ok(Command::Outcome {
             sheet: sheet.into(),
@@ -82,6 +85,39 @@ fn question(asked: &[OsString], usage: &'static str) -> Result<Question, Failure
         }
         _ => Ok(Question::Whole { flag }),
     }
+}
+
+/// FLAGS, or FLAGS FIRST LAST, with the options at any place among them.
+fn drawing(rest: &[OsString], usage: &'static str) -> Result<Drawing, Failure> {
+    let mut words = rest.to_vec();
+    let sheet = option("--sheet", &mut words, usage)?;
+    let svg = option("--svg", &mut words, usage)?;
+    if let Some(left) = words.iter().find(|word| word.to_string_lossy().starts_with("--")) {
+        let said = format!("draw: unknown or repeated option '{}'", left.to_string_lossy());
+        return Err(Failure::Usage(said, usage::line(usage)));
+    }
+    let (flags, ticks) = match &words[..] {
+        [flags] => (flags, None),
+        [flags, first, last] => {
+            let (first, last) = (number("FIRST", first, usage)?, number("LAST", last, usage)?);
+            (flags, Some((first as u64, last as u64)))
+        }
+        _ => return Err(wrong_number("draw", rest, usage::line(usage))),
+    };
+    Ok(Drawing { flags: flags.into(), ticks, sheet, svg })
+}
+
+/// Takes an option and the file after it out of the words, if it is there.
+fn option(
+    name: &str,
+    words: &mut Vec<OsString>,
+    usage: &'static str,
+) -> Result<Option<PathBuf>, Failure> {
+    let Some(place) = words.iter().position(|word| word == name) else { return Ok(None) };
+    if place + 1 == words.len() {
+        return Err(Failure::Usage(format!("no file after {name}"), usage::line(usage)));
+    }
+    Ok(words.drain(place..place + 2).last().map(PathBuf::from))
 }
 
 /// A number in decimal digits. One too large for the machine is as large as can be,

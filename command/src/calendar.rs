@@ -33,7 +33,7 @@ pub fn ask(flags: &Path, question: Question) -> Result<Answer, Stop> {
         }
         Question::Nearest { flag, tick } => {
             let nearest = calendar.nearest_up(flag, tick)?;
-            format!("flag {flag} near {tick} up {}\n", or_none(nearest))
+            format!("flag {flag} tick {tick} nearest {}\n", or_none(nearest))
         }
     };
     Ok(Answer::given(text))

@@ -1,12 +1,13 @@
 //! The command `station-watch`: what a C programmer calls, a person can type. It has no
-//! logic of its own, but for `column` and for the rule that `watch` names where a sheet is
-//! refused: it reads arguments and files, asks the library, and writes what that answers.
-//! `usage` says what it takes, prints, and ends with.
+//! logic of its own, but for `column`, for the rule that `watch` names where a sheet is
+//! refused, and for where `draw` puts what it shows: it reads arguments and files, asks the
+//! library, and writes what that answers. `usage` says what it takes, prints, and ends with.
 
 mod answer;
 mod arguments;
 mod calendar;
 mod column;
+mod draw;
 mod figures;
 mod files;
 mod hexadecimal;
@@ -33,6 +34,7 @@ fn run(command: Command) -> Result<Answer, Stop> {
     match command {
         Command::Calendar { flags, question } => calendar::ask(&flags, question),
         Command::Compile { rules, out } => rules::compile(&rules, &out),
+        Command::Draw(drawing) => draw::draw(&drawing),
         Command::Figures { sheet } => figures::of_sheet(&sheet),
         Command::Outcome { sheet, rule, flags, tick } => {
             outcome::at_tick(&sheet, rule, &flags, tick)

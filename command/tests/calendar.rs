@@ -62,7 +62,7 @@ fn questions_about(path: &str, flags: &[u8], flag: u64) {
     assert_eq!(asked(path, &[&word]), format!("flag {flag} {}", told(&whole)));
     for tick in [0, 1, 63, 64, ticks / 2, ticks.saturating_sub(1), ticks, ticks + 64, u64::MAX] {
         let near = asked(path, &[&word, "near", &tick.to_string()]);
-        assert_eq!(near, format!("flag {flag} near {tick} up {}", nearest(&whole, tick)));
+        assert_eq!(near, format!("flag {flag} tick {tick} nearest {}", nearest(&whole, tick)));
         for last in [0, 63, 64, 127, ticks.saturating_sub(1), ticks, u64::MAX] {
             let said = asked(path, &[&word, &tick.to_string(), &last.to_string()]);
             let due = told(&ups(flags, flag, tick, last));
@@ -123,7 +123,7 @@ fn a_long_file() {
     let path = folder.file("flags", &flags);
     let began = Instant::now();
     assert_eq!(asked(&path, &["7"]), "flag 7 ups 2 first 4320000 last 8639999");
-    assert_eq!(asked(&path, &["0", "near", "8639999"]), "flag 0 near 8639999 up 4320000");
+    assert_eq!(asked(&path, &["0", "near", "8639999"]), "flag 0 tick 8639999 nearest 4320000");
     assert!(began.elapsed() < Duration::from_secs(20));
 }
 

@@ -383,6 +383,7 @@ fn usage() {
     let commands = [
         "calendar FLAGS ..",
         "compile RULES SHEET",
+        "draw FLAGS ..",
         "figures SHEET",
         "outcome SHEET RULE FLAGS TICK",
         "print SHEET",
