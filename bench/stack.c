@@ -153,6 +153,10 @@ static sw_running records[SW_MAX_RULES];
 static uint8_t set_history[SW_MAX_HISTORY];
 static uint32_t set_cells[SW_MAX_CELL_WORDS];
 
+/* A calendar of 64 runs. */
+enum { WORDS = 8 * 64, LAST_FLAG = 7 };
+static uint64_t words[WORDS];
+
 static uint32_t call_nothing(void)
 {
     return 0;
@@ -249,6 +253,61 @@ static uint32_t call_set_steps(void)
                         report, SW_MAX_SET_BATCH_REPORT, &numbers[0], &numbers[1], &numbers[2]);
 }
 
+static uint32_t call_calendar_open(void)
+{
+    return sw_calendar_open(sheet, sheet_size, 0, history, SW_MAX_HISTORY, cells, SW_MAX_CELL_WORDS,
+                            words, WORDS, state);
+}
+
+static uint32_t call_calendar_step(void)
+{
+    uint32_t refusal = 0;
+
+    for (int k = 0; k < FLAGS && refusal == 0; k++)
+        refusal = sw_calendar_step(state, flags[k], history, SW_MAX_HISTORY, cells, SW_MAX_CELL_WORDS,
+                                   report, SW_MAX_BATCH_REPORT, words, WORDS, &numbers[0], &numbers[1]);
+    return refusal;
+}
+
+static uint32_t call_calendar_steps(void)
+{
+    return sw_calendar_steps(state, flags, FLAGS, history, SW_MAX_HISTORY, cells, SW_MAX_CELL_WORDS,
+                             report, SW_MAX_BATCH_REPORT, words, WORDS,
+                             &numbers[0], &numbers[1], &numbers[2]);
+}
+
+static uint32_t call_calendar_clear(void)
+{
+    sw_calendar_clear(words, WORDS);
+    return 0;
+}
+
+static uint32_t call_calendar_fill(void)
+{
+    sw_calendar_fill(words, WORDS, 62, flags, FLAGS);
+    return 0;
+}
+
+static uint32_t call_calendar_ups(void)
+{
+    return sw_calendar_ups(words, WORDS, LAST_FLAG, 1, UINT64_MAX, &figures[0]);
+}
+
+static uint32_t call_calendar_first(void)
+{
+    return sw_calendar_first(words, WORDS, LAST_FLAG, 1, UINT64_MAX, &figures[0]);
+}
+
+static uint32_t call_calendar_last(void)
+{
+    return sw_calendar_last(words, WORDS, LAST_FLAG, 1, UINT64_MAX, &figures[0]);
+}
+
+static uint32_t call_calendar_nearest(void)
+{
+    return sw_calendar_nearest(words, WORDS, LAST_FLAG, 64 * 32, &figures[0]);
+}
+
 static uint32_t call_sentence(void)
 {
     static uint8_t out[SW_MAX_SENTENCE];
@@ -275,6 +334,15 @@ static struct function {
     { "sw_set_open", call_set_open, 0, "" },
     { "sw_set_step", call_set_step, 0, "" },
     { "sw_set_steps", call_set_steps, 0, "" },
+    { "sw_calendar_open", call_calendar_open, 0, "" },
+    { "sw_calendar_step", call_calendar_step, 0, "" },
+    { "sw_calendar_steps", call_calendar_steps, 0, "" },
+    { "sw_calendar_clear", call_calendar_clear, 0, "" },
+    { "sw_calendar_fill", call_calendar_fill, 0, "" },
+    { "sw_calendar_ups", call_calendar_ups, 0, "" },
+    { "sw_calendar_first", call_calendar_first, 0, "" },
+    { "sw_calendar_last", call_calendar_last, 0, "" },
+    { "sw_calendar_nearest", call_calendar_nearest, 0, "" },
     { "sw_sentence", call_sentence, 0, "" },
 };
 
@@ -467,7 +535,7 @@ int main(void)
     measure_texts();
     for (int k = 0; k < FUNCTIONS; k++) {
         const struct function *f = &functions[k];
-        printf("%-17s %6zu bytes  %s\n", f->name, f->deepest, f->body);
+        printf("%-19s %6zu bytes  %s\n", f->name, f->deepest, f->body);
         if (f->deepest > SW_MAX_STACK) {
             printf("%s takes more than %d bytes of stack\n", f->name, SW_MAX_STACK);
             status = 1;

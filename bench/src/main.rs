@@ -2,14 +2,17 @@
 //!
 //!     bench agree           checks that all ways report the same (the gate does this)
 //!     bench                 the same, and nanoseconds a step
+//!     bench calendar        the same of the calendar alone, nanoseconds a word
 //!     bench instructions    instructions a step, counted by valgrind
 //!     bench run WAY RULE STREAM STEPS
 //!
 //! Ways: the library step by step, the library in batches, the same incremental
 //! engine plainly in Rust, and evaluating every open tick anew at each step. Of several
-//! rules: all at once, as a set, and each by itself, both step by step and in batches.
+//! rules: all at once, as a set, and each by itself, both step by step and in batches. Of the
+//! calendar: the library, the same loops plainly in Rust, word by word and tick by tick.
 
 mod anew;
+mod calendar;
 mod cases;
 mod instructions;
 mod outcome;
@@ -17,6 +20,7 @@ mod plain;
 mod sets;
 mod time;
 mod ways;
+mod words;
 
 use cases::{ahead, behind, cases, find, stream, STREAMS};
 use rust_tests::paper::Formula;
@@ -37,16 +41,23 @@ fn main() {
         [] => {
             agree();
             agree_on_sets();
+            calendar::agree();
             print_times();
             print_set_times();
+            calendar::print_times();
         }
         ["agree"] => {
             agree();
             agree_on_sets();
+            calendar::agree();
+        }
+        ["calendar"] => {
+            calendar::agree();
+            calendar::print_times();
         }
         ["instructions"] => print_instructions(),
         ["run", way, rule, stream, steps] => run(way, rule, stream, steps),
-        _ => panic!("bench [agree | instructions | run WAY RULE STREAM STEPS]"),
+        _ => panic!("bench [agree | calendar | instructions | run WAY RULE STREAM STEPS]"),
     }
 }
 

@@ -285,6 +285,83 @@ static void sets(void)
     SAME(guard_before ? SW_CELL_TABLE_TOO_SHORT : SW_STATE_NOT_OPENED, set_step(1, 4, TWO_WORDS, 2 * TWO_PAIRS));
 }
 
+/* ---- A flag calendar ---- */
+
+/* Up to two runs, and groups under eight after them. */
+enum { MOST_WORDS = 2 * 8 + 7 };
+
+static void *words_at(size_t words)
+{
+    return at(8, 8 * words);
+}
+
+/* How many of `count` ticks from `tick` on so many words keep. */
+static uint32_t kept_of(size_t words, uint64_t tick, size_t count)
+{
+    uint64_t end = 64 * (words / 8);
+    return (uint32_t)(tick >= end ? 0 : count < end - tick ? count : end - tick);
+}
+
+/* The four questions about flag 3, in a range and near its first tick. */
+static void ask(size_t words, uint64_t first, uint64_t last, uint32_t ups)
+{
+    uint64_t *told = answer(1), *from = answer(2), *to = answer(3), *near = answer(5);
+    SAME(SW_OK, sw_calendar_ups(words_at(words), words, 3, first, last, told));
+    SAME(SW_OK, sw_calendar_first(words_at(words), words, 3, first, last, from));
+    SAME(SW_OK, sw_calendar_last(words_at(words), words, 3, first, last, to));
+    SAME(SW_OK, sw_calendar_nearest(words_at(words), words, 3, first, near));
+    SAME(ups, (uint32_t)*told);
+    SAME(1, ups == 0 ? *from == SW_NO_TICK && *to == SW_NO_TICK : *from == first && *to == first + ups - 1);
+    SAME(1, *near == (ups == 0 ? SW_NO_TICK : first));
+    SAME(SW_NO_SUCH_FLAG, sw_calendar_ups(words_at(words), words, 8, first, last, told));
+    SAME(SW_NO_SUCH_FLAG, sw_calendar_first(words_at(words), words, 8, first, last, from));
+    SAME(SW_NO_SUCH_FLAG, sw_calendar_last(words_at(words), words, 8, first, last, to));
+    SAME(SW_NO_SUCH_FLAG, sw_calendar_nearest(words_at(words), words, 8, first, near));
+}
+
+/* Words and flag bytes in every length, filled in from ticks around the edges of the runs. */
+static void calendars(void)
+{
+    static const uint64_t ticks[] = {0, 1, 60, 63, 64, 65, 126, 127, 128, 129, 200, UINT64_MAX - 1, UINT64_MAX};
+    for (size_t words = 0; words <= MOST_WORDS; words++)
+        for (size_t i = 0; i < sizeof ticks / sizeof ticks[0]; i++)
+            for (size_t count = 0; count <= 6; count++) {
+                memset(at(4, count), 8, count);
+                sw_calendar_clear(words_at(words), words);
+                sw_calendar_fill(words_at(words), words, ticks[i], at(4, count), count);
+                ask(words, ticks[i], UINT64_MAX, kept_of(words, ticks[i], count));
+            }
+}
+
+/* The example with so many words of a calendar, opened and stepped past them. */
+static void calendar_steps(void)
+{
+    static uint8_t sheet[SHEET] = {1, 5, 0, BODY, 0};
+    memcpy(sheet + 5, example, BODY);
+    for (size_t words = 0; words <= MOST_WORDS; words++) {
+        uint32_t taken = 0;
+        SAME(SW_OK, sw_calendar_open(lent(3, sheet, SHEET), SHEET, 0, at(1, 4), 4, at(2, 4 * WORDS), WORDS,
+                                     words_at(words), words, at(0, SW_STATE_BYTES)));
+        for (; taken < 66; taken++)
+            SAME(SW_OK, sw_calendar_step(at(0, SW_STATE_BYTES), 8, at(1, 4), 4, at(2, 4 * WORDS), WORDS, at(3, 12), 3,
+                                         words_at(words), words, answer(5), answer(6)));
+        for (size_t flags = 0; taken < 140; taken += (uint32_t)flags++) {
+            memset(at(4, flags), 8, flags);
+            SAME(SW_OK, sw_calendar_steps(at(0, SW_STATE_BYTES), at(4, flags), flags, at(1, 4), 4, at(2, 4 * WORDS), WORDS,
+                                          at(3, 24), 6, words_at(words), words, answer(5), answer(6), answer(7)));
+            SAME((uint32_t)flags, (uint32_t)*(size_t *)answer(5));
+        }
+        ask(words, 0, UINT64_MAX, kept_of(words, 0, taken));
+        SAME(SW_HISTORY_LENGTH, sw_calendar_open(lent(3, sheet, SHEET), SHEET, 0, at(1, 0), 0, at(2, 4 * WORDS), WORDS,
+                                                 words_at(words), words, at(0, SW_STATE_BYTES)));
+        SAME(SW_REPORT_TOO_SHORT, sw_calendar_step(at(0, SW_STATE_BYTES), 0, at(1, 4), 4, at(2, 4 * WORDS), WORDS, at(3, 8), 2,
+                                                   words_at(words), words, answer(5), answer(6)));
+        SAME(SW_CELL_TABLE_TOO_SHORT, sw_calendar_steps(at(0, SW_STATE_BYTES), at(4, 1), 1, at(1, 4), 4, at(2, 0), 0, at(3, 24), 6,
+                                                        words_at(words), words, answer(5), answer(6), answer(7)));
+        ask(words, 0, UINT64_MAX, kept_of(words, 0, taken));
+    }
+}
+
 static void sentences(void)
 {
     for (uint32_t number = 0; number < 30; number++) {
@@ -309,6 +386,8 @@ int main(void)
         sheets();
         stepping();
         sets();
+        calendars();
+        calendar_steps();
         sentences();
     }
     printf("guard_pages.c: %u checks, %u failed\n", checks, failures);

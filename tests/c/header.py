@@ -1,6 +1,6 @@
 """Holds include/station_watch.h and the library to each other: both kinds show the header's functions and no others, and the sentence in the comment above
 each refusal's constant is what sw_sentence writes. It loads the shared library as other languages do, and asks for the figures of the scope document's
-example, for its body from its text, and for its text; and it runs a set of two rules, with records as the header declares them.
+example, for its body from its text, and for its text; it runs a set of two rules, with records as the header declares them, and a rule with a calendar.
 
     python3 header.py SHARED STATIC
 """
@@ -110,10 +110,48 @@ def sets():
     same("next ticks of the records", [4, 4, 0], [one.next for one in records])
 
 
+def answered(function, *given):
+    """What a question to a calendar answers, and what is told."""
+    told = ctypes.c_uint64(77)
+    return function(*given, ctypes.byref(told)), told.value
+
+
+def calendars():
+    """Flag 0 at X, with the words of one run and three more: flag bytes 1, 0 and 129, and then 128 at tick 9."""
+    size, number, byte = ctypes.c_size_t, ctypes.c_uint64, ctypes.c_uint8
+    sheet, state, history, cells = bytes.fromhex("01 05000300 010000"), (byte * 544)(), (byte * 1)(), (ctypes.c_uint32 * 4)()
+    words, report = (number * 11)(*[5] * 11), (ctypes.c_uint32 * 2)()
+    library.sw_calendar_clear.restype = library.sw_calendar_fill.restype = None
+    answer = library.sw_calendar_open(sheet, size(len(sheet)), size(0), history, size(0), cells, size(4), words, size(11), state)
+    same("opening with a calendar", (0, [0] * 8 + [5] * 3), (answer, words[:]))
+    taken, pairs, reported, live = (size() for _ in range(4))
+    answer = library.sw_calendar_step(state, byte(1), history, size(0), cells, size(4), report, size(2), words, size(11), ctypes.byref(reported),
+                                      ctypes.byref(live))
+    same("a step with a calendar", (0, 0), (answer, reported.value))
+    answer = library.sw_calendar_steps(state, bytes([0, 129]), size(2), history, size(0), cells, size(4), report, size(2), words, size(11),
+                                       ctypes.byref(taken), ctypes.byref(pairs), ctypes.byref(live))
+    same("a batch with a calendar", (0, 1, 1, [1, 1]), (answer, taken.value, pairs.value, report[:]))
+    library.sw_calendar_fill(words, size(11), number(2), bytes([129]), size(1))
+    library.sw_calendar_fill(words, size(11), number(9), bytes([128]), size(1))
+    same("words of the calendar", [5, 0, 0, 0, 0, 0, 0, 4 + 512] + [5] * 3, words[:])
+    none = 2**64 - 1
+    for flag, first, last, due in ((0, 0, none, (2, 0, 2)), (0, 1, 2, (1, 2, 2)), (7, 3, 8, (0, none, none)), (7, 3, none, (1, 9, 9))):
+        asked = (words, size(11), byte(flag), number(first), number(last))
+        questions = (library.sw_calendar_ups, library.sw_calendar_first, library.sw_calendar_last)
+        same(f"flag {flag} from {first} to {last}", [(0, told) for told in due], [answered(question, *asked) for question in questions])
+        asked = (words, size(11), byte(8), number(first), number(last))
+        same("flag 8", [(7, 77)] * 3, [answered(question, *asked) for question in questions])
+    for flag, tick, due in ((0, 1, (0, 0)), (7, 6, (0, 9)), (1, 6, (0, none)), (8, 6, (7, 77))):
+        same(f"flag {flag} near {tick}", due, answered(library.sw_calendar_nearest, words, size(11), byte(flag), number(tick)))
+    library.sw_calendar_clear(words, size(11))
+    same("words that were cleared", [0] * 8 + [5] * 3, words[:])
+
+
 functions()
 sentences()
 figures()
 texts()
 sets()
+calendars()
 print("\n".join(failures) if failures else "header.py: ok")
 sys.exit(bool(failures))

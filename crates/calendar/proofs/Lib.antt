@@ -1,6 +1,5 @@
-pub mod Digits
 pub mod Marking
-pub mod Storing
+pub mod Each
 pub mod Stream
 pub mod Said
 pub mod Agreement

@@ -1,14 +1,13 @@
--- A bit set in a word by `|`, and the words of a run after a tick.
-use mathlib.Core.Path.{_≡_, refl, sym, ap, _∙_, subst}
+-- A bit set in a word by `|`, and the digits of the word after that.
+use mathlib.Core.Path.{_≡_, refl, sym, ap, _∙_}
 use mathlib.Core.Bool.{Bool, true, false, cond}
 use Prim.{⊥}
-use Prim.Native.Nat.{ℕ, zero, suc, _+_, _-_, _*_, _/_, _%_, _^_, _≤_, _<_, max}
-use native.Mathlib.Nat.{mod-lt, one-mul, zero-mul, zero-mod, mul-div-cancel, mul-mod-left, div-self, div-eq-of-lt, pow-suc, mul-add-mod-self-right, mod-eq-of-lt}
+use Prim.Native.Nat.{ℕ, zero, suc, _+_, _-_, _*_, _/_, _%_, _^_, _<_, max}
+use native.Mathlib.Nat.{mod-lt, one-mul, zero-mul, mul-div-cancel, mul-mod-left, div-self, div-eq-of-lt, pow-suc, mul-add-mod-self-right, mod-eq-of-lt}
 use native.Mathlib.Omega.{arith}
-use native.Mathlib.Numerals.{one-add}
 use lib.Dec.{ltb, eqb, lit<}
-use lib.Pow.{pow-pos, pow-lt, pow-add, shl-exact, high-ones}
-use lib.Bits.{bitAnd, bitOr, and-mask, and-high, or-add-and, or-zero-r, or-shr, or-step}
+use lib.Pow.{pow-pos, pow-lt, pow-add, high-ones}
+use lib.Bits.{bitAnd, bitOr, and-high, or-add-and, or-shr, or-step}
 use borrow.Author.Tests.{ltb-true, ltb-false}
 use lib.Arith.{lt-of-le-ne}
 use Rattle.rule.specs.Meaning.{up}
@@ -16,6 +15,12 @@ use Rattle.calendar.specs.Calendar.{with-bit, flagged}
 
 two-pos : zero < 2
 two-pos = lit< tt
+
+-- ---- no digit at or above the length
+
+pub up-above : (m j : ℕ) → m < 2 ^ j → up j m ≡ false
+unfolding up
+up-above m j h = ap (λ (x : ℕ). eqb (x % 2) 1) (div-eq-of-lt h)
 
 -- ---- `w | (1 << i)`
 
@@ -35,21 +40,6 @@ or-bit w i = go (w / 2 ^ i % 2) refl
         let a : bitAnd w (2 ^ i) ≡ 2 ^ i = and-bit w i ∙ ap (λ (x : ℕ). x * 2 ^ i) e ∙ one-mul (2 ^ i) in
         omega (arith, or-add-and w (2 ^ i))
     go (suc (suc r)) e = absurd (omega arith)
-
--- `1 << i`
-one-shl : (i : ℕ) → i < 64 → (1 * 2 ^ i) % 2 ^ 64 ≡ 2 ^ i
-one-shl i h = shl-exact {a = 1} 1 i 64 (lit< tt) (subst (λ (x : ℕ). x ≤ 64) (sym (one-add i)) h) ∙ one-mul (2 ^ i)
-
--- `w | (((b >> k) & 1) << i)`
-pub or-flagged : (w i b k : ℕ) → i < 64 → bitOr w ((bitAnd (b / 2 ^ k) 1 * 2 ^ i) % 2 ^ 64) ≡ flagged i b k w
-unfolding flagged up
-or-flagged w i b k h =
-    ap (λ (x : ℕ). bitOr w ((x * 2 ^ i) % 2 ^ 64)) (and-mask (b / 2 ^ k) 1) ∙ go (b / 2 ^ k % 2) (mod-lt (b / 2 ^ k) two-pos)
-  where
-    go : (r : ℕ) → r < 2 → bitOr w ((r * 2 ^ i) % 2 ^ 64) ≡ cond (eqb r 1) (with-bit i w) w
-    go zero l = ap (λ (x : ℕ). bitOr w (x % 2 ^ 64)) (zero-mul (2 ^ i)) ∙ ap (bitOr w) (zero-mod (2 ^ 64)) ∙ or-zero-r w
-    go (suc zero) l = ap (bitOr w) (one-shl i h) ∙ or-bit w i
-    go (suc (suc r)) l = absurd (omega arith)
 
 -- ---- the digits of a word after that
 

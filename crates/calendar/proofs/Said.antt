@@ -1,22 +1,20 @@
 -- What the recursions of `Search` say, in terms of each tick: the first and the last that is up, the nearest, "the earlier of two equally near", and
 -- none exactly where no tick is up.
 use mathlib.Core.Path.{_≡_, refl, sym, ap, _∙_, subst}
-use mathlib.Core.Bool.{Bool, true, false, cond}
+use mathlib.Core.Bool.{Bool, true, false, cond, false≢true}
+use mathlib.Core.List.{List}
 use Prim.Native.Nat.{ℕ, zero, suc, _+_, _≤_, _<_}
 use native.Mathlib.Nat.{le-trans, le-refl, lt-of-lt-of-le, le-of-lt}
 use native.Mathlib.Omega.{arith}
 use lib.Dec.{ltb}
 use borrow.Author.Tests.{ltb-true, ltb-false}
 use Rattle.calendar.specs.Search.{earliest, latest, apart, nearer, nearest}
+use Rattle.calendar.specs.Said.{First, Last, Near, InRange, FirstUp, LastUp, NearestUp}
+use Rattle.calendar.specs.Calendar.{kept, up-at, span, first-up, last-up, nearest-up}
 use Rattle.calendar.specs.declared.UpTick.{UpTick}
 use Rattle.calendar.specs.declared.UpTick.the-variants.{At, None}
-use Rattle.calendar.proofs.Digits.{clash}
 
 -- ---- the first
-
-unfoldable pub First : (ℕ → Bool) → ℕ → ℕ → UpTick → Type 0
-First f a n (At p) = (a ≤ p) × (p < a + n) × (f p ≡ true) × ((q : ℕ) → a ≤ q → q < p → f q ≡ false)
-First f a n None = (q : ℕ) → a ≤ q → q < a + n → f q ≡ false
 
 from-next : (f : ℕ → Bool) (a q : ℕ) → f a ≡ false → a ≤ q → (suc a ≤ q → f q ≡ false) → f q ≡ false
 from-next f a q e l next = go (ltb a q) refl
@@ -37,10 +35,6 @@ earliest-said f a (suc n) = go (f a) refl (earliest f (suc a) n) (earliest-said 
 
 -- ---- the last
 
-unfoldable pub Last : (ℕ → Bool) → ℕ → ℕ → UpTick → Type 0
-Last f a n (At p) = (a ≤ p) × (p < a + n) × (f p ≡ true) × ((q : ℕ) → p < q → q < a + n → f q ≡ false)
-Last f a n None = (q : ℕ) → a ≤ q → q < a + n → f q ≡ false
-
 before-last : (f : ℕ → Bool) (e q : ℕ) → f e ≡ false → q < suc e → (q < e → f q ≡ false) → f q ≡ false
 before-last f e q z l next = go (ltb q e) refl
   where
@@ -59,10 +53,6 @@ latest-said f a (suc n) = go (f (a + n)) refl (latest f a n) (latest-said f a n)
     go false e None w = λ q l m. before-last f (a + n) q e (omega arith) (λ i. w q l i)
 
 -- ---- the nearest
-
-unfoldable pub Near : (ℕ → Bool) → ℕ → ℕ → UpTick → Type 0
-Near f t n (At p) = (p < n) × (f p ≡ true) × ((q : ℕ) → q < n → f q ≡ true → apart t p ≤ apart t q) × ((q : ℕ) → q < p → f q ≡ true → apart t p < apart t q)
-Near f t n None = (q : ℕ) → q < n → f q ≡ false
 
 -- of the ticks 0 .. n the last, or one before it
 last-or : (n q : ℕ) (A : Type 0) → q < suc n → (q ≡ n → A) → (q < n → A) → A
@@ -96,7 +86,7 @@ nearest-said f t (suc n) = go (f n) refl (nearest f t n) (nearest-said f t n)
     go false e (At p) w = (
       omega (arith, w .0),
       w .1,
-      λ q l u. last-or n q (apart t p ≤ apart t q) l (λ s. absurd (clash (sym u ∙ ap f s ∙ e))) (λ i. w .2 q i u),
+      λ q l u. last-or n q (apart t p ≤ apart t q) l (λ s. absurd (false≢true (sym e ∙ ap f (sym s) ∙ u))) (λ i. w .2 q i u),
       w .3,
     )
     go false e None w = λ q l. last-or n q (f q ≡ false) l (λ s. ap f s ∙ e) (λ i. w q i)
@@ -104,6 +94,38 @@ nearest-said f t (suc n) = go (f n) refl (nearest f t n) (nearest-said f t n)
     go true e None w = (
       omega arith,
       e,
-      λ q l u. last-or n q (apart t n ≤ apart t q) l (λ s. subst (λ (x : ℕ). apart t n ≤ apart t x) (sym s) (le-refl (apart t n))) (λ i. absurd (clash (sym u ∙ w q i))),
-      λ q i u. absurd (clash (sym u ∙ w q i)),
+      λ q l u. last-or n q (apart t n ≤ apart t q) l (λ s. subst (λ (x : ℕ). apart t n ≤ apart t x) (sym s) (le-refl (apart t n))) (λ i. absurd (false≢true (sym (w q i) ∙ u))),
+      λ q i u. absurd (false≢true (sym (w q i) ∙ u)),
     )
+
+-- ---- of the kept ticks of a calendar
+
+module _ (words : List ℕ) (k first last : ℕ) where
+  -- A tick of the range is one of so many from its first on.
+  inside : (q : ℕ) → InRange words first last q → q < first + span (kept words) first last
+  unfolding span
+  inside q (low, high, there) = omega arith
+
+  outside : (q : ℕ) → first ≤ q → q < first + span (kept words) first last → InRange words first last q
+  unfolding span
+  outside q low high = (low, omega arith, omega arith)
+
+  pub first-up-said : FirstUp words k first last (first-up words k first last)
+  unfolding first-up First
+  first-up-said = go (earliest (up-at words k) first (span (kept words) first last)) (earliest-said (up-at words k) first (span (kept words) first last))
+    where
+      go : (found : UpTick) → First (up-at words k) first (span (kept words) first last) found → FirstUp words k first last found
+      go (At p) w = (outside p (w .0) (w .1), w .2, λ q i l. w .3 q (i .0) l)
+      go None w = λ q i. w q (i .0) (inside q i)
+
+  pub last-up-said : LastUp words k first last (last-up words k first last)
+  unfolding last-up Last
+  last-up-said = go (latest (up-at words k) first (span (kept words) first last)) (latest-said (up-at words k) first (span (kept words) first last))
+    where
+      go : (found : UpTick) → Last (up-at words k) first (span (kept words) first last) found → LastUp words k first last found
+      go (At p) w = (outside p (w .0) (w .1), w .2, λ q i l. w .3 q l (inside q i))
+      go None w = λ q i. w q (i .0) (inside q i)
+
+pub nearest-up-said : (words : List ℕ) (k t : ℕ) → NearestUp words k t (nearest-up words k t)
+unfolding nearest-up
+nearest-up-said words k t = nearest-said (up-at words k) t (kept words)

@@ -2,19 +2,18 @@
 -- exactly if it is up in the tick's byte, and at no tick that is not filled yet.
 use mathlib.Core.Path.{_≡_, refl, sym, ap, _∙_, subst}
 use mathlib.Core.Bool.{Bool, true, false, cond}
-use mathlib.Core.List.{List, [], _∷_}
+use mathlib.Core.List.{List, [], _∷_, _++_}
 use Prim.{⊥}
 use Prim.Native.Nat.{ℕ, suc, _+_, _-_, _*_, _/_, _%_, _≤_, _<_}
 use native.Mathlib.Omega.{arith}
 use lib.Dec.{ltb, eqb}
-use lib.ListN.{length, getD}
+use lib.ListN.{length, getD, drop}
 use lib.Pow.{pow-pos}
 use borrow.Author.Tests.{lt-ltb, le-ltb, ltb-true, ltb-false, eqb-true, eqb-false}
 use Rattle.rule.specs.Meaning.{up}
 use Rattle.calendar.specs.Calendar.{kept, run-word, up-at, each, cleared-word, cleared, flagged, marked-word, marked, filled}
-use Rattle.calendar.proofs.Digits.{up-above}
-use Rattle.calendar.proofs.Marking.{flagged-here, flagged-other}
-use Rattle.calendar.proofs.Storing.{length-each, getD-each, cleared-in, marked-in, marked-out}
+use Rattle.calendar.proofs.Marking.{up-above, flagged-here, flagged-other}
+use Rattle.calendar.proofs.Each.{length-each, getD-each, drop-each, cleared-in, cleared-out, marked-in, marked-out}
 
 -- ---- the word of a kept tick
 
@@ -29,17 +28,27 @@ run-word-each f ws k q l h =
     getD-each f 0 ws (8 * (q / 64) + k) (word-in ws k q l h)
     ∙ ap (λ (x : ℕ). f x (getD ws (8 * (q / 64) + k) 0)) (let e : 0 + (8 * (q / 64) + k) ≡ 8 * (q / 64) + k = omega arith in e)
 
-kept-each : (f : ℕ → ℕ → ℕ) (ws : List ℕ) → kept (each f 0 ws) ≡ kept ws
+-- as many words keep as many ticks
+kept-length : (vs ws : List ℕ) → length vs ≡ length ws → kept vs ≡ kept ws
 unfolding kept
-kept-each f ws = ap (λ (x : ℕ). 64 * (x / 8)) (length-each f 0 ws)
+kept-length vs ws e = ap (λ (x : ℕ). 64 * (x / 8)) e
 
 -- ---- clearing
 
-pub kept-cleared : (ws : List ℕ) → kept (cleared ws) ≡ kept ws
+pub length-cleared : (ws : List ℕ) → length (cleared ws) ≡ length ws
 unfolding cleared
-kept-cleared ws = kept-each (cleared-word (8 * (length ws / 8))) ws
+length-cleared ws = length-each (cleared-word (8 * (length ws / 8))) 0 ws
 
-up-zero : (k : ℕ) → up k 0 ≡ false
+pub kept-cleared : (ws : List ℕ) → kept (cleared ws) ≡ kept ws
+kept-cleared ws = kept-length (cleared ws) ws (length-cleared ws)
+
+-- a last group under eight keeps its content
+pub rest-cleared : (ws : List ℕ) → drop (8 * (length ws / 8)) (cleared ws) ≡ drop (8 * (length ws / 8)) ws
+unfolding cleared
+rest-cleared ws =
+    let n = 8 * (length ws / 8) in drop-each (cleared-word n) 0 ws n (λ j w l. cleared-out n j w (omega arith))
+
+pub up-zero : (k : ℕ) → up k 0 ≡ false
 up-zero k = up-above 0 k (pow-pos k)
 
 pub up-cleared : (ws : List ℕ) (k q : ℕ) → k < 8 → q < kept ws → up-at (cleared ws) k q ≡ false
@@ -52,13 +61,16 @@ up-cleared ws k q l h =
 
 -- ---- one tick
 
-pub kept-marked : (ws : List ℕ) (t b : ℕ) → kept (marked ws t b) ≡ kept ws
+pub length-marked : (ws : List ℕ) (t b : ℕ) → length (marked ws t b) ≡ length ws
 unfolding marked
-kept-marked ws t b = go (ltb t (kept ws))
+length-marked ws t b = go (ltb t (kept ws))
   where
-    go : (x : Bool) → kept (cond x (each (marked-word t b) 0 ws) ws) ≡ kept ws
-    go true = kept-each (marked-word t b) ws
+    go : (x : Bool) → length (cond x (each (marked-word t b) 0 ws) ws) ≡ length ws
+    go true = length-each (marked-word t b) 0 ws
     go false = refl
+
+pub kept-marked : (ws : List ℕ) (t b : ℕ) → kept (marked ws t b) ≡ kept ws
+kept-marked ws t b = kept-length (marked ws t b) ws (length-marked ws t b)
 
 pub marked-kept : (ws : List ℕ) (t b : ℕ) → t < kept ws → marked ws t b ≡ each (marked-word t b) 0 ws
 unfolding marked
@@ -67,6 +79,20 @@ marked-kept ws t b h = ap (λ (x : Bool). cond x (each (marked-word t b) 0 ws) w
 pub marked-past : (ws : List ℕ) (t b : ℕ) → kept ws ≤ t → marked ws t b ≡ ws
 unfolding marked
 marked-past ws t b h = ap (λ (x : Bool). cond x (each (marked-word t b) 0 ws) ws) (le-ltb t (kept ws) h)
+
+-- a last group under eight keeps its content
+pub rest-marked : (ws : List ℕ) (t b : ℕ) → drop (8 * (length ws / 8)) (marked ws t b) ≡ drop (8 * (length ws / 8)) ws
+unfolding marked kept
+rest-marked ws t b = go (ltb t (64 * (length ws / 8))) refl
+  where
+    n : ℕ
+    n = 8 * (length ws / 8)
+
+    go : (x : Bool) → ltb t (64 * (length ws / 8)) ≡ x → drop n (cond x (each (marked-word t b) 0 ws) ws) ≡ drop n ws
+    go true e =
+        let h : t < 64 * (length ws / 8) = ltb-true t (64 * (length ws / 8)) e in
+        drop-each (marked-word t b) 0 ws n (λ j w l. marked-out t b j w (λ r. omega arith))
+    go false e = refl
 
 module _ (ws : List ℕ) (t b k : ℕ) (l : k < 8) where
   word-after : (q : ℕ) → t < kept ws → q < kept ws → run-word (marked ws t b) k q ≡ marked-word t b (8 * (q / 64) + k) (run-word ws k q)
@@ -100,10 +126,38 @@ module _ (ws : List ℕ) (t b k : ℕ) (l : k < 8) where
 
 -- ---- all ticks
 
-pub kept-filled : (ws : List ℕ) (t : ℕ) (bs : List ℕ) → kept (filled ws t bs) ≡ kept ws
+pub length-filled : (ws : List ℕ) (t : ℕ) (bs : List ℕ) → length (filled ws t bs) ≡ length ws
 unfolding filled
-kept-filled ws t [] = refl
-kept-filled ws t (b ∷ bs) = kept-filled (marked ws t b) (suc t) bs ∙ kept-marked ws t b
+length-filled ws t [] = refl
+length-filled ws t (b ∷ bs) = length-filled (marked ws t b) (suc t) bs ∙ length-marked ws t b
+
+pub kept-filled : (ws : List ℕ) (t : ℕ) (bs : List ℕ) → kept (filled ws t bs) ≡ kept ws
+kept-filled ws t bs = kept-length (filled ws t bs) ws (length-filled ws t bs)
+
+-- a last group under eight keeps its content
+rest-same : (n : ℕ) (ws : List ℕ) (t : ℕ) (bs : List ℕ) → 8 * (length ws / 8) ≡ n → drop n (filled ws t bs) ≡ drop n ws
+unfolding filled
+rest-same n ws t [] e = refl
+rest-same n ws t (b ∷ bs) e =
+    rest-same n (marked ws t b) (suc t) bs (ap (λ (x : ℕ). 8 * (x / 8)) (length-marked ws t b) ∙ e)
+    ∙ subst (λ (x : ℕ). drop x (marked ws t b) ≡ drop x ws) e (rest-marked ws t b)
+
+pub rest-filled : (ws : List ℕ) (t : ℕ) (bs : List ℕ) → drop (8 * (length ws / 8)) (filled ws t bs) ≡ drop (8 * (length ws / 8)) ws
+rest-filled ws t bs = rest-same (8 * (length ws / 8)) ws t bs refl
+
+-- from the kept end on nothing changes
+pub filled-past : (ws : List ℕ) (t : ℕ) (bs : List ℕ) → kept ws ≤ t → filled ws t bs ≡ ws
+unfolding filled
+filled-past ws t [] h = refl
+filled-past ws t (b ∷ bs) h = ap (λ (v : List ℕ). filled v (suc t) bs) (marked-past ws t b h) ∙ filled-past ws (suc t) bs (omega arith)
+
+-- bytes taken in two parts
+pub filled-append : (ws : List ℕ) (t : ℕ) (bs cs : List ℕ) → filled ws t (bs ++ cs) ≡ filled (filled ws t bs) (t + length bs) cs
+unfolding filled
+filled-append ws t [] cs = ap (λ (n : ℕ). filled ws n cs) (let e : t ≡ t + 0 = omega arith in e)
+filled-append ws t (b ∷ bs) cs =
+    filled-append (marked ws t b) (suc t) bs cs
+    ∙ ap (λ (n : ℕ). filled (filled (marked ws t b) (suc t) bs) n cs) (let e : suc t + length bs ≡ t + suc (length bs) = omega arith in e)
 
 kept-still : (ws : List ℕ) (t b q : ℕ) → q < kept ws → q < kept (marked ws t b)
 kept-still ws t b q h = subst (λ (n : ℕ). q < n) (sym (kept-marked ws t b)) h

@@ -1,2 +1,3 @@
 pub mod Search
 pub mod Calendar
+pub mod Said

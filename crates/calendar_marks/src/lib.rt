@@ -1,6 +1,6 @@
 // The words of a flag calendar (document 02, point 5): zeroed at an opening, and marked tick by tick. `calendar` has the definitions.
 ghost use mathlib.Core.Path.{_≡_};
-ghost use Prim.Native.Nat.{ℕ, _<_};
+ghost use Prim.Native.Nat.{_<_};
 ghost use Rattle.calendar.specs.Calendar.{kept, each, cleared, flagged, marked-word, marked, filled};
 
 // How many ticks the words keep: 64 for each full group of eight.
@@ -60,7 +60,7 @@ pub fn fill(words: &mut [u64], tick: u64, bytes: &[u8])
     let mut next = tick;
     let mut at = 0;
     while at < bytes.len() && next < end {
-        mark(words, next, bytes[at]);
+        mark_run(words, next, bytes[at]);
         next += 1;
         at += 1;
     }

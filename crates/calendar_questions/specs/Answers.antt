@@ -5,10 +5,10 @@ use lib.Dec.{ltb}
 use Rattle.refusal.specs.Answer.{Answer, refused, accepted}
 use Rattle.refusal.specs.Numbers.{number-of}
 use Rattle.calendar.specs.declared.UpTick.{UpTick}
-use Rattle.calendar_questions.specs.declared.CountAnswer.{CountAnswer}
-use Rattle.calendar_questions.specs.declared.CountAnswer.the-variants as counts
-use Rattle.calendar_questions.specs.declared.TickAnswer.{TickAnswer}
-use Rattle.calendar_questions.specs.declared.TickAnswer.the-variants as ticks
+use Rattle.calendar_questions.specs.declared.questions.CountAnswer.{CountAnswer}
+use Rattle.calendar_questions.specs.declared.questions.CountAnswer.the-variants as counts
+use Rattle.calendar_questions.specs.declared.questions.TickAnswer.{TickAnswer}
+use Rattle.calendar_questions.specs.declared.questions.TickAnswer.the-variants as ticks
 
 -- A question about flag k that has this answer.
 unfoldable pub of-flag : {A : Type 0} → ℕ → A → Answer A

@@ -1,5 +1,6 @@
 // Questions to a flag calendar (document 02, point 5), answered from its words alone, one word at a time. `calendar` has the definitions.
 mod masked;
+mod nearing;
 mod questions;
 mod seeking;
 mod tallying;

@@ -17,6 +17,8 @@ use Rattle.engine.proofs.States.{fresh-is}
 use Rattle.engine.proofs.Demand3 as values
 use Rattle.exports_watch.proofs.Demand3 as bytes
 use Rattle.exports_sets.proofs.Demand3 as sets
+use Rattle.exports_calendar.proofs.Demand3 as calendars
+use Rattle.calendar.proofs.Said as said
 use Rattle.demand.proofs.SetAlone as alone
 use Rattle.cell_runs.specs.Moves.{Stands}
 use Rattle.state_bytes.specs.States.{in-bytes}
@@ -30,6 +32,8 @@ claimed =
       of-bytes = bytes.theorem;
       of-sets = sets.theorem;
       as-alone = alone.as-alone Stands Stands in-bytes;
+      of-calendars = calendars.theorem;
+      words-agree = calendars.words-agree;
       value-fresh = fresh-is;
       bytes-moved = load-moved;
       bytes-kept = moved-own;
@@ -43,6 +47,9 @@ claimed =
       in-time = delay-law;
       none-later = locality;
       none-older = rule-window;
+      first-up-is = said.first-up-said;
+      last-up-is = said.last-up-said;
+      nearest-up-is = said.nearest-up-said;
       sheet-back = sheets.round-trip;
       sheet-front = sheets.buffer-front;
       sheet-rest = sheets.buffer-rest;

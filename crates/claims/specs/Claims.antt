@@ -2,7 +2,8 @@
 -- The link between the two is the text of contracts, which a reader should look at: the `ensures` of `open`, `step` and `steps` (crates/engine/src) and of
 -- sw_open, sw_step and sw_steps (crates/exports_watch/src/watching.rt) are `OpenPromise`, `StepPromise` and `BatchPromise` of their own arguments and results, and these are
 -- what the list of calls asks of each call. In the same way the functions on sets (sw_set_open, sw_set_step and sw_set_steps in crates/exports_sets/src/sets.rt; `open_set`, `step_set`,
--- `open_records` and `step_records` in crates/set_values and crates/set_records) keep `SetOpenPromise`, `SetStepPromise` and `SetBatchPromise`. docs/DEMAND-3.md reads the first part slowly.
+-- `open_records` and `step_records` in crates/set_values and crates/set_records) keep `SetOpenPromise`, `SetStepPromise` and `SetBatchPromise`;
+-- and sw_calendar_open, sw_calendar_step and sw_calendar_steps (crates/exports_calendar/src/keeping.rt) keep the promises of one rule, of states with a calendar beside them. docs/DEMAND-3.md reads the first part slowly.
 use Prim.Native.Nat.{ℕ, _+_, _≤_, _<_, max}
 use mathlib.Core.Path.{_≡_}
 use mathlib.Core.Logic.{_↔_}
@@ -32,6 +33,9 @@ use Rattle.notation.specs.Printing.{text-of-body}
 use Rattle.demand.specs.Contract.{fresh-state}
 use Rattle.demand.specs.Demand.{Demanded}
 use Rattle.demand.specs.SetDemand.{SetDemanded, AsAlone}
+use Rattle.demand.specs.CalendarDemand.{with-calendar, CalendarKept}
+use Rattle.calendar.specs.Calendar.{first-up, last-up, nearest-up}
+use Rattle.calendar.specs.Said.{FirstUp, LastUp, NearestUp}
 use Rattle.cell_runs.specs.Moves.{Stands}
 use Rattle.engine.specs.declared.state.State as code
 use Rattle.engine.specs.States.{state-of, fresh-code, moved-code, by-value}
@@ -49,6 +53,10 @@ pub record Claims : Type 0 where
   -- opened by itself, with its state as bytes, over the same flags, the rule's ticks among the pairs and its live count are the same, step by step.
   pub of-sets : SetDemanded Stands
   pub as-alone : AsAlone Stands Stands in-bytes
+  -- The same with a flag calendar kept beside the stream (02, point 5): after every call of sw_calendar_open, about every list of calls of sw_calendar_step and
+  -- sw_calendar_steps. And throughout that list the words agree with the stream.
+  pub of-calendars : Demanded Stands (with-calendar in-bytes)
+  pub words-agree : CalendarKept Stands in-bytes
   -- The value that an opening gives holds 01's state of an opening.
   pub value-fresh : (bytes : List ℕ) (L : ℕ) → length bytes ≤ 512 → state-of (fresh-code bytes L) ≡ fresh-state bytes L
   -- State bytes that have come to another next tick and live count load as the state that has come to them; with their own two, they are as they were.
@@ -80,6 +88,12 @@ pub record Claims : Type 0 where
       → (env : List ℕ) → ((variable : ℕ) → getD env variable 0 ≤ t) → (s : ℕ) → outcome F flags t env s ≡ outcome F others t env s
   pub none-older : (F : Formula) (figure : ℕ) → Scoped 1 F → history F (at-tick ∷ []) (Finite 0) ≡ Finite figure → (t p : ℕ) → p ≤ t
       → (flags others : ℕ → ℕ) → ((tick : ℕ) → p ≤ tick + figure → tick ≤ t → flags tick ≡ others tick) → rule F flags t p ≡ rule F others t p
+  -- ---- questions to a flag calendar, said of each tick: in a range cut at the last kept tick the first and the last at which the flag is up, of all kept ticks the
+  -- nearest, the earlier of two equally near; none exactly where no such tick is up
+
+  pub first-up-is : (words : List ℕ) (k first last : ℕ) → FirstUp words k first last (first-up words k first last)
+  pub last-up-is : (words : List ℕ) (k first last : ℕ) → LastUp words k first last (last-up words k first last)
+  pub nearest-up-is : (words : List ℕ) (k t : ℕ) → NearestUp words k t (nearest-up words k t)
   -- ---- sheets and bodies
 
   -- A written sheet reads back as the same bodies, and no other.

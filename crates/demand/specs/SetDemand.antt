@@ -180,8 +180,8 @@ as-state =
     record {
       Carried = State;
       holds = λ state. state;
-      fresh = fresh-state;
-      moved = λ state next live. state-at (state .body-bytes) (state .opened) next live;
+      fresh = λ state. fresh-state;
+      moved = λ state flags next live. state-at (state .body-bytes) (state .opened) next live;
     }
 
 -- Opening and step of rule i alone: its own part of the table, the same history and flag bytes; of the report its own ticks, in a report of delay + 1 words.

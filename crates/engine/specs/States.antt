@@ -34,4 +34,4 @@ moved-code state next live = record { body = state .body; size = state .size; op
 
 -- A state that is carried as a value.
 abbrev pub by-value : Carrier
-by-value = record { Carried = code.State; holds = state-of; fresh = fresh-code; moved = moved-code }
+by-value = record { Carried = code.State; holds = state-of; fresh = λ state. fresh-code; moved = λ state flags. moved-code state }

@@ -41,4 +41,4 @@ moved-bytes bytes next live = (take 528 bytes ++ low-bytes 8 next) ++ low-bytes 
 
 -- A state that is carried as bytes.
 abbrev pub in-bytes : Carrier
-in-bytes = record { Carried = List ℕ; holds = state-in; fresh = λ body L. stored (fresh-code body L); moved = moved-bytes }
+in-bytes = record { Carried = List ℕ; holds = state-in; fresh = λ bytes body L. stored (fresh-code body L); moved = λ bytes flags. moved-bytes bytes }

@@ -2,6 +2,7 @@
 //! guards around all that is lent, and every byte that must keep its content
 //! looked at.
 
+mod calendars;
 mod calls;
 mod formula_counts;
 mod runs;
@@ -13,6 +14,10 @@ mod text_cases;
 mod texts;
 
 use crate::paper::LAST_REFUSAL;
+pub use calendars::{
+    calendar_marks, calendar_openings, calendar_questions, calendar_runs, cleared, filled,
+    questions, FLAGS,
+};
 pub use calls::{figures, opening, outcome, place, round_trip, write};
 pub use formula_counts::{formula_counts, typed_formula_counts};
 pub use runs::{run, Plan, Tally};

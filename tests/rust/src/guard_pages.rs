@@ -378,6 +378,149 @@ impl Library for Guarded<'_> {
         check_kept(lent_flags, flags);
         number
     }
+
+    fn calendar_open(
+        &self,
+        sheet: &[u8],
+        rule: usize,
+        history: &mut [u8],
+        cells: &[u32],
+        words: &mut [u64],
+        state: &mut State,
+    ) -> u32 {
+        let [a, b, c, d, e, ..] = &mut *self.lenders.borrow_mut();
+        let (lent_sheet, lent_cells) =
+            (a.lend("calendar open sheet", sheet), b.lend("calendar open cells", cells));
+        let (flags, runs) =
+            (c.lend("calendar open history", history), d.lend("calendar open words", words));
+        let opened = state_of(e.lend("calendar open state", state));
+        let number = self.library.calendar_open(lent_sheet, rule, flags, lent_cells, runs, opened);
+        history.copy_from_slice(flags);
+        words.copy_from_slice(runs);
+        *state = *opened;
+        check_kept(lent_sheet, sheet);
+        check_kept(lent_cells, cells);
+        number
+    }
+
+    fn calendar_step(
+        &self,
+        state: &mut State,
+        flag: u8,
+        lent: StepLent,
+        words: &mut [u64],
+        answer: StepAnswer,
+    ) -> u32 {
+        let [a, b, c, d, e, f, g, ..] = &mut *self.lenders.borrow_mut();
+        let own = state_of(a.lend("calendar step state", state));
+        let (history, cells) = (
+            b.lend("calendar step history", lent.history),
+            c.lend("calendar step cells", lent.cells),
+        );
+        let (report, runs) =
+            (d.lend("calendar step report", lent.report), e.lend("calendar step words", words));
+        let reported = f.lend_one("calendar step reported", answer.reported);
+        let live = g.lend_one("calendar step live", answer.live);
+        let own_answer = StepAnswer { reported: &mut *reported, live: &mut *live };
+        let own_lent = parts(history, cells, report);
+        let number = self.library.calendar_step(own, flag, own_lent, runs, own_answer);
+        *state = *own;
+        lent.history.copy_from_slice(history);
+        lent.cells.copy_from_slice(cells);
+        lent.report.copy_from_slice(report);
+        words.copy_from_slice(runs);
+        (*answer.reported, *answer.live) = (*reported, *live);
+        number
+    }
+
+    fn calendar_steps(
+        &self,
+        state: &mut State,
+        flags: &[u8],
+        lent: StepLent,
+        words: &mut [u64],
+        answer: StepsAnswer,
+    ) -> u32 {
+        let [a, b, c, d, e, f, g, h, i] = &mut *self.lenders.borrow_mut();
+        let own = state_of(a.lend("calendar steps state", state));
+        let (lent_flags, runs) =
+            (b.lend("calendar steps flags", flags), c.lend("calendar steps words", words));
+        let (history, cells) = (
+            d.lend("calendar steps history", lent.history),
+            e.lend("calendar steps cells", lent.cells),
+        );
+        let report = f.lend("calendar steps report", lent.report);
+        let taken = g.lend_one("calendar steps taken", answer.taken);
+        let pairs = h.lend_one("calendar steps pairs", answer.pairs);
+        let live = i.lend_one("calendar steps live", answer.live);
+        let own_answer = StepsAnswer { taken: &mut *taken, pairs: &mut *pairs, live: &mut *live };
+        let own_lent = parts(history, cells, report);
+        let number = self.library.calendar_steps(own, lent_flags, own_lent, runs, own_answer);
+        *state = *own;
+        lent.history.copy_from_slice(history);
+        lent.cells.copy_from_slice(cells);
+        lent.report.copy_from_slice(report);
+        words.copy_from_slice(runs);
+        (*answer.taken, *answer.pairs, *answer.live) = (*taken, *pairs, *live);
+        check_kept(lent_flags, flags);
+        number
+    }
+
+    fn calendar_clear(&self, words: &mut [u64]) {
+        let [a, ..] = &mut *self.lenders.borrow_mut();
+        let lent = a.lend("calendar clear words", words);
+        self.library.calendar_clear(lent);
+        words.copy_from_slice(lent);
+    }
+
+    fn calendar_fill(&self, words: &mut [u64], tick: u64, flags: &[u8]) {
+        let [a, b, ..] = &mut *self.lenders.borrow_mut();
+        let (lent, lent_flags) =
+            (a.lend("calendar fill words", words), b.lend("calendar fill flags", flags));
+        self.library.calendar_fill(lent, tick, lent_flags);
+        words.copy_from_slice(lent);
+        check_kept(lent_flags, flags);
+    }
+
+    fn calendar_ups(&self, words: &[u64], flag: u8, first: u64, last: u64, ups: &mut u64) -> u32 {
+        let [a, b, ..] = &mut *self.lenders.borrow_mut();
+        let lent = a.lend("calendar ups words", words);
+        let answer = b.lend_one("calendar ups ups", ups);
+        let number = self.library.calendar_ups(lent, flag, first, last, answer);
+        *ups = *answer;
+        check_kept(lent, words);
+        number
+    }
+
+    fn calendar_first(&self, words: &[u64], flag: u8, first: u64, last: u64, up: &mut u64) -> u32 {
+        let [a, b, ..] = &mut *self.lenders.borrow_mut();
+        let lent = a.lend("calendar first words", words);
+        let answer = b.lend_one("calendar first up", up);
+        let number = self.library.calendar_first(lent, flag, first, last, answer);
+        *up = *answer;
+        check_kept(lent, words);
+        number
+    }
+
+    fn calendar_last(&self, words: &[u64], flag: u8, first: u64, last: u64, up: &mut u64) -> u32 {
+        let [a, b, ..] = &mut *self.lenders.borrow_mut();
+        let lent = a.lend("calendar last words", words);
+        let answer = b.lend_one("calendar last up", up);
+        let number = self.library.calendar_last(lent, flag, first, last, answer);
+        *up = *answer;
+        check_kept(lent, words);
+        number
+    }
+
+    fn calendar_nearest(&self, words: &[u64], flag: u8, tick: u64, nearest: &mut u64) -> u32 {
+        let [a, b, ..] = &mut *self.lenders.borrow_mut();
+        let lent = a.lend("calendar nearest words", words);
+        let answer = b.lend_one("calendar nearest nearest", nearest);
+        let number = self.library.calendar_nearest(lent, flag, tick, answer);
+        *nearest = *answer;
+        check_kept(lent, words);
+        number
+    }
 }
 
 fn set_parts<'a>(

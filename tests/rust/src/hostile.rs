@@ -5,8 +5,9 @@
 //! not caught gets some ending step, which writes at most one history byte, the
 //! cell table and the report." The library says exactly which are caught, so the
 //! number of every call is checked (`lot`, `states`). The same of sets, whose state are
-//! records (`sets`, `set_lot`, `records`).
+//! records (`sets`, `set_lot`, `records`), and of steps with a calendar (`calendars`).
 
+mod calendars;
 mod lengths;
 mod lot;
 mod set_lengths;
@@ -20,6 +21,7 @@ use crate::library::{Library, StepAnswer, StepLent, StepsAnswer, STATE_BYTES};
 use crate::paper::{CELL_WORDS, MAX_HISTORY, MAX_TICKS};
 use crate::random::{self, Random, Rule, WriterInput};
 use crate::states::{number_at, put_number, LIVE_AT, NEXT_AT, OPENED_AT, SIZE_AT};
+pub use calendars::{calendar_states, empty_calendars, every_calendar_length, huge_calendars};
 pub use lengths::every_length;
 use lot::{batch, honest, step, Lot};
 pub use set_lengths::{

@@ -11,10 +11,12 @@
 //! - `states`: a state's bytes, and which number a call on any of them is due.
 //! - `records`: the same of a set's records.
 //! - `notation`: short names, with which the tests write rules and recordings.
+//! - `beside`: the boundary with a calendar at every opening and step.
 //! - `compare`, `hostile`: the two suites, for any implementation of the boundary.
 //! - `stand_in`: an implementation in Rust, right or wrong in a chosen way, with
 //!   which the two suites are themselves tested.
 
+pub mod beside;
 pub mod compare;
 pub mod guard_pages;
 pub mod hostile;

@@ -40,6 +40,9 @@ pub const OPEN: u32 = 0;
 pub const TRUE: u32 = 1;
 pub const FALSE: u32 = 2;
 
+/// How a question to a calendar answers that there is no such tick.
+pub const NO_TICK: u64 = u64::MAX;
+
 /// Where `open`, `step` and `steps` write.
 pub struct StepAnswer<'a> {
     pub reported: &'a mut usize,
@@ -84,6 +87,13 @@ pub struct StepLent<'a> {
     pub history: &'a mut [u8],
     pub cells: &'a mut [u32],
     pub report: &'a mut [u32],
+}
+
+impl StepLent<'_> {
+    /// The same, lent again.
+    pub fn again(&mut self) -> StepLent<'_> {
+        StepLent { history: self.history, cells: self.cells, report: self.report }
+    }
 }
 
 /// These calls, with slices for pointers and lengths.
@@ -150,6 +160,54 @@ pub trait Library {
     /// Many flag bytes. The report gets triples of rule, tick and deciding step. It stops
     /// before a step for which fewer than 3 * (sum of all delay + 1) report words are left.
     fn set_steps(&self, sheet: &[u8], flags: &[u8], lent: SetLent, answer: SetStepsAnswer) -> u32;
+
+    /// As `open`, and zeroes the words of a calendar.
+    fn calendar_open(
+        &self,
+        sheet: &[u8],
+        rule: usize,
+        history: &mut [u8],
+        cells: &[u32],
+        words: &mut [u64],
+        state: &mut State,
+    ) -> u32;
+
+    /// As `step`, and marks its tick.
+    fn calendar_step(
+        &self,
+        state: &mut State,
+        flag: u8,
+        lent: StepLent,
+        words: &mut [u64],
+        answer: StepAnswer,
+    ) -> u32;
+
+    /// As `steps`, and marks the ticks taken.
+    fn calendar_steps(
+        &self,
+        state: &mut State,
+        flags: &[u8],
+        lent: StepLent,
+        words: &mut [u64],
+        answer: StepsAnswer,
+    ) -> u32;
+
+    fn calendar_clear(&self, words: &mut [u64]);
+
+    /// Marks the ticks from `tick` on, each by its flag byte.
+    fn calendar_fill(&self, words: &mut [u64], tick: u64, flags: &[u8]);
+
+    /// At how many ticks of a range a flag was up.
+    fn calendar_ups(&self, words: &[u64], flag: u8, first: u64, last: u64, ups: &mut u64) -> u32;
+
+    /// The first of them, or `NO_TICK`.
+    fn calendar_first(&self, words: &[u64], flag: u8, first: u64, last: u64, up: &mut u64) -> u32;
+
+    /// The last of them, or `NO_TICK`.
+    fn calendar_last(&self, words: &[u64], flag: u8, first: u64, last: u64, up: &mut u64) -> u32;
+
+    /// The tick nearest to `tick` at which a flag was up, or `NO_TICK`.
+    fn calendar_nearest(&self, words: &[u64], flag: u8, tick: u64, nearest: &mut u64) -> u32;
 }
 
 #[cfg(feature = "library")]
@@ -383,6 +441,140 @@ mod linked {
                     answer.live,
                 )
             }
+        }
+
+        fn calendar_open(
+            &self,
+            sheet: &[u8],
+            rule: usize,
+            history: &mut [u8],
+            cells: &[u32],
+            words: &mut [u64],
+            state: &mut State,
+        ) -> u32 {
+            // SAFETY: what slices cover, and what is written is borrowed alone.
+            unsafe {
+                sw_calendar_open(
+                    sheet.as_ptr(),
+                    sheet.len(),
+                    rule,
+                    history.as_mut_ptr(),
+                    history.len(),
+                    cells.as_ptr(),
+                    cells.len(),
+                    words.as_mut_ptr(),
+                    words.len(),
+                    state.as_mut_ptr(),
+                )
+            }
+        }
+
+        fn calendar_step(
+            &self,
+            state: &mut State,
+            flag: u8,
+            lent: StepLent,
+            words: &mut [u64],
+            answer: StepAnswer,
+        ) -> u32 {
+            // SAFETY: what slices cover, and what is written is borrowed alone.
+            unsafe {
+                sw_calendar_step(
+                    state.as_mut_ptr(),
+                    flag,
+                    lent.history.as_mut_ptr(),
+                    lent.history.len(),
+                    lent.cells.as_mut_ptr(),
+                    lent.cells.len(),
+                    lent.report.as_mut_ptr(),
+                    lent.report.len(),
+                    words.as_mut_ptr(),
+                    words.len(),
+                    answer.reported,
+                    answer.live,
+                )
+            }
+        }
+
+        fn calendar_steps(
+            &self,
+            state: &mut State,
+            flags: &[u8],
+            lent: StepLent,
+            words: &mut [u64],
+            answer: StepsAnswer,
+        ) -> u32 {
+            // SAFETY: what slices cover, and what is written is borrowed alone.
+            unsafe {
+                sw_calendar_steps(
+                    state.as_mut_ptr(),
+                    flags.as_ptr(),
+                    flags.len(),
+                    lent.history.as_mut_ptr(),
+                    lent.history.len(),
+                    lent.cells.as_mut_ptr(),
+                    lent.cells.len(),
+                    lent.report.as_mut_ptr(),
+                    lent.report.len(),
+                    words.as_mut_ptr(),
+                    words.len(),
+                    answer.taken,
+                    answer.pairs,
+                    answer.live,
+                )
+            }
+        }
+
+        fn calendar_clear(&self, words: &mut [u64]) {
+            // SAFETY: what slices cover, and what is written is borrowed alone.
+            unsafe { sw_calendar_clear(words.as_mut_ptr(), words.len()) }
+        }
+
+        fn calendar_fill(&self, words: &mut [u64], tick: u64, flags: &[u8]) {
+            let (out, room) = (words.as_mut_ptr(), words.len());
+            // SAFETY: what slices cover, and what is written is borrowed alone.
+            unsafe { sw_calendar_fill(out, room, tick, flags.as_ptr(), flags.len()) }
+        }
+
+        fn calendar_ups(
+            &self,
+            words: &[u64],
+            flag: u8,
+            first: u64,
+            last: u64,
+            ups: &mut u64,
+        ) -> u32 {
+            // SAFETY: what slices cover, and what is written is borrowed alone.
+            unsafe { sw_calendar_ups(words.as_ptr(), words.len(), flag, first, last, ups) }
+        }
+
+        fn calendar_first(
+            &self,
+            words: &[u64],
+            flag: u8,
+            first: u64,
+            last: u64,
+            up: &mut u64,
+        ) -> u32 {
+            // SAFETY: what slices cover, and what is written is borrowed alone.
+            unsafe { sw_calendar_first(words.as_ptr(), words.len(), flag, first, last, up) }
+        }
+
+        fn calendar_last(
+            &self,
+            words: &[u64],
+            flag: u8,
+            first: u64,
+            last: u64,
+            up: &mut u64,
+        ) -> u32 {
+            // SAFETY: what slices cover, and what is written is borrowed alone.
+            unsafe { sw_calendar_last(words.as_ptr(), words.len(), flag, first, last, up) }
+        }
+
+        fn calendar_nearest(&self, words: &[u64], flag: u8, tick: u64, nearest: &mut u64) -> u32 {
+            // SAFETY: what slices cover, and what is written is borrowed alone.
+            unsafe { sw_calendar_nearest(words.as_ptr(), words.len(), flag, tick, nearest) }
         }
     }
 }

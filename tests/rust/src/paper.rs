@@ -3,6 +3,7 @@
 //! Nothing here is shared with the library, and nothing is meant to be fast.
 
 mod body;
+pub mod calendar;
 mod calls;
 mod figures;
 mod meaning;

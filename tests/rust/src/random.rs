@@ -2,6 +2,7 @@
 //! from a fixed seed.
 
 mod bodies;
+mod calendars;
 mod formulas;
 mod sets;
 mod sheets;
@@ -12,6 +13,7 @@ pub use bodies::{
     aimed, any_body, begun, crowded, endings, faulty_bounds, figure_boundary, loose_bytes,
     neighbours, places, twice_damaged, Neighbours, Place,
 };
+pub use calendars::{calendar_length, calendar_words, edge_ticks};
 pub use formulas::{accepted_rule, depth, quantifiers, size, visits, wild_formula, Rule};
 pub use sets::{
     any_set_sheet, refused_with, rule_ahead, rule_of_cells, rule_set, rules_within, sheet_of_rules,

@@ -6,6 +6,7 @@
 //! It stands on `paper`, so it says nothing about the paper's meaning. What it
 //! tests is the suites: that they ask what they should, and see what differs.
 
+mod calendars;
 mod sets;
 mod texts;
 
@@ -19,6 +20,7 @@ use crate::paper::{
 };
 use crate::random::{places, Place};
 use crate::states::{self, number_at, put_number, LIVE_AT, NEXT_AT, OPENED_AT, SIZE_AT};
+pub use calendars::CalendarFlaw;
 pub use sets::SetFlaw;
 
 #[derive(Clone, Copy, Debug, PartialEq, Eq)]
@@ -116,6 +118,8 @@ pub enum Flaw {
     TakesEmptyBatch,
     // The calls on a set.
     Set(SetFlaw),
+    // The calls with a calendar.
+    Calendar(CalendarFlaw),
 }
 
 /// The calls that read a body.
@@ -610,6 +614,68 @@ impl Library for StandIn {
 
     fn set_steps(&self, sheet: &[u8], flags: &[u8], lent: SetLent, answer: SetStepsAnswer) -> u32 {
         self.step_set_often(sheet, flags, lent, answer)
+    }
+
+    fn calendar_open(
+        &self,
+        sheet: &[u8],
+        rule: usize,
+        history: &mut [u8],
+        cells: &[u32],
+        words: &mut [u64],
+        state: &mut State,
+    ) -> u32 {
+        let number = self.open(sheet, rule, history, cells, state);
+        self.open_calendar(number, words);
+        number
+    }
+
+    fn calendar_step(
+        &self,
+        state: &mut State,
+        flag: u8,
+        lent: StepLent,
+        words: &mut [u64],
+        answer: StepAnswer,
+    ) -> u32 {
+        self.step_calendar(state, flag, lent, words, answer)
+    }
+
+    fn calendar_steps(
+        &self,
+        state: &mut State,
+        flags: &[u8],
+        lent: StepLent,
+        words: &mut [u64],
+        answer: StepsAnswer,
+    ) -> u32 {
+        self.step_calendar_often(state, flags, lent, words, answer)
+    }
+
+    fn calendar_clear(&self, words: &mut [u64]) {
+        self.clear_calendar(words);
+    }
+
+    fn calendar_fill(&self, words: &mut [u64], tick: u64, flags: &[u8]) {
+        self.fill_calendar(words, tick, flags);
+    }
+
+    fn calendar_ups(&self, words: &[u64], flag: u8, first: u64, last: u64, ups: &mut u64) -> u32 {
+        self.answer(flag, ups, |flag| self.ticks_up(words, flag, first, last).len() as u64)
+    }
+
+    fn calendar_first(&self, words: &[u64], flag: u8, first: u64, last: u64, up: &mut u64) -> u32 {
+        let found = |flag| self.ticks_up(words, flag, first, last).first().copied();
+        self.answer(flag, up, |flag| self.or_none(found(flag)))
+    }
+
+    fn calendar_last(&self, words: &[u64], flag: u8, first: u64, last: u64, up: &mut u64) -> u32 {
+        let found = |flag| self.ticks_up(words, flag, first, last).last().copied();
+        self.answer(flag, up, |flag| self.or_none(found(flag)))
+    }
+
+    fn calendar_nearest(&self, words: &[u64], flag: u8, tick: u64, nearest: &mut u64) -> u32 {
+        self.answer(flag, nearest, |flag| self.or_none(self.nearest_up(words, flag, tick)))
     }
 }
 

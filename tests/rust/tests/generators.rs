@@ -6,9 +6,10 @@ use rust_tests::paper::{
     Bound, Formula, BODY_REFUSALS, LAST_REFUSAL, MAX_HISTORY, MAX_OFFSET, RULE_REFUSALS,
 };
 use rust_tests::random::{
-    accepted_rule, aimed, any_body, any_set_sheet, any_text, begun, crowded, damaged_sheet, depth,
-    faulty_bounds, figure_boundary, loose_text, rule_of_cells, rule_set, sheet_of_rules, size,
-    stream, twice_damaged, typed, wild_formula, writer_input, Random, Rule,
+    accepted_rule, aimed, any_body, any_set_sheet, any_text, begun, calendar_length,
+    calendar_words, crowded, damaged_sheet, depth, edge_ticks, faulty_bounds, figure_boundary,
+    loose_text, rule_of_cells, rule_set, sheet_of_rules, size, stream, twice_damaged, typed,
+    wild_formula, writer_input, Random, Rule,
 };
 
 /// How often each number was answered, 0 for none.
@@ -339,6 +340,32 @@ fn streams_have_runs() {
 }
 
 /// The same seed makes the same, another seed another.
+/// Words of every length around full groups, up at both ends of runs and in the group after
+/// the kept ones, and the ticks at which ranges are cut.
+#[test]
+fn calendars_have_edges() {
+    let mut random = Random::new(215);
+    let mut lengths = [0; 8];
+    let [mut empty, mut ends, mut beyond] = [0; 3];
+    for _ in 0..2_000 {
+        let length = calendar_length(&mut random);
+        lengths[length % 8] += 1;
+        empty += u64::from(length == 0);
+        let words = calendar_words(&mut random, length);
+        let (kept, rest) = words.split_at(length / 8 * 8);
+        ends += u64::from(kept.iter().any(|word| word & (1 | 1 << 63) != 0));
+        beyond += u64::from(rest.iter().any(|word| *word != 0));
+        let after = 8 * kept.len() as u64;
+        let edges = edge_ticks(&mut random, &words);
+        let last = after.saturating_sub(1);
+        for due in [0, 63, 64, 65, last.saturating_sub(1), last, after, 1 << 63, u64::MAX] {
+            assert!(edges.contains(&due), "{due} of {length} words");
+        }
+    }
+    assert!(lengths.iter().all(|&count| count > 20), "{lengths:?}");
+    assert!(empty > 20 && ends > 500 && beyond > 200, "{empty}, {ends}, {beyond}");
+}
+
 #[test]
 fn seeds_are_fixed() {
     let make = |seed| {

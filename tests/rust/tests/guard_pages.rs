@@ -101,6 +101,18 @@ fn records() {
     on_both_sides(hostile::huge_set_lengths);
 }
 
+#[test]
+fn calendars() {
+    on_both_sides(|library| compare::calendar_questions(library, 3_031, 60));
+    on_both_sides(|library| compare::calendar_marks(library, 3_032, 100));
+    on_both_sides(|library| compare::calendar_runs(library, 3_033, 150, 15_000));
+    on_both_sides(|library| compare::calendar_openings(library, 3_034, 1_000));
+    on_both_sides(|library| hostile::calendar_states(library, 3_035, 400));
+    on_both_sides(|library| hostile::every_calendar_length(library, 3_036, 2));
+    on_both_sides(hostile::empty_calendars);
+    on_both_sides(hostile::huge_calendars);
+}
+
 /// The call that `Library` has not. What it writes is compared in tests/sentences.rs.
 #[test]
 fn sentences() {

@@ -30,6 +30,13 @@ fn every_call_on_sets(guard: Guard, told: Told) {
     assert!(numbers.total() > 3_000, "{numbers:?}");
 }
 
+/// The same of the calls with a calendar.
+fn every_call_with_calendars(guard: Guard, told: Told) {
+    let library = Guarded::telling(&RIGHT, guard, told);
+    let numbers = hostile::every_calendar_length(&Guarded::new(&library, guard), 403, 1).unwrap();
+    assert!(numbers.total() > 6_000, "{numbers:?}");
+}
+
 /// All buffers and answers of all calls: those that every call is lent at guard pages, and
 /// with which it comes to its end where it touches nothing outside.
 fn all_lent(guard: Guard) -> BTreeSet<String> {
@@ -39,6 +46,7 @@ fn all_lent(guard: Guard) -> BTreeSet<String> {
     };
     every_call(guard, &keep);
     every_call_on_sets(guard, &keep);
+    every_call_with_calendars(guard, &keep);
     lent.into_inner()
 }
 
@@ -56,7 +64,7 @@ fn read_outside(guard: Guard, bytes: Range<*const u8>) {
 fn a_byte_outside_ends_the_process() {
     for guard in [Guard::Before, Guard::After] {
         let names = all_lent(guard);
-        assert_eq!(names.len(), 64, "{names:?}");
+        assert_eq!(names.len(), 96, "{names:?}");
         for name in names {
             let ended = ended_by(&format!("{guard:?} {name}"));
             assert_eq!(ended, Some(SIGSEGV), "a byte of {name:?}, guard {guard:?}");
@@ -88,6 +96,8 @@ fn the_process_that_reads_it() {
     };
     if name.starts_with("set ") {
         every_call_on_sets(guard, &read);
+    } else if name.starts_with("calendar ") {
+        every_call_with_calendars(guard, &read);
     } else {
         every_call(guard, &read);
     }

@@ -46,7 +46,16 @@ fn wrapped() -> BTreeMap<String, String> {
     ];
     let sizes = sizes.into_iter().map(|(name, size)| (name.to_string(), size.to_string()));
     let version = ("SW_VERSION".to_string(), format!("{:?}", station_watch::VERSION));
-    sizes.chain(refusals()).chain([version]).collect()
+    let no_tick = ("SW_NO_TICK".to_string(), in_c(raw::NO_TICK));
+    sizes.chain(refusals()).chain([version, no_tick]).collect()
+}
+
+/// A number of 64 bits as the header writes it: the largest by its name in C.
+fn in_c(number: u64) -> String {
+    match number {
+        u64::MAX => "UINT64_MAX".to_string(),
+        number => number.to_string(),
+    }
 }
 
 /// `RuleCount` is `SW_RULE_COUNT` in C.

@@ -29,6 +29,8 @@ const FORGED_RECORDS: usize = 8_000;
 /// Sets whose memory is overwritten, twelve calls each; and forty, where one rule is spared.
 const OVERWRITTEN_SETS: usize = 300;
 const SPARED_RULES: usize = 200;
+/// States with a calendar beside them, some ten calls each.
+const CALENDAR_STATES: usize = 4_000;
 
 #[test]
 fn random_states() {
@@ -159,4 +161,23 @@ fn forged_sets() {
     assert_eq!(hostile::forged_set_lengths(&Linked), Ok(16));
     assert_eq!(hostile::empty_set_slices(&Linked), Ok(()));
     assert_eq!(hostile::huge_set_lengths(&Linked), Ok(()));
+}
+
+#[test]
+fn calendar_states() {
+    let tally = hostile::calendar_states(&Linked, 2_016, CALENDAR_STATES).unwrap();
+    let count = CALENDAR_STATES as u64;
+    assert!(tally.kept > 4 * count && tally.past > 4 * count, "{tally:?}");
+    assert!(tally.refused.each_at_least(&[17, 18, 19, 20], count / 8), "{tally:?}");
+    assert!(tally.refused.of(21) > count, "{tally:?}");
+}
+
+#[test]
+fn every_calendar_length() {
+    let numbers = hostile::every_calendar_length(&Linked, 2_017, LENGTHS).unwrap();
+    assert!(numbers.total() > 6_000 * LENGTHS as u64, "{numbers:?}");
+    assert!(numbers.each_at_least(&[0, 7, 17, 18], 100 * LENGTHS as u64), "{numbers:?}");
+    assert!(numbers.of(19) >= LENGTHS as u64, "{numbers:?}");
+    assert_eq!(hostile::empty_calendars(&Linked), Ok(()));
+    assert_eq!(hostile::huge_calendars(&Linked), Ok(()));
 }

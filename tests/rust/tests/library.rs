@@ -39,6 +39,12 @@ const SETS: u64 = 2_000;
 const SET_STEPS: u64 = 80_000;
 /// Sheets whose figures are asked and whose rules are opened together.
 const SET_OPENINGS: usize = 8_000;
+/// Words of a calendar, asked some five hundred times each, or filled some hundred times.
+const CALENDARS: usize = 600;
+/// Rules with a calendar beside their stream, and their steps.
+const CALENDAR_RULES: u64 = 2_500;
+const CALENDAR_STEPS: u64 = 250_000;
+const CALENDAR_OPENINGS: usize = 6_000;
 
 fn check_runs(seed: u64) {
     let tally = compare::runs(&Linked, seed, RULES, STEPS).unwrap();
@@ -246,4 +252,32 @@ fn set_limits() {
     let numbers = compare::set_orders(&Linked, 1_020).unwrap();
     assert!(numbers.each_at_least(RULE_REFUSALS, 40), "{numbers:?}");
     assert!(numbers.each_at_least(&[0, 1, 2, 17, 18], 9), "{numbers:?}");
+}
+
+#[test]
+fn calendar_questions() {
+    let numbers = compare::calendar_questions(&Linked, 1_021, CALENDARS).unwrap();
+    let count = CALENDARS as u64;
+    assert!(numbers.of(0) > 300 * count && numbers.of(7) > 50 * count, "{numbers:?}");
+    assert!(compare::calendar_marks(&Linked, 1_022, CALENDARS).unwrap() > 100 * count);
+}
+
+#[test]
+fn calendar_runs() {
+    let tally = compare::calendar_runs(&Linked, 1_023, CALENDAR_RULES, CALENDAR_STEPS).unwrap();
+    assert!(tally.openings >= CALENDAR_RULES, "{tally:?}");
+    assert!(tally.kept + tally.past >= CALENDAR_STEPS, "{tally:?}");
+    assert!(tally.kept > CALENDAR_STEPS / 3 && tally.past > CALENDAR_STEPS / 8, "{tally:?}");
+    assert!(tally.batches > CALENDAR_STEPS / 200, "{tally:?}");
+    let often = CALENDAR_STEPS / 100;
+    assert!(tally.refused.each_at_least(&[17, 18, 19, 20, 21], often), "{tally:?}");
+}
+
+#[test]
+fn calendar_openings() {
+    let tally = compare::calendar_openings(&Linked, 1_024, CALENDAR_OPENINGS).unwrap();
+    let often = CALENDAR_OPENINGS as u64 / 200;
+    assert!(tally.openings > 20 * often, "{tally:?}");
+    assert!(tally.refused.each_at_least(&[1, 2, 3, 17, 18], often), "{tally:?}");
+    assert!(tally.refused.each_at_least(RULE_REFUSALS, often), "{tally:?}");
 }

@@ -1,11 +1,11 @@
-//! The Rust wrapper (feature `library`) against the paper: its safe functions, and
-//! `Watch`, which keeps its memory.
+//! The Rust wrapper (feature `library`) against the paper: its safe functions, and `Watch`,
+//! `WatchSet` and `Calendar`, which keep their memory.
 
-use rust_tests::paper;
+use rust_tests::paper::{self, calendar};
 use rust_tests::random::{self, Random};
 use station_watch::{bodies, body_from_text, figures, outcome, rule_body, sheet_of};
 use station_watch::{set_figures, text_from_body, Figures, Outcome, Pair, Refusal, SetFigures};
-use station_watch::{Triple, Verdict, Watch, WatchSet};
+use station_watch::{Calendar, Triple, Verdict, Watch, WatchSet};
 
 const RULES: usize = 1_000;
 const STEPS: usize = 80;
@@ -14,12 +14,13 @@ const SHEETS: usize = 4_000;
 const TEXTS: usize = 20_000;
 const SETS: usize = 200;
 const SET_SHEETS: usize = 4_000;
+const CALENDARS: usize = 1_000;
 
 fn numbered<T>(answer: Result<T, Refusal>) -> Result<T, u32> {
     answer.map_err(Refusal::number)
 }
 
-/// A stream, taken in single steps and in batches of random length.
+/// A stream, taken in single steps and in batches of random length, with a calendar beside it.
 #[test]
 fn watches() {
     let mut random = Random::new(3_001);
@@ -28,7 +29,8 @@ fn watches() {
         let rule = random::accepted_rule(&mut random);
         let (sheet, number) = random::sheet_with(&mut random, &rule.body);
         let mut due = paper::Watch::new(rule.formula.clone());
-        let mut watch = Watch::open(&sheet, number).unwrap();
+        let room = random.below(2 * STEPS) as u64;
+        let mut watch = Watch::calendar_open(&sheet, number, room).unwrap();
         let stream = random::stream(&mut random, STEPS);
         let mut rest = &stream[..];
         while !rest.is_empty() {
@@ -38,7 +40,10 @@ fn watches() {
             assert_eq!((watch.live(), watch.next_tick()), (due.live() as u64, due.tick() as u64));
             late += seen.iter().filter(|pair| pair.step > pair.tick).count();
             rest = later;
+            let taken = stream.len() - rest.len();
+            assert!(calendar::agrees(watch.calendar().words(), &stream[..taken]), "{taken} taken");
         }
+        assert!(watch.calendar().kept() >= room);
     }
     assert!(late > RULES, "{late} violations decided late");
 }
@@ -212,4 +217,44 @@ fn set_sheets() {
         opened += due.is_ok() as u64;
     }
     assert!(opened > SET_SHEETS as u64 / 4, "{opened} opened");
+}
+
+/// Any words and what is filled in, by the four questions at their edges.
+#[test]
+fn calendars() {
+    let mut random = Random::new(3_007);
+    let mut found = 0;
+    for _ in 0..CALENDARS {
+        let length = random::calendar_length(&mut random);
+        let mut due = random::calendar_words(&mut random, length);
+        let mut words = Calendar::from_words(due.clone());
+        let ticks = random::edge_ticks(&mut random, &due);
+        let (tick, bytes) = (random.pick(&ticks), random.bytes(9));
+        calendar::fill(&mut due, tick, &bytes);
+        words.fill(tick, &bytes);
+        assert_eq!((words.words(), words.kept()), (&due[..], calendar::kept_ticks(&due)));
+        for flag in [0, 5, 7, 8, 255] {
+            for (&first, &last) in ticks.iter().zip(ticks.iter().rev()) {
+                found += same_answers(&words, &due, flag, first, last);
+            }
+        }
+        calendar::clear(&mut due);
+        words.clear();
+        assert_eq!(words.words(), due);
+    }
+    assert!(found > 10 * CALENDARS, "{found} ups found");
+}
+
+/// Asks about a range and about its first tick, and says whether there is an up in it.
+fn same_answers(words: &Calendar, due: &[u64], flag: u8, first: u64, last: u64) -> usize {
+    let asked = format!("flag {flag}, {first} to {last}, {due:?}");
+    let ups = numbered(words.ups(flag, first, last));
+    assert_eq!(ups, calendar::ups(due, flag, first, last), "{asked}");
+    let up = numbered(words.first_up(flag, first, last));
+    assert_eq!(up, calendar::first_up(due, flag, first, last), "{asked}");
+    let up = numbered(words.last_up(flag, first, last));
+    assert_eq!(up, calendar::last_up(due, flag, first, last), "{asked}");
+    let up = numbered(words.nearest_up(flag, first));
+    assert_eq!(up, calendar::nearest_up(due, flag, first), "{asked}");
+    ups.is_ok_and(|ups| ups > 0) as usize
 }

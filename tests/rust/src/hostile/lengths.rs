@@ -144,7 +144,7 @@ fn recordings(library: &dyn Library, random: &mut Random, numbers: &mut Numbers)
 }
 
 /// Histories and tables for an opening.
-fn openings(library: &dyn Library, random: &mut Random, numbers: &mut Numbers) -> Check {
+pub(super) fn openings(library: &dyn Library, random: &mut Random, numbers: &mut Numbers) -> Check {
     for _ in 0..4 {
         let rule = small_rule(random);
         let sheet = random::sheet_of(std::slice::from_ref(&rule.body));
@@ -161,7 +161,7 @@ fn openings(library: &dyn Library, random: &mut Random, numbers: &mut Numbers) -
 }
 
 /// Histories, tables, reports and flags for a step and a batch.
-fn steps(library: &dyn Library, random: &mut Random, numbers: &mut Numbers) -> Check {
+pub(super) fn steps(library: &dyn Library, random: &mut Random, numbers: &mut Numbers) -> Check {
     for _ in 0..4 {
         let rule = small_rule(random);
         let taken = random.size(0, 30);

@@ -1,0 +1,5 @@
+pub mod Digits
+pub mod Searching
+pub mod Runs
+pub mod Flags
+pub mod Nearness
