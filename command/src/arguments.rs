@@ -117,7 +117,7 @@ fn option(
     if place + 1 == words.len() {
         return Err(Failure::Usage(format!("no file after {name}"), usage::line(usage)));
     }
-    Ok(words.drain(place..place + 2).last().map(PathBuf::from))
+    Ok(words.drain(place..place + 2).next_back().map(PathBuf::from))
 }
 
 /// A number in decimal digits. One too large for the machine is as large as can be,

@@ -75,7 +75,7 @@ class Due:
 
 
 def shade(count, ticks):
-    return 0 if count == 0 else 1 + 4 * count // ticks
+    return 0 if count == 0 else 5 if count == ticks else 4 - sum(count * part < ticks for part in (100, 10, 2))
 
 
 # ---- the SVG file
@@ -239,7 +239,7 @@ def text_checked(text, due, width):
         same(int(total), len(marked), "count of %s in the text" % name)
         counts = due.counts(marked, each)
         if kind == "flag":
-            same(marks, "".join(".--++#"[shade(count, ticks)] for count, ticks in counts), "marks of %s" % name)
+            same(marks, "".join(".--+%#"[shade(count, ticks)] for count, ticks in counts), "marks of %s" % name)
         elif each > 1:
             same(marks, "".join("." if not count else str(count) if count < 10 else "*" for count, _ in counts), "marks of %s" % name)
         else:

@@ -1,5 +1,6 @@
 //! `draw FLAGS ..`.
 
+mod name;
 mod picture;
 mod scale;
 mod share;

@@ -28,18 +28,20 @@ impl Marked<'_> {
     }
 }
 
-/// The largest shade: all ticks are marked. 0 is none; 1 to 4 are under a quarter, under a
-/// half, under three quarters, and under all.
+/// The largest shade.
 pub const ALL: usize = 5;
 
-/// The shades in words.
+/// The shades in words: the share of ticks that are marked. Flags are up seldom, so that the
+/// small shares are told apart.
 pub const SHADES: [&str; ALL + 1] =
-    ["none", "under 1/4", "under 1/2", "under 3/4", "under all", "all"];
+    ["none", "under 1/100", "under 1/10", "under 1/2", "under all", "all"];
 
-/// The shade of a number of marked ticks among so many.
+/// The shade of so many marked ticks among all of a column.
 pub fn shade(marked: u64, ticks: u64) -> usize {
-    if marked == 0 {
-        return 0;
+    let under = |part: u64| marked.saturating_mul(part) < ticks;
+    match marked {
+        0 => 0,
+        _ if marked == ticks => ALL,
+        _ => 4 - [100, 10, 2].into_iter().filter(|part| under(*part)).count(),
     }
-    1 + (u128::from(marked) * 4 / u128::from(ticks)) as usize
 }

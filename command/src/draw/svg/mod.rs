@@ -9,9 +9,9 @@ mod page;
 mod shades;
 mod xml;
 
+use super::name::elided;
 use super::picture::Picture;
 use super::scale::Stretch;
-use super::text::elided;
 use page::{Page, RIGHT, TICKS, WIDTH};
 use station_watch::Refusal;
 use xml::{escaped, grouped, px};
