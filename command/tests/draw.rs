@@ -220,3 +220,21 @@ fn what_is_read_is_not_written_over() {
     }
     assert!(fs::read(&path).unwrap() == FLAGS && fs::read(&sheet).unwrap() == bytes);
 }
+
+/// Of a long name the end is shown, in the picture and in the text, so that the rest has room.
+#[test]
+fn long_names_are_shortened() {
+    let folder = Folder::new("long_names_are_shortened");
+    let name = "x".repeat(200) + ".bin";
+    let (path, svg) = (folder.file(&name, &FLAGS), folder.path("svg"));
+    let sheet = folder.sheet(&["010000"]);
+    let words = ["draw", &path, "--sheet", &sheet];
+    let (text, _, _) = said(command(&words).env("COLUMNS", "60").output().unwrap());
+    let due = format!("..{}.bin: ticks 0 to 9 of 10\n..", "x".repeat(34));
+    assert!(text.starts_with(&due), "{text}");
+    assert!(text.contains(": 1 rule, 4 violations\n"), "{text}");
+    assert_eq!(ask(&[&words[..], &["--svg", &svg]].concat()).2, 0);
+    let picture = fs::read_to_string(&svg).unwrap();
+    let due = format!("<title>..{}.bin: ticks 0 to 9 of 10</title>\n", "x".repeat(79));
+    assert!(picture.contains(&due), "{picture}");
+}

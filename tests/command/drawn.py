@@ -26,7 +26,7 @@ PROGRAM = sys.argv[1]
 LEFT, RIGHT, COLUMNS = 72.0, 1072.0, 1000
 
 # How wide letters of a class are about, at least.
-LETTERS = {"title": 9.0, "under": 7.0, "number": 6.5, "count": 5.5, "small": 5.0, "text": 6.0, "name": 6.5}
+LETTERS = {"title": 9.0, "under": 7.0, "number": 6.5, "count": 5.5, "small": 5.0, "label": 5.0, "side": 5.0, "text": 6.0, "name": 6.5}
 
 # Rules for long streams, with rare and with dense violations, and with late ones.
 RULES = ["monitor x : ~(@x.0 /\\ @x.1)", "monitor x : ~forall y in x..x+2 : @y.2", "monitor x : ~(@x.0 && ~forall y in x-5..x-1 : ~@y.3)",
@@ -159,19 +159,21 @@ def lane_checked(picture, rule, top, bottom):
         return same(told, due, "violations of rule %d" % rule)
     if picture.due.ticks <= 250:
         raise Wrong("the violations of rule %d are not drawn one by one" % rule)
-    groups = [text for x, y, text in picture.words("small") if top < y < bottom and LEFT < x < RIGHT]
+    groups = [text for x, y, text in picture.words("label") if top < y < bottom and LEFT < x < RIGHT]
     same(sum(int(count.replace(",", "")) for count in groups), len(due), "the groups of rule %d" % rule)
     strip_checked(picture, "broken", {tick for tick, _ in due}, top, bottom)
 
 
 def words_checked(picture):
-    """No two words touch."""
+    """No two words touch, and none leaves the page."""
     boxes = []
     for tag, element in picture.elements:
         if tag == "text":
             kind, x, y = element.get("class"), float(element.get("x")), float(element.get("y"))
             width = LETTERS[kind] * len(element.text)
-            x -= {"middle": width / 2, "end": width}.get(element.get("text-anchor"), 0)
+            x -= {"number": width / 2, "label": width / 2, "side": width}.get(kind, 0)
+            if x < 0 or x + width > 1220:
+                raise Wrong("'%s' leaves the page" % element.text)
             boxes.append((y, x, x + width, element.text))
     boxes.sort()
     for place, (y, left, right, text) in enumerate(boxes):

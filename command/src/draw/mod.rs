@@ -1,12 +1,12 @@
 //! `draw FLAGS ..`.
 
-mod name;
 mod picture;
 mod scale;
 mod share;
 mod svg;
 mod text;
 mod violations;
+mod words;
 
 use crate::answer::{Answer, Failure, Stop};
 use crate::files;

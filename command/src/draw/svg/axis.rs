@@ -1,8 +1,9 @@
 //! Tick numbers, and the lines that lead down from them.
 
 use super::page::{Page, LETTER};
-use super::xml::{grouped, px};
+use super::xml::px;
 use crate::draw::scale::round;
+use crate::draw::words::grouped;
 
 /// Lines are drawn between ticks that are as wide as this.
 const WIDE: f64 = 8.0;
@@ -13,10 +14,10 @@ fn named(page: &Page) -> Vec<u64> {
     page.stretch.named(round(|step| step as f64 * page.tick() >= room))
 }
 
-/// Their numbers, at the height y.
-pub fn numbers(page: &mut Page, y: f64) {
+/// Their numbers.
+pub fn numbers(page: &mut Page) {
     for tick in named(page) {
-        page.words("number", "middle", page.middle(tick), y, &grouped(tick));
+        page.words("number", (page.middle(tick), page.y), &grouped(tick));
     }
 }
 

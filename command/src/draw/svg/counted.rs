@@ -3,9 +3,10 @@
 
 use super::page::{Page, LETTER};
 use super::shades;
-use super::xml::{grouped, px};
+use super::xml::px;
 use crate::draw::scale::{round, Stretch};
 use crate::draw::share::Marked;
+use crate::draw::words::grouped;
 use station_watch::Refusal;
 
 pub fn draw(page: &mut Page, marked: Marked, columns: &[Stretch]) -> Result<(), Refusal> {
@@ -15,7 +16,7 @@ pub fn draw(page: &mut Page, marked: Marked, columns: &[Stretch]) -> Result<(), 
         brackets += &format!("M{} {}v-3h{}v3", px(start), px(page.y + 15.0), px(width));
         let count = grouped(group.count);
         let x = place(page, group.within, start + width / 2.0, &count);
-        page.words("small", "middle", x, page.y + 9.0, &count);
+        page.words("label", (x, page.y + 9.0), &count);
     }
     page.path("bracket", &brackets);
     shades::strip(page, "broken", page.y + 24.0, columns, &marked.counts(columns)?);

@@ -1,8 +1,9 @@
 //! Violations one by one: each tick above, its deciding step below, and a line between.
 
 use super::page::{Page, LEFT, LETTER, RIGHT};
-use super::xml::{grouped, px};
+use super::xml::px;
 use crate::draw::violations::Violation;
+use crate::draw::words::grouped;
 
 /// A dot around the place where a line ends.
 pub const DOT: &str = "m-2 0a2 2 0 1 0 4 0a2 2 0 1 0 -4 0";
@@ -13,7 +14,7 @@ const NEAR: f64 = 12.0;
 pub fn draw(page: &mut Page, listed: &[Violation]) {
     let (top, bottom) = (page.y + 6.0, page.y + 28.0);
     for (name, y) in [("tick", top), ("step", bottom)] {
-        page.words("small", "end", LEFT - 8.0, y + 4.0, name);
+        page.words("side", (LEFT - 8.0, y + 4.0), name);
         page.path("base", &format!("M{} {}H{}", px(LEFT), px(y), px(RIGHT)));
     }
     for Violation { tick, step } in listed {
@@ -77,7 +78,7 @@ impl Label {
 fn labels(page: &mut Page, listed: &[Violation], y: f64) {
     for label in joined(page, listed) {
         let (left, right) = label.extent(page);
-        page.words("small", "middle", (left + right) / 2.0, y, &label.words());
+        page.words("label", ((left + right) / 2.0, y), &label.words());
     }
 }
 

@@ -1,12 +1,12 @@
 //! A rule and its violations: one by one, each tick joined to its deciding step; or, where
 //! that could not be read, counted.
 
-use super::counted;
 use super::joined;
-use super::page::{Page, LEFT, RIGHT};
-use super::xml::{grouped, px};
+use super::page::{Page, COUNTS, LEFT, NAMES, RIGHT};
+use super::xml::px;
 use crate::draw::scale::Stretch;
 use crate::draw::violations::{Broken, Violation};
+use crate::draw::words::{counted, grouped};
 use station_watch::Refusal;
 
 /// Violations are drawn one by one where no two ticks are closer.
@@ -32,7 +32,7 @@ pub fn draw(page: &mut Page, broken: &Broken, columns: &[Stretch]) -> Result<(),
             page.y += 14.0;
         }
         Some(listed) => joined::draw(page, listed),
-        None => counted::draw(page, broken.marked, columns)?,
+        None => super::counted::draw(page, broken.marked, columns)?,
     }
     Ok(())
 }
@@ -40,18 +40,22 @@ pub fn draw(page: &mut Page, broken: &Broken, columns: &[Stretch]) -> Result<(),
 /// Its number, its text, how many violations there are and how late they were certain.
 fn head(page: &mut Page, broken: &Broken) {
     let y = page.y + 14.0;
-    page.words("name", "start", 10.0, y, &format!("rule {}", broken.rule));
-    page.words("text", "start", LEFT, y, &shortened(broken.text));
-    let count = match broken.count {
-        0 => "never broken".to_string(),
-        1 => "1 violation".to_string(),
-        count => format!("{} violations", grouped(count)),
-    };
-    page.words("count", "start", RIGHT + 10.0, y, &count);
+    page.words("name", (NAMES, y), &format!("rule {}", broken.rule));
+    page.words("text", (LEFT, y), &shortened(broken.text));
+    page.words("count", (COUNTS, y), &count(broken.count));
     if let Some((fewest, most)) = broken.later {
-        page.words("small", "start", RIGHT + 10.0, y + 15.0, &later(fewest, most));
+        page.words("small", (COUNTS, y + 15.0), &later(fewest, most));
     }
     page.y += 20.0;
+}
+
+/// How many, in the room that there is.
+fn count(violations: u64) -> String {
+    match violations {
+        0 => "never broken".to_string(),
+        1..10_000_000 => counted(&grouped(violations), "violation"),
+        _ => grouped(violations),
+    }
 }
 
 fn shortened(text: &str) -> String {

@@ -3,10 +3,11 @@
 use super::joined::{diamond, DOT};
 use super::lane;
 use super::page::{Page, LEFT, LETTER};
-use super::xml::{grouped, px};
+use super::xml::px;
 use crate::draw::picture::Picture;
 use crate::draw::share;
 use crate::draw::violations::Broken;
+use crate::draw::words::grouped;
 
 /// The height of a line.
 const LINE: f64 = 24.0;
@@ -40,11 +41,11 @@ fn all_shades() -> Vec<(&'static str, usize)> {
 fn swatches(page: &mut Page, class: &str, what: &str, shades: &[(&str, usize)]) {
     page.y += LINE;
     let y = page.y;
-    page.words("small", "start", LEFT, y, what);
+    page.words("small", (LEFT, y), what);
     let mut x = LEFT + wide(what) + 12.0;
     for (name, shade) in shades {
         page.path(&format!("{class}{shade}"), &format!("M{} {}h24", px(x), px(y - 4.0)));
-        page.words("small", "start", x + 30.0, y, name);
+        page.words("small", (x + 30.0, y), name);
         x += 30.0 + wide(name) + 14.0;
     }
 }
@@ -54,12 +55,12 @@ fn violation(page: &mut Page) {
     page.y += LINE;
     let y = page.y;
     let what = "Rules, each violation:";
-    page.words("small", "start", LEFT, y, what);
+    page.words("small", (LEFT, y), what);
     let (x, middle) = (LEFT + wide(what) + 16.0, y - 4.0);
     let line = format!("M{} {}h60", px(x), px(middle));
     page.path("sample", &(diamond((x, middle), 4.0) + &line + DOT));
     let what = "from the tick that breaks the rule to the step at which that was certain";
-    page.words("small", "start", x + 74.0, y, what);
+    page.words("small", (x + 74.0, y), what);
 }
 
 /// About how wide words of the small font are.

@@ -9,12 +9,12 @@ mod page;
 mod shades;
 mod xml;
 
-use super::name::elided;
 use super::picture::Picture;
 use super::scale::Stretch;
-use page::{Page, RIGHT, TICKS, WIDTH};
+use super::words::{counted, elided, grouped};
+use page::{Page, COUNTS, NAMES, TICKS, WIDTH};
 use station_watch::Refusal;
-use xml::{escaped, grouped, px};
+use xml::{escaped, px};
 
 const STYLE: &str = include_str!("style.css");
 
@@ -24,74 +24,76 @@ const COLUMNS: usize = TICKS as usize;
 /// The height of a flag's row.
 const ROW: f64 = 24.0;
 
+/// The most letters of the title, and of the sheet's name.
+const TITLE: usize = 105;
+const SHEET: usize = 110;
+
 pub fn drawn(picture: &Picture) -> Result<String, Refusal> {
     let each = picture.stretch.column_ticks(COLUMNS);
     let columns: Vec<Stretch> = picture.stretch.columns(each).collect();
     let mut page = Page::new(picture.stretch);
     title(&mut page, picture);
     page.y += 24.0;
-    let y = page.y;
-    axis::numbers(&mut page, y);
+    axis::numbers(&mut page);
     page.y += 8.0;
     let top = page.y;
     rows(&mut page, picture, &columns)?;
-    let end = page.y;
-    axis::between(&mut page, top, end);
-    for broken in picture.rules() {
-        page.y += 8.0;
-        lane::draw(&mut page, broken, &columns)?;
-    }
+    rules(&mut page, picture, &columns)?;
     let bottom = page.y + 4.0;
-    if !picture.rules().is_empty() {
+    if picture.sheet.is_some() {
         page.y += 18.0;
-        let y = page.y;
-        axis::numbers(&mut page, y);
+        axis::numbers(&mut page);
     }
     page.y += 8.0;
     legend::draw(&mut page, picture, each);
     page.y += 20.0;
-    let mut grid = Page::new(picture.stretch);
-    axis::lines(&mut grid, top, bottom);
-    Ok(file(picture, &(grid.body + &page.body), page.y))
+    // The lines come first, so that they lie below the rest.
+    let mut lines = Page::new(picture.stretch);
+    axis::lines(&mut lines, top, bottom);
+    Ok(file(picture, &(lines.body + &page.body), page.y))
 }
 
 fn title(page: &mut Page, picture: &Picture) {
-    page.words("title", "start", 10.0, 30.0, &headline(picture));
-    page.y = 30.0;
+    page.y += 30.0;
+    page.words("title", (NAMES, page.y), &headline(picture));
     if let Some(sheet) = &picture.sheet {
         page.y += 22.0;
-        let (rules, violations) = (sheet.rules.len(), grouped(picture.violations()));
-        let name = elided(sheet.name, 100);
-        let y = page.y;
-        page.words(
-            "under",
-            "start",
-            10.0,
-            y,
-            &format!("{name}: {rules} rules, {violations} violations"),
-        );
+        let name = elided(sheet.name, SHEET);
+        let rules = counted(&sheet.rules.len().to_string(), "rule");
+        let violations = counted(&grouped(picture.violations()), "violation");
+        page.words("under", (NAMES, page.y), &format!("{name}: {rules}, {violations}"));
     }
 }
 
 fn headline(picture: &Picture) -> String {
     let Stretch { first, last } = picture.stretch;
     let (first, last, ticks) = (grouped(first), grouped(last), grouped(picture.ticks));
-    format!("{}: ticks {first} to {last} of {ticks}", elided(picture.flags, 70))
+    let ticks = format!(": ticks {first} to {last} of {ticks}");
+    elided(picture.flags, TITLE.saturating_sub(ticks.len())) + &ticks
 }
 
 fn rows(page: &mut Page, picture: &Picture, columns: &[Stretch]) -> Result<(), Refusal> {
+    let top = page.y;
     for (flag, marked) in picture.rows.iter().enumerate() {
         let y = page.y + ROW / 2.0;
-        page.words("name", "start", 10.0, y + 5.0, &format!("flag {flag}"));
+        page.words("name", (NAMES, y + 5.0), &format!("flag {flag}"));
         let counts = marked.counts(columns)?;
         shades::strip(page, "flag", y, columns, &counts);
         let count = match counts.iter().sum() {
             0 => "never up".to_string(),
-            1 => "1 up".to_string(),
-            ups => format!("{} ups", grouped(ups)),
+            ups => counted(&grouped(ups), "up"),
         };
-        page.words("count", "start", RIGHT + 10.0, y + 5.0, &count);
+        page.words("count", (COUNTS, y + 5.0), &count);
         page.y += ROW;
+    }
+    axis::between(page, top, page.y);
+    Ok(())
+}
+
+fn rules(page: &mut Page, picture: &Picture, columns: &[Stretch]) -> Result<(), Refusal> {
+    for broken in picture.rules() {
+        page.y += 8.0;
+        lane::draw(page, broken, columns)?;
     }
     Ok(())
 }

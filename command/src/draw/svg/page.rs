@@ -3,11 +3,13 @@
 use super::xml::{escaped, px};
 use crate::draw::scale::Stretch;
 
-/// Across: the names of rows, the ticks, and the counts.
+/// Across: where names of rows begin, where ticks begin and end, and where counts begin.
 pub const WIDTH: f64 = 1220.0;
+pub const NAMES: f64 = 10.0;
 pub const LEFT: f64 = 72.0;
 pub const TICKS: f64 = 1000.0;
 pub const RIGHT: f64 = LEFT + TICKS;
+pub const COUNTS: f64 = RIGHT + 10.0;
 
 /// A digit or a letter of the small font is at most so wide.
 pub const LETTER: f64 = 7.0;
@@ -51,13 +53,10 @@ impl Page {
         (self.start(ticks.first).min(RIGHT - width), width)
     }
 
-    /// Words of a class, from x on, before x or around x, as `anchor` says.
-    pub fn words(&mut self, class: &str, anchor: &str, x: f64, y: f64, words: &str) {
+    /// Words of a class, which says whether they begin, end or have their middle there.
+    pub fn words(&mut self, class: &str, (x, y): (f64, f64), words: &str) {
         let (x, y, words) = (px(x), px(y), escaped(words));
-        let anchor =
-            if anchor == "start" { String::new() } else { format!(" text-anchor=\"{anchor}\"") };
-        self.body +=
-            &format!("<text class=\"{class}\"{anchor} x=\"{x}\" y=\"{y}\">{words}</text>\n");
+        self.body += &format!("<text class=\"{class}\" x=\"{x}\" y=\"{y}\">{words}</text>\n");
     }
 
     /// Lines of a class, as a path says them.

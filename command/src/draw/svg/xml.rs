@@ -1,4 +1,4 @@
-//! Words in XML, and numbers as people and pictures have them.
+//! Words and lengths in XML.
 
 /// A text as it stands in XML. What XML cannot have is shown as a replacement character.
 pub fn escaped(text: &str) -> String {
@@ -16,19 +16,6 @@ pub fn escaped(text: &str) -> String {
         }
     }
     escaped
-}
-
-/// A number with commas: 200,000.
-pub fn grouped(number: u64) -> String {
-    let digits = number.to_string();
-    let mut grouped = String::new();
-    for (place, digit) in digits.chars().enumerate() {
-        if place > 0 && (digits.len() - place) % 3 == 0 {
-            grouped.push(',');
-        }
-        grouped.push(digit);
-    }
-    grouped
 }
 
 /// A place or a length, to a hundredth.

@@ -5,10 +5,10 @@ mod layout;
 mod list;
 mod rules;
 
-use super::name::elided;
 use super::picture::Picture;
 use super::scale::Stretch;
 use super::share::{self, shade};
+use super::words::{counted, elided};
 use layout::{wrapped, Layout};
 use station_watch::Refusal;
 
@@ -41,12 +41,13 @@ pub fn drawn(picture: &Picture, width: usize) -> Result<String, Refusal> {
 
 fn title(picture: &Picture, width: usize) -> String {
     let Stretch { first, last } = picture.stretch;
-    let line = |name: &str, rest: String| elided(name, width.saturating_sub(rest.len())) + &rest;
+    let line = |name, rest: String| elided(name, (width + 1).saturating_sub(rest.len())) + &rest;
     let ticks = format!(": ticks {first} to {last} of {}\n", picture.ticks);
     let mut title = line(picture.flags, ticks);
     if let Some(sheet) = &picture.sheet {
-        let (rules, violations) = (sheet.rules.len(), picture.violations());
-        title += &line(sheet.name, format!(": {rules} rules, {violations} violations\n"));
+        let rules = counted(&sheet.rules.len().to_string(), "rule");
+        let violations = counted(&picture.violations().to_string(), "violation");
+        title += &line(sheet.name, format!(": {rules}, {violations}\n"));
     }
     title
 }
