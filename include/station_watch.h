@@ -573,9 +573,9 @@ void sw_calendar_fill(uint64_t *words, size_t words_len, uint64_t tick,
 /* At how many ticks from `first` to `last` a flag was up. Both ends are in the range. It is
  * empty if `first` is the larger, and a range past the last kept tick is cut there.
  * Answers 0, or 7.
- * After 0, *ups is the number. */
+ * After 0, *count is the number. */
 uint32_t sw_calendar_ups(const uint64_t *words, size_t words_len, uint8_t flag,
-                         uint64_t first, uint64_t last, uint64_t *ups);
+                         uint64_t first, uint64_t last, uint64_t *count);
 
 /* The first tick of such a range at which a flag was up.
  * Answers 0, or 7.

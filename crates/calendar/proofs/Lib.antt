@@ -3,3 +3,4 @@ pub mod Each
 pub mod Stream
 pub mod Said
 pub mod Agreement
+pub mod Examples

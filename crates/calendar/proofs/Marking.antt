@@ -1,4 +1,4 @@
--- A bit set in a word by `|`, and the digits of the word after that.
+-- The digits of a word: none at or above its length, and those after a bit is set by `|`.
 use mathlib.Core.Path.{_≡_, refl, sym, ap, _∙_}
 use mathlib.Core.Bool.{Bool, true, false, cond}
 use Prim.{⊥}

@@ -1,5 +1,5 @@
 -- The law of masked words: the bits of a run's word, shifted and masked, show their ticks. All four questions stand on it.
-use mathlib.Core.Path.{_≡_, refl, sym, ap, ap₂, _∙_, subst}
+use mathlib.Core.Path.{_≡_, sym, ap, ap₂, _∙_, subst}
 use mathlib.Core.List.{List}
 use Prim.Native.Nat.{ℕ, _+_, _*_, _/_, _%_, _^_, _≤_, _<_}
 use native.Mathlib.Nat.{mod-lt, div-one, mod-eq-of-lt}
@@ -23,18 +23,22 @@ run-shown ws k q d m h e =
     )
 
 -- a run's whole word, which needs no mask, shows its 64 ticks
-pub whole-shown : (ws : List ℕ) (k r : ℕ) → getD ws (8 * r + k) 0 < 2 ^ 64 → Shown (up-at ws k) (64 * r) 64 (getD ws (8 * r + k) 0)
-unfolding run-word
-whole-shown ws k r h =
-    let w = getD ws (8 * r + k) 0 in
-    run-shown ws k (64 * r) 64 w (omega arith)
-    (sym
-    (ap₂ (λ (x y : ℕ). getD ws (8 * x + k) 0 / 2 ^ y % 2 ^ 64) (let e : 64 * r / 64 ≡ r = omega arith in e) (let e : 64 * r % 64 ≡ 0 = omega arith in e)
-    ∙ ap (λ (x : ℕ). x % 2 ^ 64) (div-one w) ∙ mod-eq-of-lt h))
+pub whole-shown : (ws : List ℕ) (k r m : ℕ) → m < 2 ^ 64 → m ≡ run-word ws k (64 * r) → Shown (up-at ws k) (64 * r) 64 m
+whole-shown ws k r m h e =
+    run-shown ws k (64 * r) 64 m (omega arith)
+    (e
+    ∙ sym
+    (ap (λ (x : ℕ). run-word ws k (64 * r) / 2 ^ x % 2 ^ 64) (let z : 64 * r % 64 ≡ 0 = omega arith in z)
+    ∙ ap (λ (x : ℕ). x % 2 ^ 64) (div-one (run-word ws k (64 * r)))
+    ∙ mod-eq-of-lt (subst (λ (x : ℕ). x < 2 ^ 64) e h)))
 
 -- a run whose word is 0 has no tick that is up
-pub quiet-run : (ws : List ℕ) (k r : ℕ) → getD ws (8 * r + k) 0 ≡ 0 → Quiet (up-at ws k) (64 * r) (64 * (r + 1))
-quiet-run ws k r z =
-    let w = getD ws (8 * r + k) 0 in
-    subst (Quiet (up-at ws k) (64 * r)) (let e : 64 * r + 64 ≡ 64 * (r + 1) = omega arith in e)
-    (quiet-shown (up-at ws k) (64 * r) 64 w (whole-shown ws k r (subst (λ (x : ℕ). x < 2 ^ 64) (sym z) (pow-pos 64))) z)
+pub quiet-run : (ws : List ℕ) (k r m : ℕ) → m ≡ 0 → m ≡ run-word ws k (64 * r) → Quiet (up-at ws k) (64 * r) (64 * (r + 1))
+quiet-run ws k r m z e =
+    subst (Quiet (up-at ws k) (64 * r)) (let s : 64 * r + 64 ≡ 64 * (r + 1) = omega arith in s)
+    (quiet-shown (up-at ws k) (64 * r) 64 m (whole-shown ws k r m (subst (λ (x : ℕ). x < 2 ^ 64) (sym z) (pow-pos 64)) e) z)
+
+-- the word of a tick is its run's
+pub word-of-run : (ws : List ℕ) (k q : ℕ) → run-word ws k (64 * (q / 64)) ≡ run-word ws k q
+unfolding run-word
+word-of-run ws k q = ap (λ (x : ℕ). getD ws (8 * x + k) 0) (omega arith)

@@ -1,6 +1,6 @@
 // A flag's words, one piece of a run at a time: the ticks of a piece as the low bits of a number.
 ghost use mathlib.Core.Path.{_≡_};
-ghost use Prim.Native.Nat.{_+_, _-_, _/_, _%_, _^_, _<_, _≤_, min};
+ghost use Prim.Native.Nat.{_+_, _-_, _*_, _/_, _%_, _^_, _<_, _≤_, min};
 ghost use Rattle.calendar.specs.Calendar.{kept, run-word, up-at};
 ghost use Rattle.calendar_questions.specs.Parts.{Shown};
 
@@ -12,12 +12,12 @@ fn masked(word: u64, bit: u64, count: u64) -> u64
     (word >> bit) & (0xffff_ffff_ffff_ffff >> (64 - count))
 }
 
-// The word of flag k in which a kept tick lies.
-fn run_word(words: &[u64], k: usize, q: u64) -> u64
-    requires { ⌜ (k < 8) × (q < kept (now words)) ⌝ }
-    ensures { λ r. ⌜ r ≡ run-word (now (words .entry)) k q ⌝ }
+// The word of flag k for a run of kept ticks.
+pub fn run_word(words: &[u64], k: usize, run: u64) -> u64
+    requires { ⌜ (k < 8) × (64 * run < kept (now words)) ⌝ }
+    ensures { λ r. ⌜ r ≡ run-word (now (words .entry)) k (64 * run) ⌝ }
 {
-    words[8 * (q / 64) as usize + k]
+    words[8 * run as usize + k]
 }
 
 // The `count` ticks from q on, which lie in one run, as the low bits of a number.
@@ -25,7 +25,7 @@ pub(crate) fn shown(words: &[u64], k: usize, q: u64, count: u64) -> u64
     requires { ⌜ (k < 8) × (q < kept (now words)) × (0 < count) × (q % 64 + count ≤ 64) ⌝ }
     ensures { λ r. ⌜ Shown (up-at (now (words .entry)) k) q count r ⌝ }
 {
-    masked(run_word(words, k, q), q % 64, count)
+    masked(run_word(words, k, q / 64), q % 64, count)
 }
 
 // How many ticks from q on lie before `end` and in one run.

@@ -7,6 +7,7 @@ ghost use Rattle.calendar.specs.Calendar.{kept, up-at};
 ghost use Rattle.calendar_questions.specs.Parts.{Quiet};
 use crate::masked::piece;
 use crate::masked::piece_before;
+use crate::masked::run_word;
 use crate::masked::shown;
 use calendar::UpTick;
 
@@ -32,7 +33,7 @@ fn skip_runs(words: &[u64], k: usize, first: u64, end: u64) -> u64
 {
     let mut run = first;
     while run < end {
-        let word = words[8 * run as usize + k];
+        let word = run_word(words, k, run);
         if word != 0 {
             return run;
         }
@@ -48,7 +49,7 @@ fn skip_runs_back(words: &[u64], k: usize, first: u64, end: u64) -> u64
 {
     let mut run = end;
     while first < run {
-        let word = words[8 * (run - 1) as usize + k];
+        let word = run_word(words, k, run - 1);
         if word != 0 {
             return run;
         }
@@ -71,6 +72,7 @@ pub(crate) fn earliest(words: &[u64], k: usize, first: u64, end: u64) -> UpTick
         }
         q += count;
         let bit = q % 64;
+        // a piece that ends inside a run ends the range
         if bit != 0 {
             return UpTick::None;
         }
@@ -93,6 +95,7 @@ pub(crate) fn latest(words: &[u64], k: usize, first: u64, end: u64) -> UpTick
             return UpTick::At(q + highest(word));
         }
         let bit = q % 64;
+        // a piece that begins inside a run begins the range
         if bit != 0 {
             return UpTick::None;
         }

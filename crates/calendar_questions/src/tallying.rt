@@ -5,6 +5,7 @@ ghost use lib.Count.{ones};
 ghost use Rattle.calendar.specs.Search.{tally};
 ghost use Rattle.calendar.specs.Calendar.{kept, up-at};
 use crate::masked::piece;
+use crate::masked::run_word;
 use crate::masked::shown;
 
 // The number of bits set.
@@ -22,7 +23,7 @@ fn tally_runs(words: &[u64], k: usize, first: u64, end: u64) -> u64
     let mut sum = 0;
     let mut run = first;
     while run < end {
-        sum += ones(words[8 * run as usize + k]);
+        sum += ones(run_word(words, k, run));
         run += 1;
     }
     sum
@@ -40,6 +41,7 @@ pub(crate) fn tally(words: &[u64], k: usize, first: u64, end: u64) -> u64
         sum += ones(shown(words, k, q, count));
         q += count;
         let bit = q % 64;
+        // a piece that ends inside a run ends the range
         if bit != 0 {
             return sum;
         }

@@ -1,6 +1,6 @@
 // The four questions. A tick is answered by its number, none by 2^64 - 1 (SW_NO_TICK).
 ghost use mathlib.Core.Path.{_≡_};
-ghost use Rattle.refusal.specs.Answer.{answered, and-then, accepted, KeptIfRefused};
+ghost use Rattle.refusal.specs.Answer.{number, or-kept};
 ghost use Rattle.calendar.specs.Calendar.{ups, first-up, last-up, nearest-up};
 ghost use Rattle.calendar_questions.specs.Answers.{of-flag, tick-answer};
 ghost use Rattle.exports_calendar.specs.Ticks.{tick-number};
@@ -22,8 +22,8 @@ fn tick_number(tick: UpTick) -> u64
 
 // Answers a question about ticks: the refusal's number, or 0 with the tick's number in the lent one.
 fn put_tick(answer: TickAnswer, tick: &mut u64) -> u32
-    ensures { λ r. ⌜ answered r (now (tick .exit)) ≡ and-then (tick-answer answer) (λ found. accepted (tick-number found)) ⌝ }
-    ensures { λ r. ⌜ KeptIfRefused r (now (tick .entry)) (now (tick .exit)) ⌝ }
+    ensures { λ r. ⌜ r ≡ number (tick-answer answer) ⌝ }
+    ensures { λ _. ⌜ now (tick .exit) ≡ or-kept tick-number (tick-answer answer) (now (tick .entry)) ⌝ }
 {
     match answer {
         TickAnswer::Refused(refusal) => refusal::number(refusal),
@@ -43,8 +43,8 @@ pub extern "C" fn sw_calendar_ups(
     last: u64,
     count: &mut u64,
 ) -> u32
-    ensures { λ r. ⌜ answered r (now (count .exit)) ≡ of-flag flag (ups (now (words .entry)) flag first last) ⌝ }
-    ensures { λ r. ⌜ KeptIfRefused r (now (count .entry)) (now (count .exit)) ⌝ }
+    ensures { λ r. ⌜ r ≡ number (of-flag flag (ups (now (words .entry)) flag first last)) ⌝ }
+    ensures { λ _. ⌜ now (count .exit) ≡ or-kept (λ found. found) (of-flag flag (ups (now (words .entry)) flag first last)) (now (count .entry)) ⌝ }
 {
     let answer = calendar_questions::count(words, flag, first, last);
     match answer {
@@ -65,8 +65,8 @@ pub extern "C" fn sw_calendar_first(
     last: u64,
     tick: &mut u64,
 ) -> u32
-    ensures { λ r. ⌜ answered r (now (tick .exit)) ≡ of-flag flag (tick-number (first-up (now (words .entry)) flag first last)) ⌝ }
-    ensures { λ r. ⌜ KeptIfRefused r (now (tick .entry)) (now (tick .exit)) ⌝ }
+    ensures { λ r. ⌜ r ≡ number (of-flag flag (first-up (now (words .entry)) flag first last)) ⌝ }
+    ensures { λ _. ⌜ now (tick .exit) ≡ or-kept tick-number (of-flag flag (first-up (now (words .entry)) flag first last)) (now (tick .entry)) ⌝ }
 {
     put_tick(calendar_questions::first_up(words, flag, first, last), tick)
 }
@@ -80,8 +80,8 @@ pub extern "C" fn sw_calendar_last(
     last: u64,
     tick: &mut u64,
 ) -> u32
-    ensures { λ r. ⌜ answered r (now (tick .exit)) ≡ of-flag flag (tick-number (last-up (now (words .entry)) flag first last)) ⌝ }
-    ensures { λ r. ⌜ KeptIfRefused r (now (tick .entry)) (now (tick .exit)) ⌝ }
+    ensures { λ r. ⌜ r ≡ number (of-flag flag (last-up (now (words .entry)) flag first last)) ⌝ }
+    ensures { λ _. ⌜ now (tick .exit) ≡ or-kept tick-number (of-flag flag (last-up (now (words .entry)) flag first last)) (now (tick .entry)) ⌝ }
 {
     put_tick(calendar_questions::last_up(words, flag, first, last), tick)
 }
@@ -89,8 +89,8 @@ pub extern "C" fn sw_calendar_last(
 // The kept tick nearest to `tick` at which a flag is up; the earlier of two equally near.
 #[no_mangle]
 pub extern "C" fn sw_calendar_nearest(words: &[u64], flag: u8, tick: u64, nearest: &mut u64) -> u32
-    ensures { λ r. ⌜ answered r (now (nearest .exit)) ≡ of-flag flag (tick-number (nearest-up (now (words .entry)) flag tick)) ⌝ }
-    ensures { λ r. ⌜ KeptIfRefused r (now (nearest .entry)) (now (nearest .exit)) ⌝ }
+    ensures { λ r. ⌜ r ≡ number (of-flag flag (nearest-up (now (words .entry)) flag tick)) ⌝ }
+    ensures { λ _. ⌜ now (nearest .exit) ≡ or-kept tick-number (of-flag flag (nearest-up (now (words .entry)) flag tick)) (now (nearest .entry)) ⌝ }
 {
     put_tick(calendar_questions::nearest_up(words, flag, tick), nearest)
 }

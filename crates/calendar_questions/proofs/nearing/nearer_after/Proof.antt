@@ -1,6 +1,6 @@
 -- `calendar_questions::nearing::nearer_after` meets its contract: a tick as far from t as p, or farther, is not nearer.
 use mathlib.Core.Path.{_≡_, sym, ap₂, _∙_}
-use Prim.Native.Nat.{ℕ, suc, _+_, _-_, _≤_, min}
+use Prim.Native.Nat.{ℕ, suc, _+_, _-_, min}
 use native.Mathlib.Omega.{arith}
 use Rattle.calendar.specs.Search.{earliest}
 use Rattle.calendar.specs.Calendar.{kept, up-at}

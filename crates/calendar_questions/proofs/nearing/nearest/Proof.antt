@@ -1,6 +1,6 @@
 -- `calendar_questions::nearing::nearest` meets its contract: the nearest is the last up to t, or the first after it.
 use mathlib.Core.Path.{_≡_, sym, ap, ap₂, _∙_}
-use Prim.Native.Nat.{ℕ, suc, _+_, _-_}
+use Prim.Native.Nat.{ℕ, suc, _-_}
 use native.Mathlib.Omega.{arith}
 use Rattle.calendar.specs.declared.UpTick.the-variants.{At, None}
 use Rattle.calendar.specs.Search.{earliest, latest, nearer}

@@ -2,8 +2,8 @@
 use mathlib.Core.Path.{_≡_, subst}
 use Prim.Native.Nat.{ℕ, _+_, _-_, _*_, _≤_}
 use native.Mathlib.Omega.{arith}
+use Rattle.calendar.specs.Calendar.{up-at}
 use Rattle.calendar_questions.specs.Parts.{Quiet}
-use Rattle.calendar.specs.Calendar.{kept, up-at}
 use Rattle.calendar_questions.proofs.Searching.{quiet-none, quiet-join}
 use Rattle.calendar_questions.proofs.Runs.{quiet-run}
 use Rattle.calendar_questions.proofs.seeking.skip_runs_back.Statement.{statement}
@@ -16,26 +16,13 @@ abbrev μ-loop : tie.MeasureT-loop
 μ-loop words k first end run₀ run = run
 
 loop-holds : tie.Need-loop-holds Inv-loop μ-loop
-loop-holds c = (omega (arith, c .pre .1), omega arith, quiet-none (up-at (c .args .words .now) (c .args .k)) (64 * c .args .end))
+loop-holds c = (omega (arith, c .before .pre .1), omega arith, quiet-none (up-at (c .before .args .words .now) (c .before .args .k)) (64 * c .before .args .end))
 
-sub-word : tie.Need-sub-word Inv-loop μ-loop
-sub-word c = omega arith
+sub-run-word : tie.Need-sub-run-word Inv-loop μ-loop
+sub-run-word c = omega arith
 
-mul-word : tie.Need-mul-word Inv-loop μ-loop
-unfolding kept
-mul-word c = omega arith
-
-add-word : tie.Need-add-word Inv-loop μ-loop
-unfolding kept
-add-word c = omega arith
-
-mul-word-2 : tie.Need-mul-word-2 Inv-loop μ-loop
-unfolding kept
-mul-word-2 c = omega arith
-
-shared-slice-read-word : tie.Need-shared-slice-read-word Inv-loop μ-loop
-unfolding kept
-shared-slice-read-word c = omega arith
+run-word-requires : tie.Need-run-word-requires Inv-loop μ-loop
+run-word-requires c κs = (c .before .before .before .pre .0, omega arith)
 
 returns : tie.Need-returns Inv-loop μ-loop
 returns c = c .before .before .before .loop .inv
@@ -48,7 +35,7 @@ loop-less c = omega arith
 
 loop-again : tie.Need-loop-again Inv-loop μ-loop
 loop-again c =
-    let start = c .before .before .before .before in
+    let start = c .before .before .before .before .before in
     let ws = start .args .words .now in
     let k = start .args .k in
     let run = c .before .before .before .loop .run in
@@ -56,7 +43,9 @@ loop-again c =
       omega arith,
       omega arith,
       quiet-join (up-at ws k) (64 * (run - 1)) (64 * run) (64 * start .args .end)
-          (subst (λ (x : ℕ). Quiet (up-at ws k) (64 * (run - 1)) (64 * x)) e (quiet-run ws k (run - 1) (c .if1 .left))) (c .before .before .before .loop .inv .2),
+          (subst (λ (x : ℕ). Quiet (up-at ws k) (64 * (run - 1)) (64 * x)) e
+          (quiet-run ws k (run - 1) (c .before .run-word .result) (c .if1 .left) (c .before .run-word .ensures)))
+          (c .before .before .before .loop .inv .2),
     )
 
 returns-2 : tie.Need-returns-2 Inv-loop μ-loop
@@ -69,11 +58,8 @@ skip-runs-back-spec =
     Inv-loop
     μ-loop
     loop-holds
-    sub-word
-    mul-word
-    add-word
-    mul-word-2
-    shared-slice-read-word
+    sub-run-word
+    run-word-requires
     returns
     sub-run
     loop-less

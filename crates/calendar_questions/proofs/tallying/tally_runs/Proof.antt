@@ -1,8 +1,7 @@
 -- `calendar_questions::tallying::tally_runs` meets its contract: the runs passed, and those still to come, make the count.
-use mathlib.Core.Path.{_≡_, sym, ap, ap₂, _∙_}
+use mathlib.Core.Path.{_≡_, sym, ap₂, _∙_}
 use Prim.Native.Nat.{ℕ, _+_, _-_, _*_}
 use native.Mathlib.Omega.{arith}
-use lib.ListN.{getD}
 use Rattle.calendar.specs.Search.{tally}
 use Rattle.calendar.specs.Calendar.{kept, up-at}
 use Rattle.calendar_questions.proofs.Searching.{tally-turn, tally-le, tally-none}
@@ -12,16 +11,18 @@ use Rattle.calendar_questions.proofs.tallying.tally_runs.Statement.{sta
 use Rattle.calendar_questions.proofs.tallying.tally_runs.Tie as tie
 use Rattle.calendar_questions.proofs.tallying.tally_runs.Reads as reads
 use Rattle.calendar_questions.proofs.tallying.tally_runs.Lts as lts
+use Rattle.calendar_questions.proofs.masked.run_word.Reads as run-word-reads
 use Rattle.calendar_questions.proofs.tallying.ones.Reads as ones-reads
 
 abbrev Inv-loop : tie.InvT-loop
-Inv-loop words k first end sum₀ run₀ sum run = sum + tally (up-at words k) (64 * run) (64 * end - 64 * run) ≡ tally (up-at words k) (64 * first) (64 * end - 64 * first)
+Inv-loop words k first end sum₀ run₀ sum run =
+    sum + tally (up-at words k) (64 * run) (64 * end - 64 * run) ≡ tally (up-at words k) (64 * first) (64 * end - 64 * first)
 
 abbrev μ-loop : tie.MeasureT-loop
 μ-loop words k first end sum₀ run₀ sum run = end - run
 
 -- the ticks still to come are those of this run and the rest
-turned : (c : lts.After-ones (ones-reads.Asked, ones-reads.Learnt) reads.Pre reads.Post Inv-loop μ-loop)
+turned : (c : lts.After-ones (run-word-reads.Asked, run-word-reads.Learnt, ones-reads.Asked, ones-reads.Learnt) reads.Pre reads.Post Inv-loop μ-loop)
     → let start = c .before .before .before .before .before in
     let f = up-at (start .args .words .now) (start .args .k) in
     let run = c .before .before .before .loop .run in
@@ -32,29 +33,15 @@ turned c =
     let k = start .args .k in
     let f = up-at ws k in
     let run = c .before .before .before .loop .run in
-    let w = getD ws (8 * run + k) 0 in
-    let e : 64 * run + 64 ≡ 64 * (run + 1) = omega arith in
-    tally-turn f (64 * run) 64 w (whole-shown ws k run (c .before .shared-slice-known2 .given (8 * run + k) .fits)) (64 * start .args .end) (omega arith)
-    ∙ ap₂ (λ (x y : ℕ). x + tally f y (64 * start .args .end - y)) (sym (c .ones .ensures)) e
+    let word = c .before .run-word .result in
+    tally-turn f (64 * run) 64 word (whole-shown ws k run word (search needs) (c .before .run-word .ensures)) (64 * start .args .end) (omega arith)
+    ∙ ap₂ (λ (x y : ℕ). x + tally f y (64 * start .args .end - y)) (sym (c .ones .ensures)) (omega arith)
 
 loop-holds : tie.Need-loop-holds Inv-loop μ-loop
 loop-holds c = omega arith
 
-mul-ones : tie.Need-mul-ones Inv-loop μ-loop
-unfolding kept
-mul-ones c = omega arith
-
-add-ones : tie.Need-add-ones Inv-loop μ-loop
-unfolding kept
-add-ones c = omega arith
-
-mul-ones-2 : tie.Need-mul-ones-2 Inv-loop μ-loop
-unfolding kept
-mul-ones-2 c = omega arith
-
-shared-slice-read-ones : tie.Need-shared-slice-read-ones Inv-loop μ-loop
-unfolding kept
-shared-slice-read-ones c = omega arith
+run-word-requires : tie.Need-run-word-requires Inv-loop μ-loop
+run-word-requires c κs = (c .before .before .before .pre .0, omega arith)
 
 ones-requires : tie.Need-ones-requires Inv-loop μ-loop
 ones-requires c κs = search needs
@@ -87,10 +74,7 @@ tally-runs-spec =
     Inv-loop
     μ-loop
     loop-holds
-    mul-ones
-    add-ones
-    mul-ones-2
-    shared-slice-read-ones
+    run-word-requires
     ones-requires
     add-sum
     add-run
