@@ -1,4 +1,13 @@
-//! `draw FLAGS ..`.
+//! `draw FLAGS ..`. The library counts: how many ticks of a column are up, or break a rule, are
+//! questions to a calendar, of the flags or of the violations. What is decided here is where
+//! it is put:
+//!
+//! - A column has as few ticks as there is room for, always a round number, and begins at a
+//!   multiple of it: the next stretch has the same columns.
+//! - A violation is drawn at its tick. Those of ticks outside the stretch are not drawn, also
+//!   where their step is inside.
+//! - Violations are drawn one by one, each joined to its step, as long as they can be told
+//!   apart; then they are counted.
 
 mod picture;
 mod scale;
