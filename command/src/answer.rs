@@ -34,6 +34,8 @@ pub enum Failure {
     Read(String, io::Error),
     /// A file, by name, cannot be written.
     Write(String, io::Error),
+    /// Of a file, by name, nothing can be drawn, and why.
+    Draw(String, String),
 }
 
 /// Why a command stopped early.
@@ -78,6 +80,7 @@ fn complain(failure: &Failure) {
         Failure::Usage(said, usage) => format!("{said}\n{}", usage.trim_end()),
         Failure::Read(name, error) => format!("cannot read {name}: {error}"),
         Failure::Write(name, error) => format!("cannot write {name}: {error}"),
+        Failure::Draw(name, why) => format!("cannot draw {name}: {why}"),
     };
     remark(&text);
 }

@@ -58,7 +58,8 @@ fn is_input(path: &Path) -> bool {
     path == Path::new("-")
 }
 
-fn input_name(path: &Path) -> String {
+/// What a file that is read is called.
+pub fn input_name(path: &Path) -> String {
     if is_input(path) {
         return INPUT.to_string();
     }
@@ -110,6 +111,31 @@ pub fn read_some(mut input: impl Read, buffer: &mut [u8]) -> Result<&[u8], Failu
 
 fn no_input(error: io::Error) -> Failure {
     Failure::Read(INPUT.to_string(), error)
+}
+
+/// A file of any size, whose bytes are taken in pieces; - is standard input.
+pub struct Pieces {
+    file: File,
+    name: String,
+}
+
+impl Pieces {
+    pub fn open(path: &Path) -> Result<Pieces, Failure> {
+        let name = input_name(path);
+        let opened = if is_input(path) { own(io::stdin()) } else { File::open(path) };
+        match opened {
+            Ok(file) => Ok(Pieces { file, name }),
+            Err(error) => Err(Failure::Read(name, error)),
+        }
+    }
+
+    /// The next bytes, at the front of the buffer; none where they have ended.
+    pub fn read<'b>(&mut self, buffer: &'b mut [u8]) -> Result<&'b [u8], Failure> {
+        match again(|| self.file.read(buffer)) {
+            Ok(count) => Ok(&buffer[..count]),
+            Err(error) => Err(Failure::Read(self.name.clone(), error)),
+        }
+    }
 }
 
 /// Standard input or output as a file: with no buffer in between, and no error passed

@@ -1,15 +1,18 @@
 //! The command `station-watch`: what a C programmer calls, a person can type. It has no
-//! logic of its own, but for `column` and for the rule that `watch` names where a sheet is
-//! refused: it reads arguments and files, asks the library, and writes what that answers.
-//! `usage` says what it takes, prints, and ends with.
+//! logic of its own, but for `column`, for the rule that `watch` names where a sheet is
+//! refused, and for where `draw` puts what it shows: it reads arguments and files, asks the
+//! library, and writes what that answers. `usage` says what it takes, prints, and ends with.
 
 mod answer;
 mod arguments;
+mod calendar;
 mod column;
+mod draw;
 mod figures;
 mod files;
 mod hexadecimal;
 mod outcome;
+mod recorded;
 mod rules;
 mod sheet;
 mod usage;
@@ -29,7 +32,9 @@ fn main() -> ExitCode {
 
 fn run(command: Command) -> Result<Answer, Stop> {
     match command {
+        Command::Calendar { flags, question } => calendar::ask(&flags, question),
         Command::Compile { rules, out } => rules::compile(&rules, &out),
+        Command::Draw(drawing) => draw::draw(&drawing),
         Command::Figures { sheet } => figures::of_sheet(&sheet),
         Command::Outcome { sheet, rule, flags, tick } => {
             outcome::at_tick(&sheet, rule, &flags, tick)

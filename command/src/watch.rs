@@ -12,13 +12,18 @@ const CHUNK: usize = 4_096;
 /// Runs all rules of a sheet over standard input: writes a line for each rule and for each
 /// violation, as it comes, and gives the line of the end.
 pub fn all_rules(sheet: &Path) -> Result<Answer, Stop> {
-    let bytes = files::read_sheet(sheet)?;
-    let mut set =
-        WatchSet::open(&bytes).inspect_err(|refusal| name_rule(sheet, &bytes, *refusal))?;
+    let mut set = open(sheet)?;
     files::write_lines(figures_lines(&set).as_bytes())?;
     let violations = follow(&mut set, files::open_input()?, files::write_lines)?;
     let (steps, live) = (set.next_tick(), set.live());
     Ok(Answer::given(format!("end {steps} steps {violations} violations {live} live\n")))
+}
+
+/// All rules of a sheet, opened. Where they are refused, standard error names the rule.
+pub fn open(sheet: &Path) -> Result<WatchSet, Stop> {
+    let bytes = files::read_sheet(sheet)?;
+    let set = WatchSet::open(&bytes).inspect_err(|refusal| name_rule(sheet, &bytes, *refusal))?;
+    Ok(set)
 }
 
 fn figures_lines(set: &WatchSet) -> String {

@@ -381,7 +381,9 @@ fn usage() {
     assert_eq!((nothing.as_str(), status), ("", 0));
     assert!(all.starts_with("usage: station-watch COMMAND ARGUMENT..\n"));
     let commands = [
+        "calendar FLAGS ..",
         "compile RULES SHEET",
+        "draw FLAGS ..",
         "figures SHEET",
         "outcome SHEET RULE FLAGS TICK",
         "print SHEET",
@@ -392,7 +394,10 @@ fn usage() {
         assert!(all.contains(&format!("\n  {command} ")), "{command}");
         let name = command.split(' ').next().unwrap();
         let (own, nothing, status) = ask(&["help", name]);
-        assert!(own.starts_with(&format!("usage: station-watch {command}\n\n")), "{own}");
+        let line = own.split("\n\n").next().unwrap();
+        let due = format!("usage: station-watch {}", command.trim_end_matches(" .."));
+        let more = command.ends_with(" ..") && line.starts_with(&format!("{due} ["));
+        assert!(line == due || more, "{own}");
         assert_eq!((nothing.as_str(), status), ("", 0));
         assert_eq!(ask(&[name, "--help"]), out(&own, 0));
         assert_eq!(ask(&[name, "-h"]), out(&own, 0));
