@@ -13,7 +13,7 @@ fn masked(word: u64, bit: u64, count: u64) -> u64
 }
 
 // The word of flag k for a run of kept ticks.
-pub fn run_word(words: &[u64], k: usize, run: u64) -> u64
+pub(crate) fn run_word(words: &[u64], k: usize, run: u64) -> u64
     requires { ⌜ (k < 8) × (64 * run < kept (now words)) ⌝ }
     ensures { λ r. ⌜ r ≡ run-word (now (words .entry)) k (64 * run) ⌝ }
 {
