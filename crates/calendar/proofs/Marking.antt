@@ -72,14 +72,14 @@ power-other i j ne = go (ltb j i) refl
         let l : i < j = lt-of-le-ne (ltb-false j i e) (λ s. ne (sym s)) in
         ap (λ (x : ℕ). x % 2) (div-eq-of-lt (pow-lt l))
 
-pub with-bit-here : (i w : ℕ) → up i (with-bit i w) ≡ true
+with-bit-here : (i w : ℕ) → up i (with-bit i w) ≡ true
 unfolding up
 with-bit-here i w =
     ap (λ (x : ℕ). eqb (x / 2 ^ i % 2) 1) (sym (or-bit w i)) ∙ ap (λ (x : ℕ). eqb x 1) (or-digit w (2 ^ i) i)
     ∙ ap (λ (x : ℕ). eqb (max (w / 2 ^ i % 2) x) 1) (power-here i)
     ∙ ap (λ (x : ℕ). eqb x 1) (let m : max (w / 2 ^ i % 2) 1 ≡ 1 = omega (arith, mod-lt (w / 2 ^ i) two-pos) in m)
 
-pub with-bit-other : (i w j : ℕ) → (j ≡ i → ⊥) → up j (with-bit i w) ≡ up j w
+with-bit-other : (i w j : ℕ) → (j ≡ i → ⊥) → up j (with-bit i w) ≡ up j w
 unfolding up
 with-bit-other i w j ne =
     ap (λ (x : ℕ). eqb (x / 2 ^ j % 2) 1) (sym (or-bit w i)) ∙ ap (λ (x : ℕ). eqb x 1) (or-digit w (2 ^ i) j)

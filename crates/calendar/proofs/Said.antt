@@ -1,16 +1,17 @@
 -- What the recursions of `Search` say, in terms of each tick: the first and the last that is up, the nearest, "the earlier of two equally near", and
 -- none exactly where no tick is up.
-use mathlib.Core.Path.{_≡_, refl, sym, ap, _∙_, subst}
-use mathlib.Core.Bool.{Bool, true, false, cond, false≢true}
+use mathlib.Core.Path.{_≡_, refl, sym, ap, ap₂, _∙_, subst}
+use mathlib.Core.Bool.{Bool, true, false, cond, _&&_, false≢true}
 use mathlib.Core.List.{List}
-use Prim.Native.Nat.{ℕ, zero, suc, _+_, _≤_, _<_}
-use native.Mathlib.Nat.{le-trans, le-refl, lt-of-lt-of-le, le-of-lt}
+use Prim.Native.Nat.{ℕ, zero, suc, _+_, _-_, _≤_, _<_, min}
+use native.Mathlib.Nat.{add-zero, zero-add, le-trans, le-refl, lt-of-lt-of-le, le-of-lt}
 use native.Mathlib.Omega.{arith}
-use lib.Dec.{ltb}
-use borrow.Author.Tests.{ltb-true, ltb-false}
-use Rattle.calendar.specs.Search.{earliest, latest, apart, nearer, nearest}
-use Rattle.calendar.specs.Said.{First, Last, Near, InRange, FirstUp, LastUp, NearestUp}
-use Rattle.calendar.specs.Calendar.{kept, up-at, span, first-up, last-up, nearest-up}
+use lib.Dec.{leb, ltb}
+use borrow.Author.Tests.{ltb-true, ltb-false, leb-true, leb-false, le-leb, lt-leb}
+use Rattle.calendar.specs.Search.{tally, earliest, latest, apart, nearer, nearest}
+use Rattle.calendar.specs.Said.{First, Last, Near, InRange, between, UpsIn, FirstUp, LastUp, NearestUp}
+use Rattle.calendar.proofs.Counting.{tally-parts, tally-same, tally-quiet}
+use Rattle.calendar.specs.Calendar.{kept, up-at, span, ups, first-up, last-up, nearest-up}
 use Rattle.calendar.specs.declared.UpTick.{UpTick}
 use Rattle.calendar.specs.declared.UpTick.the-variants.{At, None}
 
@@ -62,7 +63,7 @@ last-or n q A l here before = go (ltb q n) refl
     go true t = before (ltb-true q n t)
     go false t = here (let s : q ≡ n = omega (arith, ltb-false q n t) in s)
 
-pub nearest-said : (f : ℕ → Bool) (t n : ℕ) → Near f t n (nearest f t n)
+nearest-said : (f : ℕ → Bool) (t n : ℕ) → Near f t n (nearest f t n)
 unfolding nearest nearer Near
 nearest-said f t zero = λ q l. absurd (omega arith)
 nearest-said f t (suc n) = go (f n) refl (nearest f t n) (nearest-said f t n)
@@ -109,6 +110,54 @@ module _ (words : List ℕ) (k first last : ℕ) where
   outside : (q : ℕ) → first ≤ q → q < first + span (kept words) first last → InRange words first last q
   unfolding span
   outside q low high = (low, omega arith, omega arith)
+
+  abbrev counted : ℕ → Bool
+  counted q = between first last q && up-at words k q
+
+  -- Ticks before the range, after it, and in it.
+  before-range : (q : ℕ) → q < first → counted q ≡ false
+  before-range q l = ap (λ (b : Bool). (b && leb q last) && up-at words k q) (lt-leb first q l)
+
+  after-range : (q : ℕ) → last < q → counted q ≡ false
+  after-range q l = go (leb first q) (lt-leb q last l)
+    where
+      go : (b : Bool) → leb q last ≡ false → (b && leb q last) && up-at words k q ≡ false
+      go true e = ap (λ (c : Bool). c && up-at words k q) e
+      go false e = refl
+
+  in-range : (q : ℕ) → first ≤ q → q ≤ last → counted q ≡ up-at words k q
+  in-range q low high =
+      ap (λ (b : Bool). (b && leb q last) && up-at words k q) (le-leb first q low) ∙ ap (λ (b : Bool). b && up-at words k q) (le-leb q last high)
+
+  past-range : (q : ℕ) → q < kept words → min (suc last) (kept words) < first → counted q ≡ false
+  past-range q m high = go (ltb q first) refl
+    where
+      go : (b : Bool) → ltb q first ≡ b → counted q ≡ false
+      go true i = before-range q (ltb-true q first i)
+      go false i = after-range q (omega (arith, ltb-false q first i))
+
+  pub ups-said : UpsIn words k first last (ups words k first last)
+  unfolding ups span
+  ups-said = go (leb first (min (suc last) (kept words))) refl
+    where
+      go : (b : Bool) → leb first (min (suc last) (kept words)) ≡ b → tally (up-at words k) first (min (suc last) (kept words) - first) ≡ tally counted 0 (kept words)
+      go true e =
+          let low : first ≤ min (suc last) (kept words) = leb-true first (min (suc last) (kept words)) e in
+          let size = min (suc last) (kept words) - first in
+          let rest = kept words - min (suc last) (kept words) in
+          sym (ap (tally counted 0) (let w : kept words ≡ first + (size + rest) = omega arith in w)
+          ∙ tally-parts counted 0 first (size + rest)
+          ∙ ap₂ (λ (x y : ℕ). x + tally counted y (size + rest)) (tally-quiet counted 0 first (λ q l m. before-range q (omega arith))) (zero-add first)
+          ∙ zero-add (tally counted first (size + rest))
+          ∙ tally-parts counted first size rest
+          ∙ ap₂ (λ (x y : ℕ). x + y) (tally-same counted (up-at words k) first size (λ q l m. in-range q l (omega arith)))
+          (tally-quiet counted (first + size) rest (λ q l m. after-range q (omega arith)))
+          ∙ add-zero (tally (up-at words k) first size))
+      go false e =
+          let high : min (suc last) (kept words) < first = leb-false first (min (suc last) (kept words)) e in
+          ap (tally (up-at words k) first) (let z : min (suc last) (kept words) - first ≡ 0 = omega arith in z)
+          ∙ tally-quiet (up-at words k) first 0 (λ q l m. absurd (omega arith))
+          ∙ sym (tally-quiet counted 0 (kept words) (λ q l m. past-range q (omega arith) high))
 
   pub first-up-said : FirstUp words k first last (first-up words k first last)
   unfolding first-up First

@@ -51,7 +51,7 @@ rest-cleared ws =
 pub up-zero : (k : ℕ) → up k 0 ≡ false
 up-zero k = up-above 0 k (pow-pos k)
 
-pub up-cleared : (ws : List ℕ) (k q : ℕ) → k < 8 → q < kept ws → up-at (cleared ws) k q ≡ false
+up-cleared : (ws : List ℕ) (k q : ℕ) → k < 8 → q < kept ws → up-at (cleared ws) k q ≡ false
 unfolding up-at cleared kept
 up-cleared ws k q l h =
     ap (up (q % 64))
@@ -61,7 +61,7 @@ up-cleared ws k q l h =
 
 -- ---- one tick
 
-pub length-marked : (ws : List ℕ) (t b : ℕ) → length (marked ws t b) ≡ length ws
+length-marked : (ws : List ℕ) (t b : ℕ) → length (marked ws t b) ≡ length ws
 unfolding marked
 length-marked ws t b = go (ltb t (kept ws))
   where
@@ -81,7 +81,7 @@ unfolding marked
 marked-past ws t b h = ap (λ (x : Bool). cond x (each (marked-word t b) 0 ws) ws) (le-ltb t (kept ws) h)
 
 -- a last group under eight keeps its content
-pub rest-marked : (ws : List ℕ) (t b : ℕ) → drop (8 * (length ws / 8)) (marked ws t b) ≡ drop (8 * (length ws / 8)) ws
+rest-marked : (ws : List ℕ) (t b : ℕ) → drop (8 * (length ws / 8)) (marked ws t b) ≡ drop (8 * (length ws / 8)) ws
 unfolding marked kept
 rest-marked ws t b = go (ltb t (64 * (length ws / 8))) refl
   where
@@ -163,14 +163,14 @@ kept-still : (ws : List ℕ) (t b q : ℕ) → q < kept ws → q < kept (marked 
 kept-still ws t b q h = subst (λ (n : ℕ). q < n) (sym (kept-marked ws t b)) h
 
 -- ticks before t stay as they are
-pub filled-before : (ws : List ℕ) (t : ℕ) (bs : List ℕ) (k q : ℕ) → k < 8 → q < kept ws → q < t → up-at (filled ws t bs) k q ≡ up-at ws k q
+filled-before : (ws : List ℕ) (t : ℕ) (bs : List ℕ) (k q : ℕ) → k < 8 → q < kept ws → q < t → up-at (filled ws t bs) k q ≡ up-at ws k q
 unfolding filled
 filled-before ws t [] k q l h i = refl
 filled-before ws t (b ∷ bs) k q l h i =
     filled-before (marked ws t b) (suc t) bs k q l (kept-still ws t b q h) (omega arith) ∙ marked-other ws t b k l q h (λ e. omega arith)
 
 -- ticks from t on are up as their bytes say, where none was up before
-pub filled-from : (bs : List ℕ) (ws : List ℕ) (t k : ℕ) → k < 8 → ((q : ℕ) → q < kept ws → t ≤ q → up-at ws k q ≡ false)
+filled-from : (bs : List ℕ) (ws : List ℕ) (t k : ℕ) → k < 8 → ((q : ℕ) → q < kept ws → t ≤ q → up-at ws k q ≡ false)
     → (q : ℕ) → q < kept ws → t ≤ q → up-at (filled ws t bs) k q ≡ up k (getD bs (q - t) 0)
 unfolding filled
 filled-from [] ws t k l z q h i = z q h i ∙ sym (up-zero k)

@@ -6,6 +6,7 @@ use mathlib.Core.List.{List, [], _∷_}
 use lib.Dec.{ltb, eqb}
 use lib.ListN.{length, getD}
 use Rattle.rule.specs.Meaning.{up}
+use Rattle.rule.specs.Recording.{recorded}
 use Rattle.calendar.specs.declared.UpTick.{UpTick}
 use Rattle.calendar.specs.Search.{tally, earliest, latest, nearest}
 
@@ -22,6 +23,10 @@ run-word words k q = getD words (8 * (q / 64) + k) 0
 -- Whether flag k was up at tick q.
 unfoldable pub up-at : List ℕ → ℕ → ℕ → Bool
 up-at words k q = up (q % 64) (run-word words k q)
+
+-- Whether flag k is up at tick q of a stream; at ticks that it does not have, it is not.
+abbrev pub flag-up : List ℕ → ℕ → ℕ → Bool
+flag-up bytes k q = up k (recorded bytes q)
 
 -- ---- questions
 

@@ -13,6 +13,7 @@ use Rattle.rule.specs.Meaning.{up}
 use Rattle.calendar.specs.Search.{one-if, tally, earliest, latest}
 use Rattle.calendar.specs.declared.UpTick.the-variants.{At}
 use Rattle.calendar.proofs.Marking.{up-above}
+use Rattle.calendar.proofs.Counting.{tally-parts}
 use Rattle.calendar.proofs.Stream.{up-zero}
 use Rattle.calendar_questions.specs.Parts.{Shown, Quiet}
 use Rattle.calendar_questions.proofs.Digits.{up-half, lowest, half-lt, trailing-up, trailing-below, leading-up}
@@ -41,14 +42,6 @@ tally-le f a (suc n) = go (f a) (tally-le f (suc a) n)
     go : (b : Bool) → tally f (suc a) n ≤ n → one-if b + tally f (suc a) n ≤ suc n
     go true h = omega arith
     go false h = omega arith
-
-tally-parts : (f : ℕ → Bool) (a m n : ℕ) → tally f a (m + n) ≡ tally f a m + tally f (a + m) n
-unfolding tally
-tally-parts f a zero n = ap (tally f a) (zero-add n) ∙ ap (λ (x : ℕ). tally f x n) (sym (add-zero a)) ∙ sym (zero-add (tally f (a + 0) n))
-tally-parts f a (suc m) n =
-    ap (tally f a) (suc-add m n)
-    ∙ ap (λ (x : ℕ). one-if (f a) + x) (tally-parts f (suc a) m n) ∙ sym (add-assoc (one-if (f a)) (tally f (suc a) m) (tally f (suc a + m) n))
-    ∙ ap (λ (x : ℕ). one-if (f a) + tally f (suc a) m + tally f x n) (omega arith)
 
 -- of the ticks from a to before e, those before b and those from b on
 tally-split : (f : ℕ → Bool) (a b e : ℕ) → a ≤ b → b ≤ e → tally f a (e - a) ≡ tally f a (b - a) + tally f b (e - b)

@@ -7,7 +7,7 @@ mod tallying;
 
 pub use questions::CountAnswer;
 pub use questions::TickAnswer;
-pub use questions::count;
 pub use questions::first_up;
 pub use questions::last_up;
 pub use questions::nearest_up;
+pub use questions::ups;

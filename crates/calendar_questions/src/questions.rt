@@ -32,7 +32,7 @@ fn end_after(words: &[u64], last: u64) -> u64
 }
 
 // The number of ups of a flag from tick `first` to tick `last`.
-pub fn count(words: &[u64], flag: u8, first: u64, last: u64) -> CountAnswer
+pub fn ups(words: &[u64], flag: u8, first: u64, last: u64) -> CountAnswer
     ensures { λ r. ⌜ count-answer r ≡ of-flag flag (ups (now (words .entry)) flag first last) ⌝ }
 {
     if 7 < flag {

@@ -18,6 +18,7 @@ use Rattle.engine.proofs.Demand3 as values
 use Rattle.exports_watch.proofs.Demand3 as bytes
 use Rattle.exports_sets.proofs.Demand3 as sets
 use Rattle.exports_calendar.proofs.Demand3 as calendars
+use Rattle.exports_calendar.proofs.Told as told
 use Rattle.calendar.proofs.Said as said
 use Rattle.demand.proofs.SetAlone as alone
 use Rattle.cell_runs.specs.Moves.{Stands}
@@ -47,9 +48,11 @@ claimed =
       in-time = delay-law;
       none-later = locality;
       none-older = rule-window;
+      ups-are = said.ups-said;
       first-up-is = said.first-up-said;
       last-up-is = said.last-up-said;
       nearest-up-is = said.nearest-up-said;
+      none-told = told.none-told;
       sheet-back = sheets.round-trip;
       sheet-front = sheets.buffer-front;
       sheet-rest = sheets.buffer-rest;

@@ -34,12 +34,13 @@ use Rattle.demand.specs.Contract.{fresh-state}
 use Rattle.demand.specs.Demand.{Demanded}
 use Rattle.demand.specs.SetDemand.{SetDemanded, AsAlone}
 use Rattle.demand.specs.CalendarDemand.{with-calendar, CalendarKept}
-use Rattle.calendar.specs.Calendar.{first-up, last-up, nearest-up}
-use Rattle.calendar.specs.Said.{FirstUp, LastUp, NearestUp}
+use Rattle.calendar.specs.Calendar.{kept, ups, first-up, last-up, nearest-up}
+use Rattle.calendar.specs.Said.{UpsIn, FirstUp, LastUp, NearestUp}
 use Rattle.cell_runs.specs.Moves.{Stands}
 use Rattle.engine.specs.declared.state.State as code
 use Rattle.engine.specs.States.{state-of, fresh-code, moved-code, by-value}
 use Rattle.state_bytes.specs.Numbers.{number-at}
+use Rattle.exports_calendar.specs.Ticks.{NoneTold}
 use Rattle.state_bytes.specs.States.{loaded, stored, Storable, moved-bytes, in-bytes}
 
 pub record Claims : Type 0 where
@@ -88,12 +89,14 @@ pub record Claims : Type 0 where
       → (env : List ℕ) → ((variable : ℕ) → getD env variable 0 ≤ t) → (s : ℕ) → outcome F flags t env s ≡ outcome F others t env s
   pub none-older : (F : Formula) (figure : ℕ) → Scoped 1 F → history F (at-tick ∷ []) (Finite 0) ≡ Finite figure → (t p : ℕ) → p ≤ t
       → (flags others : ℕ → ℕ) → ((tick : ℕ) → p ≤ tick + figure → tick ≤ t → flags tick ≡ others tick) → rule F flags t p ≡ rule F others t p
-  -- ---- questions to a flag calendar, said of each tick: in a range cut at the last kept tick the first and the last at which the flag is up, of all kept ticks the
-  -- nearest, the earlier of two equally near; none exactly where no such tick is up
+  -- ---- questions to a flag calendar, said of each tick: in a range cut at the last kept tick the number of ups, the first and the last; of all kept ticks the nearest up, the
+  -- earlier of two equally near; none exactly where no such tick is up, also as C hears it
 
+  pub ups-are : (words : List ℕ) (k first last : ℕ) → UpsIn words k first last (ups words k first last)
   pub first-up-is : (words : List ℕ) (k first last : ℕ) → FirstUp words k first last (first-up words k first last)
   pub last-up-is : (words : List ℕ) (k first last : ℕ) → LastUp words k first last (last-up words k first last)
   pub nearest-up-is : (words : List ℕ) (k t : ℕ) → NearestUp words k t (nearest-up words k t)
+  pub none-told : (words : List ℕ) → kept words ≤ 18446744073709551615 → NoneTold words
   -- ---- sheets and bodies
 
   -- A written sheet reads back as the same bodies, and no other.

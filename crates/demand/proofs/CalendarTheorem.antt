@@ -12,11 +12,10 @@ use Rattle.refusal.specs.Answer.{Answer, refused, accepted, or-kept}
 use Rattle.refusal.proofs.Answers.{not-accepted}
 use Rattle.sheet.specs.Sheet.{rule-body, body-part}
 use Rattle.rule.specs.Meaning.{up}
-use Rattle.rule.specs.Recording.{recorded}
 use Rattle.calendar.specs.Calendar.{kept, up-at, cleared, filled}
-use Rattle.calendar.proofs.Stream.{agrees, kept-filled, kept-cleared, filled-append, length-filled, length-cleared, rest-filled, rest-cleared, up-zero}
+use Rattle.calendar.proofs.Stream.{agrees, filled-append, length-filled, length-cleared, rest-filled, rest-cleared, up-zero}
 use Rattle.calendar.proofs.Agreement.{ups-agrees, first-agrees, last-agrees, nearest-agrees}
-use Rattle.demand.specs.Contract.{State, Opening, Taken, Step, Counts, Batch, state-after, state-after-batch, Invariant, Opened, Stepped, Chain, none, more, Batched, Carrier, OpenPromise, StepPromise, OpenedHolds}
+use Rattle.demand.specs.Contract.{State, Taken, Step, Counts, Batch, state-after, state-after-batch, Invariant, Opened, Stepped, Chain, none, more, Batched, Carrier, StepPromise, OpenedHolds}
 use Rattle.demand.specs.Demand.{Call, step, ticks-after, ticks-after-batch, added, stream, with-steps, with-batch, Run, done, stepped, with-other-history, batched, batch-with-other-history, wrote}
 use Rattle.demand.specs.CalendarDemand.{with-calendar, Throughout, Agrees, CalendarKept}
 

@@ -2,14 +2,12 @@
 -- and batch promise is as without a calendar (Contract.antt), of a state that is carried with the words beside it.
 use Prim.Native.Nat.{ℕ, _*_, _/_, _≤_, _<_}
 use mathlib.Core.Path.{_≡_}
-use mathlib.Core.Bool.{Bool, false}
+use mathlib.Core.Bool.{false}
 use mathlib.Core.List.{List}
 use lib.ListN.{length, take, drop}
 use Rattle.refusal.specs.Answer.{accepted}
-use Rattle.rule.specs.Meaning.{up}
-use Rattle.rule.specs.Recording.{recorded}
 use Rattle.calendar.specs.Search.{tally, earliest, latest, nearest}
-use Rattle.calendar.specs.Calendar.{kept, up-at, span, ups, first-up, last-up, nearest-up, cleared, filled}
+use Rattle.calendar.specs.Calendar.{kept, up-at, flag-up, span, ups, first-up, last-up, nearest-up, cleared, filled}
 use Rattle.demand.specs.Contract.{State, Opening, Invariant, Carrier, OpenPromise}
 use Rattle.demand.specs.Demand.{Call, stream, Run, done, stepped, with-other-history, batched, batch-with-other-history, wrote}
 
@@ -33,10 +31,6 @@ Throughout P (with-other-history {carried = carried} {t = t} count other lent pr
 Throughout P (batched {carried = carried} {t = t} count own lent promise run) = P carried t × Throughout P run
 Throughout P (batch-with-other-history {carried = carried} {t = t} number answered promise run) = P carried t × Throughout P run
 Throughout P (wrote {carried = carried} {t = t} as-long same run) = P carried t × Throughout P run
-
--- Whether flag k is up at tick q of a stream; at ticks that it does not have, it is not.
-abbrev pub flag-up : List ℕ → ℕ → ℕ → Bool
-flag-up bytes k q = up k (recorded bytes q)
 
 -- The words after t ticks of the stream, where `lent` are those that the opening was given. Each kept tick that was taken has its flags, and all others are 0; a last
 -- group under eight is as it was lent; and what the four questions answer is so of the ticks taken.

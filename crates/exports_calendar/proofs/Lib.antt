@@ -1,2 +1,3 @@
 pub mod Kept
 pub mod Demand3
+pub mod Told

@@ -46,7 +46,7 @@ pub extern "C" fn sw_calendar_ups(
     ensures { λ r. ⌜ r ≡ number (of-flag flag (ups (now (words .entry)) flag first last)) ⌝ }
     ensures { λ _. ⌜ now (count .exit) ≡ or-kept (λ found. found) (of-flag flag (ups (now (words .entry)) flag first last)) (now (count .entry)) ⌝ }
 {
-    let answer = calendar_questions::count(words, flag, first, last);
+    let answer = calendar_questions::ups(words, flag, first, last);
     match answer {
         CountAnswer::Refused(refusal) => refusal::number(refusal),
         CountAnswer::Counted(found) => {

@@ -8,8 +8,8 @@ use borrow.Author.Needs.{needs}
 use Rattle.exports_calendar.proofs.questions.sw_calendar_ups.Statement.{statement}
 use Rattle.exports_calendar.proofs.questions.sw_calendar_ups.Tie as tie
 
-count-requires : tie.Need-count-requires
-count-requires c κs = search needs
+ups-requires : tie.Need-ups-requires
+ups-requires c κs = search needs
 
 enum-known-answer : tie.Need-enum-known-answer
 enum-known-answer c = search needs
@@ -23,20 +23,20 @@ enum-known-answer-2 c = search needs
 returns : tie.Need-returns
 returns c =
     let lent = c .before .before .before .before .before .before .args in
-    let told = sym (c .before .before .before .before .count .ensures) ∙ ap count-answer (c .before .before .answer .given .1) in
+    let told = sym (c .before .before .before .before .ups .ensures) ∙ ap count-answer (c .before .before .answer .given .1) in
     (c .number .ensures ∙ sym (ap number told), sym (ap (λ (answer : Answer ℕ). or-kept (λ found. found) answer (now (lent .count))) told))
 
 returns-2 : tie.Need-returns-2
 returns-2 c =
     let lent = c .before .before .before .before .before .args in
-    let told = sym (c .before .before .before .count .ensures) ∙ ap count-answer (c .before .answer2 .given .1) in
+    let told = sym (c .before .before .before .ups .ensures) ∙ ap count-answer (c .before .answer2 .given .1) in
     (sym (ap number told), sym (ap (λ (answer : Answer ℕ). or-kept (λ found. found) answer (now (lent .count))) told))
 
 pub sw-calendar-ups-spec : {M : Type 1} → statement M
 sw-calendar-ups-spec =
     tie.close
     (tie.spec
-    count-requires
+    ups-requires
     enum-known-answer
     number-requires
     enum-known-answer-2

@@ -1,4 +1,4 @@
--- `calendar_questions::questions::count` meets its contract.
+-- `calendar_questions::questions::ups` meets its contract.
 use mathlib.Core.Path.{ap, _∙_}
 use Prim.Native.Nat.{ℕ, _-_}
 use Rattle.refusal.specs.Answer.{accepted}
@@ -6,8 +6,8 @@ use Rattle.calendar.specs.Search.{tally}
 use Rattle.calendar.specs.Calendar.{up-at, ups, span}
 use Rattle.calendar_questions.proofs.Flags.{no-flag, a-flag}
 use borrow.Author.Needs.{needs}
-use Rattle.calendar_questions.proofs.questions.count.Statement.{statement}
-use Rattle.calendar_questions.proofs.questions.count.Tie as tie
+use Rattle.calendar_questions.proofs.questions.ups.Statement.{statement}
+use Rattle.calendar_questions.proofs.questions.ups.Tie as tie
 
 returns : tie.Need-returns
 returns c = no-flag _ _ (c .if1 .taken)
@@ -26,5 +26,5 @@ returns-2 c =
     ap accepted (c .tally .ensures ∙ ap (λ (s : ℕ). tally f (start .args .first) (s - start .args .first)) (c .before .end-after .ensures))
     ∙ a-flag _ _ (search needs)
 
-pub count-spec : {M : Type 1} → statement M
-count-spec = tie.close (tie.spec returns end-after-requires tally-requires returns-2)
+pub ups-spec : {M : Type 1} → statement M
+ups-spec = tie.close (tie.spec returns end-after-requires tally-requires returns-2)
