@@ -46,8 +46,9 @@
  * 10 ns each, and never with the recording. A step of a set takes 1.2 to 1.8 times what single
  * steps of its rules take, and a batch of a set about what these take, so to replay a long
  * recording sw_steps rule by rule is faster. A question to a calendar looks at one word for
- * each 64 ticks of its range, and no further than to the tick that it finds; sw_calendar_nearest
- * looks both ways. sw_outcome takes about 15 ns for each position of a range; k nested ranges
+ * each 64 ticks of its range, at most once, and no further than to the tick that it finds;
+ * sw_calendar_nearest first looks back to the last up, however far, then forward only as far as
+ * would be nearer. sw_outcome takes about 15 ns for each position of a range; k nested ranges
  * up to infinity whose variables are all named take n^k for n ticks, which for k of 3 or 4 and
  * long recordings nobody can wait for. */
 #ifndef STATION_WATCH_H
@@ -286,7 +287,8 @@ typedef struct {
  *
  * A calendar agrees with the stream where each step since the opening was lent all of its
  * words, as the last one left them: at each kept tick before the next one exactly those
- * flags are up that were up in its flag byte, and from the next tick on none is. A step on a
+ * flags are up that were up in its flag byte, and from the next tick on none is. Where a step
+ * was taken without the words, its tick is not marked; sw_calendar_fill can do so. A step on a
  * state that was not left by an opening and its steps, where that is not noticed, may mark
  * another kept tick. */
 
