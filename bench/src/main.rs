@@ -20,7 +20,6 @@ mod plain;
 mod sets;
 mod time;
 mod ways;
-mod words;
 
 use cases::{ahead, behind, cases, find, stream, STREAMS};
 use rust_tests::paper::Formula;

@@ -8,8 +8,8 @@ use crate::compare::{Check, Numbers, MARK};
 use crate::demand;
 use crate::lent::Lent;
 use crate::library::{
-    Library, Running, SetFiguresAnswer, SetLent, SetStepAnswer, SetStepsAnswer, State, StepAnswer,
-    StepLent, StepsAnswer,
+    Library, Question, Running, SetFiguresAnswer, SetLent, SetStepAnswer, SetStepsAnswer, State,
+    StepAnswer, StepLent, StepsAnswer,
 };
 use crate::paper::{calendar, Lengths, MAX_HISTORY, MAX_TICKS};
 use crate::random::{self, Random};
@@ -354,9 +354,6 @@ impl Library for Beside<'_> {
         ) -> u32;
         calendar_clear(words: &mut [u64]);
         calendar_fill(words: &mut [u64], tick: u64, flags: &[u8]);
-        calendar_ups(words: &[u64], flag: u8, first: u64, last: u64, ups: &mut u64) -> u32;
-        calendar_first(words: &[u64], flag: u8, first: u64, last: u64, up: &mut u64) -> u32;
-        calendar_last(words: &[u64], flag: u8, first: u64, last: u64, up: &mut u64) -> u32;
-        calendar_nearest(words: &[u64], flag: u8, tick: u64, nearest: &mut u64) -> u32;
+        calendar_ask(words: &[u64], flag: u8, question: Question, answer: &mut u64) -> u32;
     }
 }

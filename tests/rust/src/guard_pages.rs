@@ -4,8 +4,8 @@
 
 use crate::lent::Word;
 use crate::library::{
-    Library, Running, SetFiguresAnswer, SetLent, SetStepAnswer, SetStepsAnswer, State, StepAnswer,
-    StepLent, StepsAnswer,
+    Library, Question, Running, SetFiguresAnswer, SetLent, SetStepAnswer, SetStepsAnswer, State,
+    StepAnswer, StepLent, StepsAnswer,
 };
 use std::cell::RefCell;
 use std::ffi::{c_int, c_long, c_void};
@@ -482,44 +482,24 @@ impl Library for Guarded<'_> {
         check_kept(lent_flags, flags);
     }
 
-    fn calendar_ups(&self, words: &[u64], flag: u8, first: u64, last: u64, ups: &mut u64) -> u32 {
+    fn calendar_ask(&self, words: &[u64], flag: u8, question: Question, answer: &mut u64) -> u32 {
         let [a, b, ..] = &mut *self.lenders.borrow_mut();
-        let lent = a.lend("calendar ups words", words);
-        let answer = b.lend_one("calendar ups ups", ups);
-        let number = self.library.calendar_ups(lent, flag, first, last, answer);
-        *ups = *answer;
+        let [words_name, answer_name] = names(question);
+        let (lent, slot) = (a.lend(words_name, words), b.lend_one(answer_name, answer));
+        let number = self.library.calendar_ask(lent, flag, question, slot);
+        *answer = *slot;
         check_kept(lent, words);
         number
     }
+}
 
-    fn calendar_first(&self, words: &[u64], flag: u8, first: u64, last: u64, up: &mut u64) -> u32 {
-        let [a, b, ..] = &mut *self.lenders.borrow_mut();
-        let lent = a.lend("calendar first words", words);
-        let answer = b.lend_one("calendar first up", up);
-        let number = self.library.calendar_first(lent, flag, first, last, answer);
-        *up = *answer;
-        check_kept(lent, words);
-        number
-    }
-
-    fn calendar_last(&self, words: &[u64], flag: u8, first: u64, last: u64, up: &mut u64) -> u32 {
-        let [a, b, ..] = &mut *self.lenders.borrow_mut();
-        let lent = a.lend("calendar last words", words);
-        let answer = b.lend_one("calendar last up", up);
-        let number = self.library.calendar_last(lent, flag, first, last, answer);
-        *up = *answer;
-        check_kept(lent, words);
-        number
-    }
-
-    fn calendar_nearest(&self, words: &[u64], flag: u8, tick: u64, nearest: &mut u64) -> u32 {
-        let [a, b, ..] = &mut *self.lenders.borrow_mut();
-        let lent = a.lend("calendar nearest words", words);
-        let answer = b.lend_one("calendar nearest nearest", nearest);
-        let number = self.library.calendar_nearest(lent, flag, tick, answer);
-        *nearest = *answer;
-        check_kept(lent, words);
-        number
+/// What a question is lent: the words and the answer.
+fn names(question: Question) -> [&'static str; 2] {
+    match question {
+        Question::Ups(..) => ["calendar ups words", "calendar ups answer"],
+        Question::First(..) => ["calendar first words", "calendar first answer"],
+        Question::Last(..) => ["calendar last words", "calendar last answer"],
+        Question::Nearest(..) => ["calendar nearest words", "calendar nearest answer"],
     }
 }
 

@@ -43,6 +43,19 @@ pub const FALSE: u32 = 2;
 /// How a question to a calendar answers that there is no such tick.
 pub const NO_TICK: u64 = u64::MAX;
 
+/// What a calendar is asked about a flag. A range is its first tick and its last.
+#[derive(Clone, Copy, Debug)]
+pub enum Question {
+    /// At how many ticks of a range it was up.
+    Ups(u64, u64),
+    /// The first of them, or `NO_TICK`.
+    First(u64, u64),
+    /// The last of them, or `NO_TICK`.
+    Last(u64, u64),
+    /// The tick nearest to this one at which it was up, or `NO_TICK`.
+    Nearest(u64),
+}
+
 /// Where `open`, `step` and `steps` write.
 pub struct StepAnswer<'a> {
     pub reported: &'a mut usize,
@@ -197,17 +210,8 @@ pub trait Library {
     /// Marks the ticks from `tick` on, each by its flag byte.
     fn calendar_fill(&self, words: &mut [u64], tick: u64, flags: &[u8]);
 
-    /// At how many ticks of a range a flag was up.
-    fn calendar_ups(&self, words: &[u64], flag: u8, first: u64, last: u64, ups: &mut u64) -> u32;
-
-    /// The first of them, or `NO_TICK`.
-    fn calendar_first(&self, words: &[u64], flag: u8, first: u64, last: u64, up: &mut u64) -> u32;
-
-    /// The last of them, or `NO_TICK`.
-    fn calendar_last(&self, words: &[u64], flag: u8, first: u64, last: u64, up: &mut u64) -> u32;
-
-    /// The tick nearest to `tick` at which a flag was up, or `NO_TICK`.
-    fn calendar_nearest(&self, words: &[u64], flag: u8, tick: u64, nearest: &mut u64) -> u32;
+    /// A question about a flag.
+    fn calendar_ask(&self, words: &[u64], flag: u8, question: Question, answer: &mut u64) -> u32;
 }
 
 #[cfg(feature = "library")]
@@ -216,8 +220,8 @@ pub use linked::Linked;
 #[cfg(feature = "library")]
 mod linked {
     use super::{
-        Library, Running, SetFiguresAnswer, SetLent, SetStepAnswer, SetStepsAnswer, State,
-        StepAnswer, StepLent, StepsAnswer,
+        Library, Question, Running, SetFiguresAnswer, SetLent, SetStepAnswer, SetStepsAnswer,
+        State, StepAnswer, StepLent, StepsAnswer,
     };
     use station_watch::raw::*;
 
@@ -536,45 +540,31 @@ mod linked {
             unsafe { sw_calendar_fill(out, room, tick, flags.as_ptr(), flags.len()) }
         }
 
-        fn calendar_ups(
+        fn calendar_ask(
             &self,
             words: &[u64],
             flag: u8,
-            first: u64,
-            last: u64,
-            ups: &mut u64,
+            question: Question,
+            answer: &mut u64,
         ) -> u32 {
+            let (start, length) = (words.as_ptr(), words.len());
             // SAFETY: what slices cover, and what is written is borrowed alone.
-            unsafe { sw_calendar_ups(words.as_ptr(), words.len(), flag, first, last, ups) }
-        }
-
-        fn calendar_first(
-            &self,
-            words: &[u64],
-            flag: u8,
-            first: u64,
-            last: u64,
-            up: &mut u64,
-        ) -> u32 {
-            // SAFETY: what slices cover, and what is written is borrowed alone.
-            unsafe { sw_calendar_first(words.as_ptr(), words.len(), flag, first, last, up) }
-        }
-
-        fn calendar_last(
-            &self,
-            words: &[u64],
-            flag: u8,
-            first: u64,
-            last: u64,
-            up: &mut u64,
-        ) -> u32 {
-            // SAFETY: what slices cover, and what is written is borrowed alone.
-            unsafe { sw_calendar_last(words.as_ptr(), words.len(), flag, first, last, up) }
-        }
-
-        fn calendar_nearest(&self, words: &[u64], flag: u8, tick: u64, nearest: &mut u64) -> u32 {
-            // SAFETY: what slices cover, and what is written is borrowed alone.
-            unsafe { sw_calendar_nearest(words.as_ptr(), words.len(), flag, tick, nearest) }
+            unsafe {
+                match question {
+                    Question::Ups(first, last) => {
+                        sw_calendar_ups(start, length, flag, first, last, answer)
+                    }
+                    Question::First(first, last) => {
+                        sw_calendar_first(start, length, flag, first, last, answer)
+                    }
+                    Question::Last(first, last) => {
+                        sw_calendar_last(start, length, flag, first, last, answer)
+                    }
+                    Question::Nearest(tick) => {
+                        sw_calendar_nearest(start, length, flag, tick, answer)
+                    }
+                }
+            }
         }
     }
 }

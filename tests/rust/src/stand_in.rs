@@ -11,8 +11,8 @@ mod sets;
 mod texts;
 
 use crate::library::{
-    Library, Running, SetFiguresAnswer, SetLent, SetStepAnswer, SetStepsAnswer, State, StepAnswer,
-    StepLent, StepsAnswer, FALSE, OPEN, TRUE,
+    Library, Question, Running, SetFiguresAnswer, SetLent, SetStepAnswer, SetStepsAnswer, State,
+    StepAnswer, StepLent, StepsAnswer, FALSE, OPEN, TRUE,
 };
 use crate::paper::{
     self, Bound, Figures, Formula, Lengths, Opened, Outcome, Refusal, Verdict, MAX_BODY,
@@ -660,22 +660,8 @@ impl Library for StandIn {
         self.fill_calendar(words, tick, flags);
     }
 
-    fn calendar_ups(&self, words: &[u64], flag: u8, first: u64, last: u64, ups: &mut u64) -> u32 {
-        self.answer(flag, ups, |flag| self.ticks_up(words, flag, first, last).len() as u64)
-    }
-
-    fn calendar_first(&self, words: &[u64], flag: u8, first: u64, last: u64, up: &mut u64) -> u32 {
-        let found = |flag| self.ticks_up(words, flag, first, last).first().copied();
-        self.answer(flag, up, |flag| self.or_none(found(flag)))
-    }
-
-    fn calendar_last(&self, words: &[u64], flag: u8, first: u64, last: u64, up: &mut u64) -> u32 {
-        let found = |flag| self.ticks_up(words, flag, first, last).last().copied();
-        self.answer(flag, up, |flag| self.or_none(found(flag)))
-    }
-
-    fn calendar_nearest(&self, words: &[u64], flag: u8, tick: u64, nearest: &mut u64) -> u32 {
-        self.answer(flag, nearest, |flag| self.or_none(self.nearest_up(words, flag, tick)))
+    fn calendar_ask(&self, words: &[u64], flag: u8, question: Question, answer: &mut u64) -> u32 {
+        self.ask_calendar(words, flag, question, answer)
     }
 }
 

@@ -7,56 +7,22 @@ use super::{Check, Numbers, MARK};
 use crate::beside::{beside, CalendarTally, Words};
 use crate::demand;
 use crate::lent::Lent;
-use crate::library::{Library, NO_TICK};
+use crate::library::{Library, Question, NO_TICK};
 use crate::paper::{calendar, Refusal};
 use crate::random::{self, Random};
 
 /// Flags that there are, and some that there are not.
 pub const FLAGS: [u8; 11] = [0, 1, 2, 3, 4, 5, 6, 7, 8, 9, 255];
 
-/// A question about the ticks of a range.
-struct Question {
-    name: &'static str,
-    ask: fn(&dyn Library, &[u64], u8, u64, u64, &mut u64) -> u32,
-    due: fn(&[u64], u8, u64, u64) -> Result<u64, Refusal>,
-}
-
-/// The nearest up is asked about a tick, which stands here as the range's first.
-const QUESTIONS: [Question; 4] = [
-    Question {
-        name: "ups",
-        ask: |library, words, flag, first, last, ups| {
-            library.calendar_ups(words, flag, first, last, ups)
-        },
-        due: calendar::ups,
-    },
-    Question {
-        name: "first up",
-        ask: |library, words, flag, first, last, up| {
-            library.calendar_first(words, flag, first, last, up)
-        },
-        due: |words, flag, first, last| {
-            calendar::first_up(words, flag, first, last).map(or_no_tick)
-        },
-    },
-    Question {
-        name: "last up",
-        ask: |library, words, flag, first, last, up| {
-            library.calendar_last(words, flag, first, last, up)
-        },
-        due: |words, flag, first, last| calendar::last_up(words, flag, first, last).map(or_no_tick),
-    },
-    Question {
-        name: "nearest up",
-        ask: |library, words, flag, tick, _, nearest| {
-            library.calendar_nearest(words, flag, tick, nearest)
-        },
-        due: |words, flag, tick, _| calendar::nearest_up(words, flag, tick).map(or_no_tick),
-    },
-];
-
-fn or_no_tick(tick: Option<u64>) -> u64 {
-    tick.unwrap_or(NO_TICK)
+/// What the plain calendar answers.
+fn due(words: &[u64], flag: u8, question: Question) -> Result<u64, Refusal> {
+    let tick = match question {
+        Question::Ups(first, last) => return calendar::ups(words, flag, first, last),
+        Question::First(first, last) => calendar::first_up(words, flag, first, last),
+        Question::Last(first, last) => calendar::last_up(words, flag, first, last),
+        Question::Nearest(tick) => calendar::nearest_up(words, flag, tick),
+    };
+    Ok(tick?.unwrap_or(NO_TICK))
 }
 
 /// The three questions about a range, and that of the up nearest to its first tick. Answers
@@ -68,27 +34,19 @@ pub fn questions(
     first: u64,
     last: u64,
 ) -> Check<u32> {
-    let mut number = 0;
-    for question in &QUESTIONS {
-        number = asked(library, question, words, flag, first, last)?;
-    }
-    Ok(number)
+    asked(library, words, flag, Question::Ups(first, last))?;
+    asked(library, words, flag, Question::First(first, last))?;
+    asked(library, words, flag, Question::Last(first, last))?;
+    asked(library, words, flag, Question::Nearest(first))
 }
 
-fn asked(
-    library: &dyn Library,
-    question: &Question,
-    words: &mut Lent<u64>,
-    flag: u8,
-    first: u64,
-    last: u64,
-) -> Check<u32> {
-    let (name, length) = (question.name, words.length());
-    let about = || format!("{name} of flag {flag} in {first}..{last}, {length} words");
+fn asked(library: &dyn Library, words: &mut Lent<u64>, flag: u8, question: Question) -> Check<u32> {
+    let length = words.length();
+    let about = || format!("flag {flag}, {question:?}, {length} words");
     let before = words.seen().to_vec();
     let mut answer = Lent::one(MARK);
-    let number = (question.ask)(library, words.part(), flag, first, last, answer.slot());
-    let (due, due_answer) = match (question.due)(&before, flag, first, last) {
+    let number = library.calendar_ask(words.part(), flag, question, answer.slot());
+    let (due, due_answer) = match due(&before, flag, question) {
         Ok(answer) => (0, answer),
         Err(number) => (number, MARK),
     };

@@ -11,7 +11,7 @@ use crate::beside::{beside, CalendarTally, Words};
 use crate::compare::{self, Check, Numbers, FLAGS, MARK};
 use crate::demand;
 use crate::lent::Lent;
-use crate::library::{Library, StepAnswer, StepLent, StepsAnswer, NO_TICK, STATE_BYTES};
+use crate::library::{Library, Question, StepAnswer, StepLent, StepsAnswer, NO_TICK, STATE_BYTES};
 use crate::random::{self, Random};
 
 /// The words of three runs, and a few more.
@@ -82,7 +82,7 @@ pub fn empty_calendars(library: &dyn Library) -> Check {
     for flag in FLAGS {
         let due = if flag > 7 { (7, MARK) } else { (0, NO_TICK) };
         let mut nearest = MARK;
-        let number = library.calendar_nearest(&[], flag, 0, &mut nearest);
+        let number = library.calendar_ask(&[], flag, Question::Nearest(0), &mut nearest);
         demand!((number, nearest) == due, "no words, flag {flag}: {number}, {nearest}");
         compare::questions(library, &mut Lent::new(&[]), flag, 0, u64::MAX)?;
     }

@@ -2,7 +2,7 @@
 //! tick.
 
 use super::{Flaw, StandIn};
-use crate::library::{Library, State, StepAnswer, StepLent, StepsAnswer, NO_TICK};
+use crate::library::{Library, Question, State, StepAnswer, StepLent, StepsAnswer, NO_TICK};
 use crate::paper::calendar::{clear, fill, is_up, kept_ticks};
 use crate::states::{number_at, NEXT_AT};
 use std::cmp::Reverse;
@@ -61,7 +61,13 @@ impl StandIn {
     }
 
     /// The refusal, or what the question answers about the flag.
-    pub(super) fn answer(&self, flag: u8, answer: &mut u64, question: impl Fn(u8) -> u64) -> u32 {
+    pub(super) fn ask_calendar(
+        &self,
+        words: &[u64],
+        flag: u8,
+        question: Question,
+        answer: &mut u64,
+    ) -> u32 {
         let known = match self.flaw {
             Flaw::Calendar(CalendarFlaw::FlagEightIsZero) => flag <= 8,
             Flaw::Calendar(CalendarFlaw::RefusesFlagSeven) => flag < 7,
@@ -73,11 +79,21 @@ impl StandIn {
             }
             return 7;
         }
-        *answer = question(flag % 8);
+        *answer = self.answer(words, flag % 8, question);
         0
     }
 
-    pub(super) fn or_none(&self, tick: Option<u64>) -> u64 {
+    fn answer(&self, words: &[u64], flag: u8, question: Question) -> u64 {
+        let ups = |first, last| self.ticks_up(words, flag, first, last);
+        match question {
+            Question::Ups(first, last) => ups(first, last).len() as u64,
+            Question::First(first, last) => self.or_none(ups(first, last).first().copied()),
+            Question::Last(first, last) => self.or_none(ups(first, last).last().copied()),
+            Question::Nearest(tick) => self.or_none(self.nearest_up(words, flag, tick)),
+        }
+    }
+
+    fn or_none(&self, tick: Option<u64>) -> u64 {
         let none = if self.in_calendar(CalendarFlaw::NoneIsZero) { 0 } else { NO_TICK };
         tick.unwrap_or(none)
     }
@@ -110,7 +126,7 @@ impl StandIn {
     }
 
     /// The ticks of the range at which the flag is up.
-    pub(super) fn ticks_up(&self, words: &[u64], flag: u8, first: u64, last: u64) -> Vec<u64> {
+    fn ticks_up(&self, words: &[u64], flag: u8, first: u64, last: u64) -> Vec<u64> {
         let (mut first, mut last) = (first, last);
         match self.flaw {
             Flaw::Calendar(CalendarFlaw::EndsRangesEarly) if last == 0 => return Vec::new(),
@@ -132,7 +148,7 @@ impl StandIn {
         range.filter(|&tick| self.is_up(words, flag, tick)).collect()
     }
 
-    pub(super) fn nearest_up(&self, words: &[u64], flag: u8, tick: u64) -> Option<u64> {
+    fn nearest_up(&self, words: &[u64], flag: u8, tick: u64) -> Option<u64> {
         let kept = self.kept(words);
         let among = match self.flaw {
             Flaw::Calendar(CalendarFlaw::NearestNotPastTheEnd) if tick >= kept => return None,
