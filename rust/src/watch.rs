@@ -237,7 +237,7 @@ impl Watch {
         mut cells: Vec<u32>,
     ) -> Result<Watch, Refusal> {
         // A batch of no flags changes nothing and is refused as a first step would be.
-        state.steps(&[], &mut history, &mut cells, &mut [])?;
+        state.calendar_steps(&[], &mut history, &mut cells, &mut [], &mut [])?;
         let figures = figures(state.body())?;
         cells.truncate(figures.cell_words());
         let calendar = Calendar::default();
