@@ -3,7 +3,7 @@
 use super::scale::Stretch;
 use super::share::Marked;
 use crate::answer::Stop;
-use crate::recorded::Growing;
+use crate::recorded;
 use crate::watch;
 use station_watch::{bodies, text_from_body, Calendar, Refusal, Triple, WatchSet};
 use std::path::Path;
@@ -60,7 +60,7 @@ pub struct Watched {
     drawn: Stretch,
     /// No tick that is drawn is open after so many steps.
     steps: u64,
-    calendars: Vec<Growing>,
+    calendars: Vec<Calendar>,
     rules: Vec<Kept>,
 }
 
@@ -70,7 +70,7 @@ impl Watched {
         let delay = set.rule_figures().iter().map(|figures| figures.delay).max().unwrap_or(0);
         let steps = drawn.last.saturating_add(delay as u64 + 1);
         let count = set.rule_figures().len();
-        let calendars = (0..count.div_ceil(8)).map(|_| Growing::default()).collect();
+        let calendars = vec![Calendar::default(); count.div_ceil(8)];
         let rules = (0..count).map(|_| Kept::default()).collect();
         Ok(Watched { set, drawn, steps, calendars, rules })
     }
@@ -83,7 +83,7 @@ impl Watched {
         self.set.steps(&flags[..needed], |Triple { rule, tick, step }| {
             let (rule, tick, step) = (rule as usize, tick.into(), step.into());
             if drawn.has(tick) {
-                calendars[rule / 8].fill(tick, &[1 << (rule % 8)]);
+                recorded::fill(&mut calendars[rule / 8], tick, &[1 << (rule % 8)]);
                 rules[rule].take(Violation { tick, step });
             }
         })?;
@@ -93,8 +93,7 @@ impl Watched {
     pub fn ended(self) -> Result<Rules, Refusal> {
         let (sheet, ..) = self.set.parts();
         let texts: Result<Vec<String>, Refusal> = bodies(sheet)?.map(text_from_body).collect();
-        let calendars = self.calendars.into_iter().map(Growing::grown).collect();
-        Ok(Rules { texts: texts?, calendars, rules: self.rules })
+        Ok(Rules { texts: texts?, calendars: self.calendars, rules: self.rules })
     }
 }
 
