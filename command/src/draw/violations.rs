@@ -3,6 +3,7 @@
 use super::scale::Stretch;
 use super::share::Marked;
 use crate::answer::Stop;
+use crate::calendar::FLAGS;
 use crate::recorded;
 use crate::watch;
 use station_watch::{bodies, text_from_body, Calendar, Refusal, Triple, WatchSet};
@@ -53,8 +54,15 @@ impl Kept {
     }
 }
 
+/// The calendar in which the ticks that break a rule are marked, and the flag that they are
+/// marked as.
+fn place(rule: usize) -> (usize, u8) {
+    let flags = usize::from(FLAGS);
+    (rule / flags, (rule % flags) as u8)
+}
+
 /// Rules that run over a stream from tick 0 on, and what they report of the ticks that are
-/// drawn. The ticks that break rule r are marked as flag r % 8 of calendar r / 8.
+/// drawn.
 pub struct Watched {
     set: WatchSet,
     drawn: Stretch,
@@ -70,7 +78,7 @@ impl Watched {
         let delay = set.rule_figures().iter().map(|figures| figures.delay).max().unwrap_or(0);
         let steps = drawn.last.saturating_add(delay as u64 + 1);
         let count = set.rule_figures().len();
-        let calendars = vec![Calendar::default(); count.div_ceil(8)];
+        let calendars = vec![Calendar::default(); count.div_ceil(FLAGS.into())];
         let rules = (0..count).map(|_| Kept::default()).collect();
         Ok(Watched { set, drawn, steps, calendars, rules })
     }
@@ -83,7 +91,8 @@ impl Watched {
         self.set.steps(&flags[..needed], |Triple { rule, tick, step }| {
             let (rule, tick, step) = (rule as usize, tick.into(), step.into());
             if drawn.has(tick) {
-                recorded::fill(&mut calendars[rule / 8], tick, &[1 << (rule % 8)]);
+                let (calendar, flag) = place(rule);
+                recorded::fill(&mut calendars[calendar], tick, &[1 << flag]);
                 rules[rule].take(Violation { tick, step });
             }
         })?;
@@ -104,8 +113,8 @@ pub struct Rules {
     rules: Vec<Kept>,
 }
 
-/// One of them.
-pub struct Broken<'a> {
+/// The violations of one of them, if there are any.
+pub struct RuleViolations<'a> {
     pub rule: usize,
     pub text: &'a str,
     /// The ticks that break it.
@@ -121,14 +130,15 @@ pub struct Broken<'a> {
 }
 
 impl Rules {
-    pub fn all(&self) -> Result<Vec<Broken<'_>>, Refusal> {
-        (0..self.rules.len()).map(|rule| self.broken(rule)).collect()
+    pub fn all(&self) -> Result<Vec<RuleViolations<'_>>, Refusal> {
+        (0..self.rules.len()).map(|rule| self.violations(rule)).collect()
     }
 
-    fn broken(&self, rule: usize) -> Result<Broken<'_>, Refusal> {
+    fn violations(&self, rule: usize) -> Result<RuleViolations<'_>, Refusal> {
         let Kept { listed, ends, later } = &self.rules[rule];
-        let marked = Marked { calendar: &self.calendars[rule / 8], flag: (rule % 8) as u8 };
-        Ok(Broken {
+        let (calendar, flag) = place(rule);
+        let marked = Marked { calendar: &self.calendars[calendar], flag };
+        Ok(RuleViolations {
             rule,
             text: &self.texts[rule],
             marked,

@@ -6,7 +6,7 @@ use super::page::{Page, LEFT, LETTER};
 use super::xml::px;
 use crate::draw::picture::Picture;
 use crate::draw::share;
-use crate::draw::violations::Broken;
+use crate::draw::violations::RuleViolations;
 use crate::draw::words::grouped;
 
 /// The height of a line.
@@ -20,8 +20,8 @@ pub fn draw(page: &mut Page, picture: &Picture, each: u64) {
         let what = format!("Flags, share of each column's {} ticks that are up:", grouped(each));
         swatches(page, "flag", &what, &all_shades());
     }
-    let counted = |broken: &Broken| lane::one_by_one(page, broken).is_none();
-    let joined = |broken: &Broken| broken.count > 0 && !counted(broken);
+    let counted = |rule: &RuleViolations| lane::one_by_one(page, rule).is_none();
+    let joined = |rule: &RuleViolations| rule.count > 0 && !counted(rule);
     let (joined, counted) =
         (picture.rules().iter().any(joined), picture.rules().iter().any(counted));
     if joined {

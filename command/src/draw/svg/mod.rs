@@ -91,9 +91,9 @@ fn rows(page: &mut Page, picture: &Picture, columns: &[Stretch]) -> Result<(), R
 }
 
 fn rules(page: &mut Page, picture: &Picture, columns: &[Stretch]) -> Result<(), Refusal> {
-    for broken in picture.rules() {
+    for violations in picture.rules() {
         page.y += 8.0;
-        lane::draw(page, broken, columns)?;
+        lane::draw(page, violations, columns)?;
     }
     Ok(())
 }

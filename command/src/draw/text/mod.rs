@@ -23,11 +23,11 @@ pub fn drawn(picture: &Picture, width: usize) -> Result<String, Refusal> {
         let marks = shaded(&layout.columns, &counts);
         text += &layout.row(&format!("flag {flag}"), &marks, counts.iter().sum());
     }
-    for (place, broken) in picture.rules().iter().enumerate() {
+    for (place, violations) in picture.rules().iter().enumerate() {
         if place == 0 {
             text += &layout.headed("", "violations");
         }
-        text += &rules::rows(&layout, broken)?;
+        text += &rules::rows(&layout, violations)?;
     }
     text += &format!("\n{}", legend(&layout));
     if picture.sheet.is_some() {
