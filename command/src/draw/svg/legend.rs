@@ -1,8 +1,8 @@
 //! What is seen, in words.
 
 use super::joined::{diamond, DOT};
-use super::lane;
-use super::page::{Page, LEFT, LETTER};
+use super::page::{wide, Page, LEFT};
+use super::rule_row;
 use super::xml::px;
 use crate::draw::picture::Picture;
 use crate::draw::share;
@@ -20,7 +20,7 @@ pub fn draw(page: &mut Page, picture: &Picture, each: u64) {
         let what = format!("Flags, share of each column's {} ticks that are up:", grouped(each));
         swatches(page, "flag", &what, &all_shades());
     }
-    let counted = |rule: &RuleViolations| lane::one_by_one(page, rule).is_none();
+    let counted = |rule: &RuleViolations| rule_row::one_by_one(page, rule).is_none();
     let joined = |rule: &RuleViolations| rule.count > 0 && !counted(rule);
     let (joined, counted) =
         (picture.rules().iter().any(joined), picture.rules().iter().any(counted));
@@ -42,11 +42,11 @@ fn swatches(page: &mut Page, class: &str, what: &str, shades: &[(&str, usize)]) 
     page.y += LINE;
     let y = page.y;
     page.words("small", (LEFT, y), what);
-    let mut x = LEFT + wide(what) + 12.0;
+    let mut x = LEFT + about(what) + 12.0;
     for (name, shade) in shades {
         page.path(&format!("{class}{shade}"), &format!("M{} {}h24", px(x), px(y - 4.0)));
         page.words("small", (x + 30.0, y), name);
-        x += 30.0 + wide(name) + 14.0;
+        x += 30.0 + about(name) + 14.0;
     }
 }
 
@@ -56,14 +56,14 @@ fn violation(page: &mut Page) {
     let y = page.y;
     let what = "Rules, each violation:";
     page.words("small", (LEFT, y), what);
-    let (x, middle) = (LEFT + wide(what) + 16.0, y - 4.0);
+    let (x, middle) = (LEFT + about(what) + 16.0, y - 4.0);
     let line = format!("M{} {}h60", px(x), px(middle));
     page.path("sample", &(diamond((x, middle), 4.0) + &line + DOT));
     let what = "from the tick that breaks the rule to the step at which that was certain";
     page.words("small", (x + 74.0, y), what);
 }
 
-/// About how wide words of the small font are.
-fn wide(words: &str) -> f64 {
-    words.len() as f64 * 0.88 * LETTER
+/// How wide a sentence is about: most letters are not as wide as can be.
+fn about(words: &str) -> f64 {
+    0.88 * wide(words)
 }

@@ -3,9 +3,9 @@
 mod axis;
 mod counted;
 mod joined;
-mod lane;
 mod legend;
 mod page;
+mod rule_row;
 mod shades;
 mod xml;
 
@@ -93,7 +93,7 @@ fn rows(page: &mut Page, picture: &Picture, columns: &[Stretch]) -> Result<(), R
 fn rules(page: &mut Page, picture: &Picture, columns: &[Stretch]) -> Result<(), Refusal> {
     for violations in picture.rules() {
         page.y += 8.0;
-        lane::draw(page, violations, columns)?;
+        rule_row::draw(page, violations, columns)?;
     }
     Ok(())
 }

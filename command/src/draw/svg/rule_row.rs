@@ -2,11 +2,10 @@
 //! that could not be read, counted.
 
 use super::joined;
-use super::page::{Page, COUNTS, LEFT, NAMES, RIGHT};
-use super::xml::px;
+use super::page::{Page, COUNTS, LEFT, NAMES};
 use crate::draw::scale::Stretch;
 use crate::draw::violations::{RuleViolations, Violation};
-use crate::draw::words::{counted, grouped};
+use crate::draw::words::{counted, grouped, shortened};
 use station_watch::Refusal;
 
 /// Violations are drawn one by one where no two ticks are closer.
@@ -32,7 +31,7 @@ pub fn draw(
     head(page, violations);
     match one_by_one(page, violations) {
         Some([]) => {
-            page.path("base", &format!("M{} {}H{}", px(LEFT), px(page.y + 4.0), px(RIGHT)));
+            page.across("base", page.y + 4.0);
             page.y += 14.0;
         }
         Some(listed) => joined::draw(page, listed),
@@ -45,7 +44,7 @@ pub fn draw(
 fn head(page: &mut Page, violations: &RuleViolations) {
     let y = page.y + 14.0;
     page.words("name", (NAMES, y), &format!("rule {}", violations.rule));
-    page.words("text", (LEFT, y), &shortened(violations.text));
+    page.words("text", (LEFT, y), &shortened(violations.text, TEXT));
     page.words("count", (COUNTS, y), &count(violations.count));
     if let Some((fewest, most)) = violations.later {
         page.words("small", (COUNTS, y + 15.0), &later(fewest, most));
@@ -60,13 +59,6 @@ fn count(violations: u64) -> String {
         1..10_000_000 => counted(&grouped(violations), "violation"),
         _ => grouped(violations),
     }
-}
-
-fn shortened(text: &str) -> String {
-    if text.len() <= TEXT {
-        return text.to_string();
-    }
-    text.chars().take(TEXT - 2).chain("..".chars()).collect()
 }
 
 fn later(fewest: u64, most: u64) -> String {
