@@ -5,7 +5,7 @@ use super::page::{wide, Page, LEFT};
 use super::rule_row;
 use super::xml::px;
 use crate::draw::picture::Picture;
-use crate::draw::share;
+use crate::draw::share::{flag_shades, SHADES};
 use crate::draw::violations::RuleViolations;
 use crate::draw::words::grouped;
 
@@ -14,12 +14,11 @@ const LINE: f64 = 24.0;
 
 /// A line for each kind of row.
 pub fn draw(page: &mut Page, picture: &Picture, each: u64) {
-    if each == 1 {
-        swatches(page, "flag", "Flags:", &[("down", 0), ("up", share::ALL)]);
-    } else {
-        let what = format!("Flags, share of each column's {} ticks that are up:", grouped(each));
-        swatches(page, "flag", &what, &all_shades());
-    }
+    let what = match each {
+        1 => "Flags:".to_string(),
+        _ => format!("Flags, share of each column's {} ticks that are up:", grouped(each)),
+    };
+    swatches(page, "flag", &what, flag_shades(each));
     let counted = |rule: &RuleViolations| rule_row::one_by_one(page, rule).is_none();
     let joined = |rule: &RuleViolations| rule.count > 0 && !counted(rule);
     let (joined, counted) =
@@ -29,12 +28,8 @@ pub fn draw(page: &mut Page, picture: &Picture, each: u64) {
     }
     if counted {
         let what = "Rules, share of ticks that break the rule, and above how many:";
-        swatches(page, "broken", what, &all_shades());
+        swatches(page, "broken", what, &SHADES);
     }
-}
-
-fn all_shades() -> Vec<(&'static str, usize)> {
-    share::SHADES.into_iter().zip(0..).collect()
 }
 
 /// What is shaded, and a sample of each shade with its name.
