@@ -9,7 +9,8 @@ use crate::watch;
 use station_watch::{bodies, text_from_body, Calendar, Refusal, Triple, WatchSet};
 use std::path::Path;
 
-/// The most violations of a rule that are kept one by one. More are not drawn one by one.
+/// The most violations of a rule that are kept one by one: more than a text or a picture has
+/// room to draw so.
 const MOST: usize = 1_000;
 
 /// A tick that breaks a rule, and the step at which that was certain.
