@@ -15,8 +15,8 @@ use std::time::Duration;
 /// The most bytes of a file of rules: 32 of the longest texts, and much room for comments.
 const MAX_RULES_FILE: usize = 1 << 20;
 
-/// What standard input is called.
-const INPUT: &str = "standard input";
+/// What stands for standard input among the arguments.
+pub const INPUT: &str = "-";
 
 /// How long to wait before a read or a write that would block is tried again.
 const WAIT: Duration = Duration::from_millis(5);
@@ -55,22 +55,20 @@ pub fn refuse_same(read: &Path, written: &Path) -> Result<(), Failure> {
 }
 
 fn is_input(path: &Path) -> bool {
-    path == Path::new("-")
+    path == Path::new(INPUT)
 }
 
 /// What a file that is read is called.
 pub fn input_name(path: &Path) -> String {
     if is_input(path) {
-        return INPUT.to_string();
+        return "standard input".to_string();
     }
     path.display().to_string()
 }
 
 fn read_or_input(path: &Path, most: usize) -> Result<Vec<u8>, Failure> {
-    if !is_input(path) {
-        return read(path, most);
-    }
-    own(io::stdin()).and_then(|input| read_up_to(input, most)).map_err(no_input)
+    let Pieces { from, name } = Pieces::open(path)?;
+    read_up_to(from, most).map_err(|error| Failure::Read(name, error))
 }
 
 fn read(path: &Path, most: usize) -> Result<Vec<u8>, Failure> {
@@ -98,40 +96,29 @@ fn no_output(error: io::Error) -> Failure {
     Failure::Write("standard output".to_string(), error)
 }
 
-/// Standard input, whose bytes are taken as they come.
-pub fn open_input() -> Result<File, Failure> {
-    own(io::stdin()).map_err(no_input)
+/// Bytes of any number, taken as they come.
+pub struct Pieces<R> {
+    pub from: R,
+    /// What that is called.
+    pub name: String,
 }
 
-/// What the input has now, at the front of the buffer: at least a byte, unless it has ended.
-pub fn read_some(mut input: impl Read, buffer: &mut [u8]) -> Result<&[u8], Failure> {
-    let count = again(|| input.read(buffer)).map_err(no_input)?;
-    Ok(&buffer[..count])
-}
-
-fn no_input(error: io::Error) -> Failure {
-    Failure::Read(INPUT.to_string(), error)
-}
-
-/// A file of any size, whose bytes are taken in pieces; - is standard input.
-pub struct Pieces {
-    file: File,
-    name: String,
-}
-
-impl Pieces {
-    pub fn open(path: &Path) -> Result<Pieces, Failure> {
+impl Pieces<File> {
+    /// A file; - is standard input.
+    pub fn open(path: &Path) -> Result<Pieces<File>, Failure> {
         let name = input_name(path);
         let opened = if is_input(path) { own(io::stdin()) } else { File::open(path) };
         match opened {
-            Ok(file) => Ok(Pieces { file, name }),
+            Ok(from) => Ok(Pieces { from, name }),
             Err(error) => Err(Failure::Read(name, error)),
         }
     }
+}
 
-    /// The next bytes, at the front of the buffer; none where they have ended.
+impl<R: Read> Pieces<R> {
+    /// What there is now, at the front of the buffer: at least a byte, unless it has ended.
     pub fn read<'b>(&mut self, buffer: &'b mut [u8]) -> Result<&'b [u8], Failure> {
-        match again(|| self.file.read(buffer)) {
+        match again(|| self.from.read(buffer)) {
             Ok(count) => Ok(&buffer[..count]),
             Err(error) => Err(Failure::Read(self.name.clone(), error)),
         }

@@ -2,30 +2,16 @@
 
 use crate::answer::Stop;
 use crate::files::Pieces;
-use station_watch::{calendar_fill, Calendar};
+use station_watch::Calendar;
 use std::path::Path;
 
 /// The most flag bytes that are read at once.
 const PIECE: usize = 65_536;
 
-/// A calendar that grows with the ticks that are filled in.
-#[derive(Default)]
-pub struct Growing {
-    words: Vec<u64>,
-}
-
-impl Growing {
-    /// Marks the ticks from `tick` on, one for each flag byte.
-    pub fn fill(&mut self, tick: u64, flags: &[u8]) {
-        let ticks = tick + flags.len() as u64;
-        let words = 8 * ticks.div_ceil(64) as usize;
-        self.words.resize(words.max(self.words.len()), 0);
-        calendar_fill(&mut self.words, tick, flags);
-    }
-
-    pub fn grown(self) -> Calendar {
-        Calendar::from_words(self.words)
-    }
+/// Marks the ticks from `tick` on, one for each flag byte, in a calendar that grows with them.
+pub fn fill(calendar: &mut Calendar, tick: u64, flags: &[u8]) {
+    calendar.grow_to(tick + flags.len() as u64);
+    calendar.fill(tick, flags);
 }
 
 /// A file's calendar, and how many ticks the file has. The calendar keeps up to 63 more, at
@@ -43,13 +29,13 @@ pub fn read(
 ) -> Result<Recorded, Stop> {
     let mut file = Pieces::open(flags)?;
     let mut buffer = vec![0; PIECE];
-    let (mut growing, mut ticks) = (Growing::default(), 0);
+    let (mut calendar, mut ticks) = (Calendar::default(), 0);
     loop {
         let piece = file.read(&mut buffer)?;
         if piece.is_empty() {
-            return Ok(Recorded { calendar: growing.grown(), ticks });
+            return Ok(Recorded { calendar, ticks });
         }
-        growing.fill(ticks, piece);
+        fill(&mut calendar, ticks, piece);
         ticks += piece.len() as u64;
         take(piece)?;
     }

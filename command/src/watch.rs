@@ -1,7 +1,7 @@
 //! `watch SHEET`.
 
 use crate::answer::{self, Answer, Failure, Stop};
-use crate::files;
+use crate::files::{self, Pieces};
 use station_watch::{bodies, figures, Refusal, Triple, WatchSet, MAX_CELLS};
 use std::io::Read;
 use std::path::Path;
@@ -14,7 +14,8 @@ const CHUNK: usize = 4_096;
 pub fn all_rules(sheet: &Path) -> Result<Answer, Stop> {
     let mut set = open(sheet)?;
     files::write_lines(figures_lines(&set).as_bytes())?;
-    let violations = follow(&mut set, files::open_input()?, files::write_lines)?;
+    let input = Pieces::open(files::INPUT.as_ref())?;
+    let violations = follow(&mut set, input, files::write_lines)?;
     let (steps, live) = (set.next_tick(), set.live());
     Ok(Answer::given(format!("end {steps} steps {violations} violations {live} live\n")))
 }
@@ -36,13 +37,13 @@ fn figures_lines(set: &WatchSet) -> String {
 /// violations there were.
 pub fn follow(
     set: &mut WatchSet,
-    mut input: impl Read,
+    mut input: Pieces<impl Read>,
     mut write: impl FnMut(&[u8]) -> Result<(), Failure>,
 ) -> Result<u64, Stop> {
     let mut buffer = [0; CHUNK];
     let mut violations = 0;
     loop {
-        let flags = files::read_some(&mut input, &mut buffer)?;
+        let flags = input.read(&mut buffer)?;
         if flags.is_empty() {
             return Ok(violations);
         }

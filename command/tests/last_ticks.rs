@@ -11,6 +11,7 @@ mod files;
 mod watch;
 
 use answer::{Failure, Stop};
+use files::Pieces;
 use station_watch::{sheet_of, Refusal, WatchSet, MAX_TICKS};
 use std::io::{self, Read};
 use std::str;
@@ -25,6 +26,10 @@ fn near_the_end(left: u32) -> WatchSet {
     WatchSet::from_parts(sheet.to_vec(), records, history.to_vec(), cells.to_vec()).unwrap()
 }
 
+fn input<R: Read>(from: R) -> Pieces<R> {
+    Pieces { from, name: "flags".to_string() }
+}
+
 /// What is written, and how it ends.
 fn followed(left: u32, flags: impl Read) -> (String, Result<u64, Stop>) {
     let mut written = String::new();
@@ -32,7 +37,7 @@ fn followed(left: u32, flags: impl Read) -> (String, Result<u64, Stop>) {
         written += str::from_utf8(bytes).unwrap();
         Ok(())
     };
-    let ended = watch::follow(&mut near_the_end(left), flags, write);
+    let ended = watch::follow(&mut near_the_end(left), input(flags), write);
     (written, ended)
 }
 
@@ -62,6 +67,6 @@ fn no_refusal_after_lines_that_are_lost() {
     let lost = |_: &[u8]| {
         Err(Failure::Write("standard output".to_string(), io::ErrorKind::BrokenPipe.into()))
     };
-    let ended = watch::follow(&mut near_the_end(1), &[0, 0][..], lost);
+    let ended = watch::follow(&mut near_the_end(1), input(&[0, 0][..]), lost);
     assert!(matches!(ended, Err(Stop::Failed(Failure::Write(..)))));
 }

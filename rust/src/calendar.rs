@@ -40,7 +40,8 @@ pub struct Calendar {
 
 impl Calendar {
     /// A calendar with room for at least so many ticks, from tick 0 on: a byte for each. No
-    /// flag is up at any of them.
+    /// flag is up at any of them. More ticks than there is memory for end as in a [`Vec`] that
+    /// is too long: in a panic, or in the allocator's abort.
     ///
     /// ```
     /// use station_watch::Calendar;
@@ -49,7 +50,27 @@ impl Calendar {
     /// assert_eq!((calendar.kept(), calendar.words()), (128, &[0; 16][..]));
     /// ```
     pub fn new(ticks: u64) -> Calendar {
-        Calendar { words: vec![0; 8 * ticks.div_ceil(64) as usize] }
+        Calendar { words: vec![0; words_for(ticks)] }
+    }
+
+    /// Gives it room for at least so many ticks in all, from tick 0 on. What it keeps stays,
+    /// and no flag is up at the ticks that are new. Memory is as for [`new`](Calendar::new).
+    ///
+    /// ```
+    /// use station_watch::{Calendar, Refusal};
+    ///
+    /// let mut calendar = Calendar::of_flags(&[0, 1, 1]);
+    /// calendar.grow_to(100);
+    /// calendar.fill(99, &[1]);
+    /// calendar.grow_to(50); // has room already
+    /// assert_eq!((calendar.kept(), calendar.ups(0, 0, 99)?), (128, 3));
+    /// # Ok::<(), Refusal>(())
+    /// ```
+    pub fn grow_to(&mut self, ticks: u64) {
+        if ticks > self.kept() {
+            self.words.truncate(words_for(self.kept())); // a last group of fewer
+            self.words.resize(words_for(ticks), 0);
+        }
     }
 
     /// The calendar of a recording, whose first byte is tick 0.
@@ -194,6 +215,12 @@ impl Calendar {
     pub fn nearest_up(&self, flag: u8, tick: u64) -> Result<Option<u64>, Refusal> {
         calendar_nearest(&self.words, flag, tick)
     }
+}
+
+/// Eight words for each run of 64 ticks, the last of which need not be full. More than the
+/// machine can number are as many as it can: no vector has them.
+fn words_for(ticks: u64) -> usize {
+    (8 * ticks.div_ceil(64)).try_into().unwrap_or(usize::MAX)
 }
 
 impl fmt::Debug for Calendar {

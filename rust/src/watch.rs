@@ -57,7 +57,8 @@ impl Watch {
 
     /// Opens a rule of a sheet, with a calendar that has room for at least so many ticks, a
     /// byte for each. Each step marks its tick in it; later ticks are not kept. Refusals as
-    /// of [`open`](Watch::open).
+    /// of [`open`](Watch::open). More ticks than there is memory for end as in
+    /// [`Calendar::new`].
     ///
     /// ```
     /// use station_watch::{sheet_of, Refusal, Watch};
@@ -237,7 +238,7 @@ impl Watch {
         mut cells: Vec<u32>,
     ) -> Result<Watch, Refusal> {
         // A batch of no flags changes nothing and is refused as a first step would be.
-        state.steps(&[], &mut history, &mut cells, &mut [])?;
+        state.calendar_steps(&[], &mut history, &mut cells, &mut [], &mut [])?;
         let figures = figures(state.body())?;
         cells.truncate(figures.cell_words());
         let calendar = Calendar::default();

@@ -15,6 +15,32 @@ fn room_for_so_many_ticks() {
     assert_eq!(Calendar::default(), Calendar::new(0));
 }
 
+/// What was marked stays, and whatever stood in words that kept no ticks is gone.
+#[test]
+fn room_for_more_ticks() {
+    for (ticks, kept) in [(0, 64), (64, 64), (65, 128), (128, 128), (129, 192), (300, 320)] {
+        for words in [8, 13, 15] {
+            let mut calendar = Calendar::from_words(vec![u64::MAX; words]);
+            calendar.grow_to(ticks);
+            assert_eq!(calendar.kept(), kept);
+            for flag in 0..8 {
+                assert_eq!(calendar.ups(flag, 0, u64::MAX), Ok(64));
+                assert_eq!(calendar.last_up(flag, 0, u64::MAX), Ok(Some(63)));
+            }
+        }
+    }
+    let mut calendar = Calendar::default();
+    calendar.grow_to(86_400);
+    assert_eq!(calendar, Calendar::new(86_400));
+}
+
+/// Too many for any memory.
+#[test]
+#[should_panic(expected = "capacity overflow")]
+fn no_room_for_all_ticks() {
+    Calendar::new(u64::MAX);
+}
+
 /// Flag k is up at tick t where bit k of byte t is set, and nowhere else.
 #[test]
 fn a_recording() {

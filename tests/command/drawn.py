@@ -142,7 +142,7 @@ def axis_checked(picture):
         raise Wrong("the axis has %s" % numbers)
 
 
-def lane_checked(picture, rule, top, bottom):
+def rule_row_checked(picture, rule, top, bottom):
     """A rule's violations: all of them one by one, or counted by groups and shaded by columns."""
     due = picture.due.rules[rule]
     between = [element for tag, element in picture.elements if tag == "path" and element.get("class") == "violation"]
@@ -198,7 +198,7 @@ def picture_checked(path, due):
         if kind == "flag":
             strip_checked(picture, "flag", marked, y - 10, y + 2)
         else:
-            lane_checked(picture, int(number), y, end if end < 1e9 else y + 60)
+            rule_row_checked(picture, int(number), y, end if end < 1e9 else y + 60)
     axis_checked(picture)
     words_checked(picture)
 

@@ -2,7 +2,7 @@
 
 use super::scale::Stretch;
 use super::share::Marked;
-use super::violations::{Broken, Rules};
+use super::violations::{RuleViolations, Rules};
 use crate::calendar::FLAGS;
 use crate::recorded::Recorded;
 use station_watch::Refusal;
@@ -21,7 +21,7 @@ pub struct Picture<'a> {
 pub struct Sheet<'a> {
     /// What it is called.
     pub name: &'a str,
-    pub rules: Vec<Broken<'a>>,
+    pub rules: Vec<RuleViolations<'a>>,
 }
 
 impl<'a> Picture<'a> {
@@ -38,10 +38,10 @@ impl<'a> Picture<'a> {
 
     /// All violations of all rules.
     pub fn violations(&self) -> u64 {
-        self.rules().iter().map(|broken| broken.count).sum()
+        self.rules().iter().map(|rule| rule.count).sum()
     }
 
-    pub fn rules(&self) -> &[Broken<'a>] {
+    pub fn rules(&self) -> &[RuleViolations<'a>] {
         self.sheet.as_ref().map_or(&[], |sheet| &sheet.rules)
     }
 }

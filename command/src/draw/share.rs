@@ -33,8 +33,25 @@ pub const ALL: usize = 5;
 
 /// The shades in words: the share of ticks that are marked. Flags are up seldom, so that the
 /// small shares are told apart.
-pub const SHADES: [&str; ALL + 1] =
-    ["none", "under 1/100", "under 1/10", "under 1/2", "under all", "all"];
+pub const SHADES: [(&str, usize); ALL + 1] = [
+    ("none", 0),
+    ("under 1/100", 1),
+    ("under 1/10", 2),
+    ("under 1/2", 3),
+    ("under all", 4),
+    ("all", ALL),
+];
+
+/// The shades in words where every tick has its own column: of a flag at one tick.
+const ONE_TICK: [(&str, usize); 2] = [("down", 0), ("up", ALL)];
+
+/// The shades in words of a flag in columns of so many ticks.
+pub fn flag_shades(each: u64) -> &'static [(&'static str, usize)] {
+    match each {
+        1 => &ONE_TICK,
+        _ => &SHADES,
+    }
+}
 
 /// The shade of so many marked ticks among all of a column.
 pub fn shade(marked: u64, ticks: u64) -> usize {

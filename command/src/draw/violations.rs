@@ -3,12 +3,14 @@
 use super::scale::Stretch;
 use super::share::Marked;
 use crate::answer::Stop;
-use crate::recorded::Growing;
+use crate::calendar::FLAGS;
+use crate::recorded;
 use crate::watch;
 use station_watch::{bodies, text_from_body, Calendar, Refusal, Triple, WatchSet};
 use std::path::Path;
 
-/// The most violations of a rule that are kept one by one. More are not drawn one by one.
+/// The most violations of a rule that are kept one by one: more than a text or a picture has
+/// room to draw so.
 const MOST: usize = 1_000;
 
 /// A tick that breaks a rule, and the step at which that was certain.
@@ -53,14 +55,21 @@ impl Kept {
     }
 }
 
+/// The calendar in which the ticks that break a rule are marked, and the flag that they are
+/// marked as.
+fn place(rule: usize) -> (usize, u8) {
+    let flags = usize::from(FLAGS);
+    (rule / flags, (rule % flags) as u8)
+}
+
 /// Rules that run over a stream from tick 0 on, and what they report of the ticks that are
-/// drawn. The ticks that break rule r are marked as flag r % 8 of calendar r / 8.
+/// drawn.
 pub struct Watched {
     set: WatchSet,
     drawn: Stretch,
     /// No tick that is drawn is open after so many steps.
     steps: u64,
-    calendars: Vec<Growing>,
+    calendars: Vec<Calendar>,
     rules: Vec<Kept>,
 }
 
@@ -70,7 +79,7 @@ impl Watched {
         let delay = set.rule_figures().iter().map(|figures| figures.delay).max().unwrap_or(0);
         let steps = drawn.last.saturating_add(delay as u64 + 1);
         let count = set.rule_figures().len();
-        let calendars = (0..count.div_ceil(8)).map(|_| Growing::default()).collect();
+        let calendars = vec![Calendar::default(); count.div_ceil(FLAGS.into())];
         let rules = (0..count).map(|_| Kept::default()).collect();
         Ok(Watched { set, drawn, steps, calendars, rules })
     }
@@ -83,7 +92,8 @@ impl Watched {
         self.set.steps(&flags[..needed], |Triple { rule, tick, step }| {
             let (rule, tick, step) = (rule as usize, tick.into(), step.into());
             if drawn.has(tick) {
-                calendars[rule / 8].fill(tick, &[1 << (rule % 8)]);
+                let (calendar, flag) = place(rule);
+                recorded::fill(&mut calendars[calendar], tick, &[1 << flag]);
                 rules[rule].take(Violation { tick, step });
             }
         })?;
@@ -93,8 +103,7 @@ impl Watched {
     pub fn ended(self) -> Result<Rules, Refusal> {
         let (sheet, ..) = self.set.parts();
         let texts: Result<Vec<String>, Refusal> = bodies(sheet)?.map(text_from_body).collect();
-        let calendars = self.calendars.into_iter().map(Growing::grown).collect();
-        Ok(Rules { texts: texts?, calendars, rules: self.rules })
+        Ok(Rules { texts: texts?, calendars: self.calendars, rules: self.rules })
     }
 }
 
@@ -105,8 +114,8 @@ pub struct Rules {
     rules: Vec<Kept>,
 }
 
-/// One of them.
-pub struct Broken<'a> {
+/// The violations of one of them, if there are any.
+pub struct RuleViolations<'a> {
     pub rule: usize,
     pub text: &'a str,
     /// The ticks that break it.
@@ -122,14 +131,15 @@ pub struct Broken<'a> {
 }
 
 impl Rules {
-    pub fn all(&self) -> Result<Vec<Broken<'_>>, Refusal> {
-        (0..self.rules.len()).map(|rule| self.broken(rule)).collect()
+    pub fn all(&self) -> Result<Vec<RuleViolations<'_>>, Refusal> {
+        (0..self.rules.len()).map(|rule| self.violations(rule)).collect()
     }
 
-    fn broken(&self, rule: usize) -> Result<Broken<'_>, Refusal> {
+    fn violations(&self, rule: usize) -> Result<RuleViolations<'_>, Refusal> {
         let Kept { listed, ends, later } = &self.rules[rule];
-        let marked = Marked { calendar: &self.calendars[rule / 8], flag: (rule % 8) as u8 };
-        Ok(Broken {
+        let (calendar, flag) = place(rule);
+        let marked = Marked { calendar: &self.calendars[calendar], flag };
+        Ok(RuleViolations {
             rule,
             text: &self.texts[rule],
             marked,

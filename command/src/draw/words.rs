@@ -1,4 +1,4 @@
-//! Names and numbers in words.
+//! Names, texts and numbers in words.
 
 /// The least of a name that is shown.
 const LEAST: usize = 10;
@@ -11,6 +11,15 @@ pub fn elided(name: &str, room: usize) -> String {
     }
     let end: String = name.chars().skip(count - (room - 2)).collect();
     format!("..{end}")
+}
+
+/// A text, or the beginning of one that has no room.
+pub fn shortened(text: &str, room: usize) -> String {
+    if text.chars().count() <= room {
+        return text.to_string();
+    }
+    let beginning: String = text.chars().take(room - 2).collect();
+    format!("{beginning}..")
 }
 
 /// So many of something: 1 rule, 4 rules. The number is written as it is to be seen.

@@ -1,6 +1,6 @@
 //! Tick numbers, and the lines that lead down from them.
 
-use super::page::{Page, LETTER};
+use super::page::{wide, Page, LETTER};
 use super::xml::px;
 use crate::draw::scale::round;
 use crate::draw::words::grouped;
@@ -10,7 +10,7 @@ const WIDE: f64 = 8.0;
 
 /// The ticks that are named: round ones, as far apart as their numbers need.
 fn named(page: &Page) -> Vec<u64> {
-    let room = (grouped(page.stretch.last).len() as f64 + 3.0) * LETTER;
+    let room = wide(&grouped(page.stretch.last)) + 3.0 * LETTER;
     page.stretch.named(round(|step| step as f64 * page.tick() >= room))
 }
 

@@ -1,7 +1,7 @@
 //! Violations that are too close to be seen one by one: columns are shaded, and above them is
 //! told how many violations a group has, and from which tick to which it goes.
 
-use super::page::{Page, LETTER};
+use super::page::{wide, Page, LETTER};
 use super::shades;
 use super::xml::px;
 use crate::draw::scale::{round, Stretch};
@@ -71,7 +71,7 @@ fn parts(stretch: Stretch, each: u64) -> Vec<Stretch> {
 
 /// How wide a count is, with room around it.
 fn room(count: &str) -> f64 {
-    (count.len() + 1) as f64 * LETTER
+    wide(count) + LETTER
 }
 
 /// Above the group's violations, but inside the group's part, so that no two counts touch.

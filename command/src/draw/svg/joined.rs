@@ -1,6 +1,6 @@
 //! Violations one by one: each tick above, its deciding step below, and a line between.
 
-use super::page::{Page, LEFT, LETTER, RIGHT};
+use super::page::{wide, Page, LEFT, RIGHT};
 use super::xml::px;
 use crate::draw::violations::Violation;
 use crate::draw::words::grouped;
@@ -15,7 +15,7 @@ pub fn draw(page: &mut Page, listed: &[Violation]) {
     let (top, bottom) = (page.y + 6.0, page.y + 28.0);
     for (name, y) in [("tick", top), ("step", bottom)] {
         page.words("side", (LEFT - 8.0, y + 4.0), name);
-        page.path("base", &format!("M{} {}H{}", px(LEFT), px(y), px(RIGHT)));
+        page.across("base", y);
     }
     for Violation { tick, step } in listed {
         let path = mark(page, *tick, *step, (top, bottom));
@@ -65,7 +65,7 @@ impl Label {
     /// From where to where it goes.
     fn extent(&self, page: &Page) -> (f64, f64) {
         let middle = (page.middle(self.first.tick) + page.middle(self.last.tick)) / 2.0;
-        let half = self.words().len() as f64 * LETTER / 2.0 + 4.0;
+        let half = wide(&self.words()) / 2.0 + 4.0;
         (middle - half, middle + half)
     }
 

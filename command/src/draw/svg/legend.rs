@@ -1,12 +1,12 @@
 //! What is seen, in words.
 
 use super::joined::{diamond, DOT};
-use super::lane;
-use super::page::{Page, LEFT, LETTER};
+use super::page::{wide, Page, LEFT};
+use super::rule_row;
 use super::xml::px;
 use crate::draw::picture::Picture;
-use crate::draw::share;
-use crate::draw::violations::Broken;
+use crate::draw::share::{flag_shades, SHADES};
+use crate::draw::violations::RuleViolations;
 use crate::draw::words::grouped;
 
 /// The height of a line.
@@ -14,14 +14,13 @@ const LINE: f64 = 24.0;
 
 /// A line for each kind of row.
 pub fn draw(page: &mut Page, picture: &Picture, each: u64) {
-    if each == 1 {
-        swatches(page, "flag", "Flags:", &[("down", 0), ("up", share::ALL)]);
-    } else {
-        let what = format!("Flags, share of each column's {} ticks that are up:", grouped(each));
-        swatches(page, "flag", &what, &all_shades());
-    }
-    let counted = |broken: &Broken| lane::one_by_one(page, broken).is_none();
-    let joined = |broken: &Broken| broken.count > 0 && !counted(broken);
+    let what = match each {
+        1 => "Flags:".to_string(),
+        _ => format!("Flags, share of each column's {} ticks that are up:", grouped(each)),
+    };
+    swatches(page, "flag", &what, flag_shades(each));
+    let counted = |rule: &RuleViolations| rule_row::one_by_one(page, rule).is_none();
+    let joined = |rule: &RuleViolations| rule.count > 0 && !counted(rule);
     let (joined, counted) =
         (picture.rules().iter().any(joined), picture.rules().iter().any(counted));
     if joined {
@@ -29,12 +28,8 @@ pub fn draw(page: &mut Page, picture: &Picture, each: u64) {
     }
     if counted {
         let what = "Rules, share of ticks that break the rule, and above how many:";
-        swatches(page, "broken", what, &all_shades());
+        swatches(page, "broken", what, &SHADES);
     }
-}
-
-fn all_shades() -> Vec<(&'static str, usize)> {
-    share::SHADES.into_iter().zip(0..).collect()
 }
 
 /// What is shaded, and a sample of each shade with its name.
@@ -42,11 +37,11 @@ fn swatches(page: &mut Page, class: &str, what: &str, shades: &[(&str, usize)]) 
     page.y += LINE;
     let y = page.y;
     page.words("small", (LEFT, y), what);
-    let mut x = LEFT + wide(what) + 12.0;
+    let mut x = LEFT + about(what) + 12.0;
     for (name, shade) in shades {
         page.path(&format!("{class}{shade}"), &format!("M{} {}h24", px(x), px(y - 4.0)));
         page.words("small", (x + 30.0, y), name);
-        x += 30.0 + wide(name) + 14.0;
+        x += 30.0 + about(name) + 14.0;
     }
 }
 
@@ -56,14 +51,14 @@ fn violation(page: &mut Page) {
     let y = page.y;
     let what = "Rules, each violation:";
     page.words("small", (LEFT, y), what);
-    let (x, middle) = (LEFT + wide(what) + 16.0, y - 4.0);
+    let (x, middle) = (LEFT + about(what) + 16.0, y - 4.0);
     let line = format!("M{} {}h60", px(x), px(middle));
     page.path("sample", &(diamond((x, middle), 4.0) + &line + DOT));
     let what = "from the tick that breaks the rule to the step at which that was certain";
     page.words("small", (x + 74.0, y), what);
 }
 
-/// About how wide words of the small font are.
-fn wide(words: &str) -> f64 {
-    words.len() as f64 * 0.88 * LETTER
+/// How wide a sentence is about: most letters are not as wide as can be.
+fn about(words: &str) -> f64 {
+    0.88 * wide(words)
 }

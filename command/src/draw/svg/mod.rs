@@ -3,9 +3,9 @@
 mod axis;
 mod counted;
 mod joined;
-mod lane;
 mod legend;
 mod page;
+mod rule_row;
 mod shades;
 mod xml;
 
@@ -91,9 +91,9 @@ fn rows(page: &mut Page, picture: &Picture, columns: &[Stretch]) -> Result<(), R
 }
 
 fn rules(page: &mut Page, picture: &Picture, columns: &[Stretch]) -> Result<(), Refusal> {
-    for broken in picture.rules() {
+    for violations in picture.rules() {
         page.y += 8.0;
-        lane::draw(page, broken, columns)?;
+        rule_row::draw(page, violations, columns)?;
     }
     Ok(())
 }

@@ -17,6 +17,11 @@ pub const LETTER: f64 = 7.0;
 /// The least width of marked ticks that stand alone, so that one of very many is seen.
 pub const LEAST: f64 = 2.0;
 
+/// How wide words of the small font are at most.
+pub fn wide(words: &str) -> f64 {
+    words.len() as f64 * LETTER
+}
+
 pub struct Page {
     pub stretch: Stretch,
     /// How far it is drawn, from the top.
@@ -57,6 +62,11 @@ impl Page {
     pub fn words(&mut self, class: &str, (x, y): (f64, f64), words: &str) {
         let (x, y, words) = (px(x), px(y), escaped(words));
         self.body += &format!("<text class=\"{class}\" x=\"{x}\" y=\"{y}\">{words}</text>\n");
+    }
+
+    /// A line of a class across all ticks.
+    pub fn across(&mut self, class: &str, y: f64) {
+        self.path(class, &format!("M{} {}H{}", px(LEFT), px(y), px(RIGHT)));
     }
 
     /// Lines of a class, as a path says them.

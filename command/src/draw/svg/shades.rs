@@ -1,13 +1,13 @@
 //! A strip of columns, each shaded by the share of its ticks that are marked.
 
-use super::page::{Page, LEAST, LEFT, RIGHT};
+use super::page::{Page, LEAST};
 use super::xml::px;
 use crate::draw::scale::Stretch;
 use crate::draw::share::{self, shade};
 
 /// Draws it around the height y: first what is not marked, then shade by shade.
 pub fn strip(page: &mut Page, class: &str, y: f64, columns: &[Stretch], counts: &[u64]) {
-    page.path(&format!("{class}0"), &format!("M{} {}H{}", px(LEFT), px(y), px(RIGHT)));
+    page.across(&format!("{class}0"), y);
     let runs = runs(columns, counts);
     for shade in 1..=share::ALL {
         let mut path = String::new();

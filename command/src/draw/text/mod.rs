@@ -7,13 +7,13 @@ mod rules;
 
 use super::picture::Picture;
 use super::scale::Stretch;
-use super::share::{self, shade};
+use super::share::{flag_shades, shade, ALL};
 use super::words::{counted, elided};
 use layout::{wrapped, Layout};
 use station_watch::Refusal;
 
-/// What stands for a shade.
-const MARKS: [char; share::ALL + 1] = ['.', '-', '-', '+', '%', '#'];
+/// A mark, and the last of the shades that it stands for. Shares under 1/10 are not told apart.
+const MARKS: [(char, usize); 5] = [('.', 0), ('-', 2), ('+', 3), ('%', 4), ('#', ALL)];
 
 pub fn drawn(picture: &Picture, width: usize) -> Result<String, Refusal> {
     let layout = Layout::of(picture.stretch, width);
@@ -23,11 +23,11 @@ pub fn drawn(picture: &Picture, width: usize) -> Result<String, Refusal> {
         let marks = shaded(&layout.columns, &counts);
         text += &layout.row(&format!("flag {flag}"), &marks, counts.iter().sum());
     }
-    for (place, broken) in picture.rules().iter().enumerate() {
+    for (place, violations) in picture.rules().iter().enumerate() {
         if place == 0 {
             text += &layout.headed("", "violations");
         }
-        text += &rules::rows(&layout, broken)?;
+        text += &rules::rows(&layout, violations)?;
     }
     text += &format!("\n{}", legend(&layout));
     if picture.sheet.is_some() {
@@ -54,16 +54,19 @@ fn title(picture: &Picture, width: usize) -> String {
 
 /// A mark for the shade of each column.
 fn shaded(columns: &[Stretch], counts: &[u64]) -> String {
-    let mark = |(column, count): (&Stretch, &u64)| MARKS[shade(*count, column.ticks())];
-    columns.iter().zip(counts).map(mark).collect()
+    let shades = columns.iter().zip(counts).map(|(column, count)| shade(*count, column.ticks()));
+    shades.map(|shade| MARKS[MARKS.iter().filter(|(_, last)| *last < shade).count()].0).collect()
 }
 
+/// The marks with the names of the shades that they stand for, of several the last.
 fn legend(layout: &Layout) -> String {
-    let marks = match layout.each {
-        1 => "# up  . down".to_string(),
-        each => {
-            format!("Of {each} ticks:  # all up  % half or more  + under 1/2  - under 1/10  . none")
-        }
-    };
-    wrapped(&marks, layout.width)
+    let mut phrases = Vec::new();
+    if layout.each > 1 {
+        phrases.push(format!("Of {} ticks, up:", layout.each));
+    }
+    for (mark, last) in MARKS.iter().rev() {
+        let named = flag_shades(layout.each).iter().find(|(_, shade)| shade == last);
+        phrases.extend(named.map(|(name, _)| format!("{mark} {name}")));
+    }
+    wrapped(&phrases.join("  "), layout.width)
 }

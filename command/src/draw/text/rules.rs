@@ -2,19 +2,19 @@
 //! or, where a column has several ticks, a digit says how many break it.
 
 use super::layout::{wrapped, Layout};
-use crate::draw::violations::{Broken, Violation};
+use crate::draw::violations::{RuleViolations, Violation};
 use station_watch::Refusal;
 
-pub fn rows(layout: &Layout, broken: &Broken) -> Result<String, Refusal> {
-    let name = format!("rule {}", broken.rule);
-    match broken.listed {
+pub fn rows(layout: &Layout, violations: &RuleViolations) -> Result<String, Refusal> {
+    let name = format!("rule {}", violations.rule);
+    match violations.listed {
         Some(listed) if layout.each == 1 => {
             let (ticks, steps) = lettered(layout, listed);
-            Ok(layout.row(&name, &ticks, broken.count) + &layout.row_below("  at", &steps))
+            Ok(layout.row(&name, &ticks, violations.count) + &layout.row_below("  at", &steps))
         }
         _ => {
-            let counts = broken.marked.counts(&layout.columns)?;
-            Ok(layout.row(&name, &numbered(&counts), broken.count))
+            let counts = violations.marked.counts(&layout.columns)?;
+            Ok(layout.row(&name, &numbered(&counts), violations.count))
         }
     }
 }
