@@ -1,5 +1,5 @@
 #!/usr/bin/env python3
-"""The figures of bodies, worked out from the papers alone ("Figures" of document 01), for crates/cases.
+"""The figures of bodies, worked out from the papers alone ("Figures" of document 01, with point 6 of 02), for crates/cases.
 
   python3 tests/oracle/figures.py crates/cases/data/bodies.txt     what that program must write for it
 
@@ -32,6 +32,12 @@ def pair_of_range(formula, pairs):
     return (pair_of_bound(formula[1], pairs)[0], pair_of_bound(formula[2], pairs)[1])
 
 
+def always_empty(own):
+    """02, point 6: "a range whose l is infinity, or whose l is greater than its u"; its body isn't counted at all."""
+    low, high = own
+    return low == INF or low > high
+
+
 def delay(f, pairs):
     if f[0] == "flag":
         return 0
@@ -40,6 +46,8 @@ def delay(f, pairs):
     if f[0] in ("then", "beside"):
         return max(delay(f[1], pairs), delay(f[2], pairs))
     own = pair_of_range(f, pairs)
+    if always_empty(own):
+        return 0
     return max(delay(f[3], pairs + [own]), positive(own[1]))
 
 
@@ -53,12 +61,9 @@ def history(f, pairs, k):
     if f[0] == "then":
         return max(history(f[1], pairs, k), history(f[2], pairs, max(k, delay(f[1], pairs))))
     low, high = pair_of_range(f, pairs)
-    if low == INF:
-        own = 0
-    elif low == -INF:
-        own = INF
-    else:
-        own = positive(k - low)
+    if always_empty((low, high)):
+        return 0
+    own = INF if low == -INF else positive(k - low)
     return max(own, history(f[3], pairs + [(low, high)], max(k, positive(high))))
 
 
@@ -72,10 +77,9 @@ def cells(f, pairs):
     if f[0] == "beside":
         return 1 + cells(f[1], pairs) + cells(f[2], pairs)
     low, high = pair_of_range(f, pairs)
-    width = 0 if low == INF or low > high else high - low + 1
-    if width == 0:
+    if always_empty((low, high)):
         return 1
-    return 1 + width * (1 + cells(f[3], pairs + [(low, high)]))
+    return 1 + (high - low + 1) * (1 + cells(f[3], pairs + [(low, high)]))
 
 
 def figures(data):
