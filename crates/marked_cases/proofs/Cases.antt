@@ -5,16 +5,17 @@ use Rattle.refusal.specs.Answer.{and-then}
 use Rattle.words.specs.Words.{word}
 use Rattle.sheet.specs.Sheet.{has-contents, entry-fits, laid-out, body-offset, extent, rule-place, rule-body}
 use Rattle.rule.specs.Body.{require, signed, bound, require-bound, fixed, after-code, head, one, two, parts, formula, formula-at, whole, body}
-use Rattle.rule.specs.Figures.{larger, plus, times, shift, at-tick, anywhere, bound-pair, range-pair, N, N-back, positions-from, width, delay, history, cells, needed, limit-cells, limit-history, limit-delay, figures, body-figures}
+use Rattle.rule.specs.Figures.{larger, plus, times, shift, at-tick, anywhere, bound-pair, range-pair, N, N-back, positions-from, width, none-between, always-empty, unless-empty, delay, history, cells, needed, limit-cells, limit-history, limit-delay, figures, body-figures}
 use Rattle.rule.specs.Meaning.{opposite, after, both, up, point, up-to, positions, range, walk, seen, every, outcome, rule}
 use Rattle.rule.specs.Recording.{over-recording}
 use Rattle.rule.specs.Steps.{false-at, is-open, passing, report, live}
 use Rattle.marked_cases.specs.Marked.{Marked}
 use Rattle.marked_cases.specs.Orders.{nots, besides, nested, Limits, Orders, Bounds}
+use Rattle.marked_cases.specs.EmptyRanges.{EmptyRanges}
 use Rattle.marked_cases.specs.Runs.{ExampleRun, Recorded}
 
 pub marked : Marked
-unfolding and-then word has-contents entry-fits laid-out body-offset extent rule-place rule-body require signed bound require-bound fixed after-code head one two parts formula formula-at whole body larger plus times shift at-tick anywhere bound-pair range-pair N N-back positions-from width delay history cells needed limit-cells limit-history limit-delay figures body-figures opposite after both up point up-to positions range walk seen every outcome rule
+unfolding and-then word has-contents entry-fits laid-out body-offset extent rule-place rule-body require signed bound require-bound fixed after-code head one two parts formula formula-at whole body larger plus times shift at-tick anywhere bound-pair range-pair N N-back positions-from width none-between always-empty unless-empty delay history cells needed limit-cells limit-history limit-delay figures body-figures opposite after both up point up-to positions range walk seen every outcome rule
 marked =
     record {
       example-is = refl;
@@ -26,6 +27,8 @@ marked =
       to-zero = refl;
       to-infinity = refl;
       from-infinity = refl;
+      infinity-to-infinity = refl;
+      above-its-end = refl;
       cells-within = refl;
       cells-above = refl;
       delay-within = refl;
@@ -34,7 +37,7 @@ marked =
     }
 
 pub limits : Limits
-unfolding and-then word has-contents entry-fits laid-out body-offset extent rule-place rule-body require signed bound require-bound fixed after-code head one two parts formula formula-at whole body larger plus times shift at-tick anywhere bound-pair range-pair N N-back positions-from width delay history cells needed limit-cells limit-history limit-delay figures body-figures nots besides nested
+unfolding and-then word has-contents entry-fits laid-out body-offset extent rule-place rule-body require signed bound require-bound fixed after-code head one two parts formula formula-at whole body larger plus times shift at-tick anywhere bound-pair range-pair N N-back positions-from width none-between always-empty unless-empty delay history cells needed limit-cells limit-history limit-delay figures body-figures nots besides nested
 limits =
     record {
       history-within = refl;
@@ -53,7 +56,7 @@ limits =
     }
 
 pub orders : Orders
-unfolding and-then word has-contents entry-fits laid-out body-offset extent rule-place rule-body require signed bound require-bound fixed after-code head one two parts formula formula-at whole body larger plus times shift at-tick anywhere bound-pair range-pair N N-back positions-from width delay history cells needed limit-cells limit-history limit-delay figures body-figures
+unfolding and-then word has-contents entry-fits laid-out body-offset extent rule-place rule-body require signed bound require-bound fixed after-code head one two parts formula formula-at whole body larger plus times shift at-tick anywhere bound-pair range-pair N N-back positions-from width none-between always-empty unless-empty delay history cells needed limit-cells limit-history limit-delay figures body-figures
 orders =
     record {
       empty = refl;
@@ -119,6 +122,35 @@ bounds =
       cut-before-infinity = refl;
       nesting-before-byte = refl;
       left-before-byte = refl;
+    }
+
+pub empty-ranges : EmptyRanges
+unfolding word require signed bound require-bound fixed after-code head one two parts formula formula-at whole body larger plus times shift at-tick anywhere bound-pair range-pair N N-back positions-from width none-between always-empty unless-empty delay history cells needed limit-cells limit-history limit-delay figures opposite point positions range every outcome rule
+empty-ranges =
+    record {
+      infinity-to-later = refl;
+      just-above = refl;
+      equal = refl;
+      above-for-all-outer = refl;
+      from-the-start = refl;
+      none-at-any-tick = refl;
+      over-the-start = refl;
+      over-no-end = refl;
+      over-far = refl;
+      over-empty = refl;
+      under-not = refl;
+      first-of-then = refl;
+      second-of-then = refl;
+      beside-a-flag = refl;
+      in-a-range = refl;
+      true-at-once = λ flags t p. refl;
+      false-under-not = λ flags t p. refl;
+      body-missing = refl;
+      unknown-code = refl;
+      not-bound = refl;
+      flag-8 = refl;
+      nested-five = refl;
+      left-over = refl;
     }
 
 pub run : ExampleRun

@@ -1,3 +1,4 @@
 pub mod Marked
 pub mod Orders
 pub mod Runs
+pub mod EmptyRanges

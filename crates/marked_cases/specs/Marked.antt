@@ -1,4 +1,4 @@
--- The marked cases of document 01, "Proving ground", as one proposition. proofs/Cases.antt proves it.
+-- The marked cases of document 01, "Proving ground", with those of document 02's point 6, as one proposition. proofs/Cases.antt proves it.
 use Prim.Native.Nat.{ℕ}
 use mathlib.Core.Path.{_≡_}
 use mathlib.Core.List.{List, [], _∷_}
@@ -55,6 +55,9 @@ pub record Marked : Type 0 where
   pub to-zero : figures (all-up (X+ 0) (origin (pos 0))) ≡ figures-are 0 0 3
   pub to-infinity : figures (all-up (X+ 0) infinity) ≡ refused 11
   pub from-infinity : figures (all-up infinity (X+ 0)) ≡ figures-are 0 0 2
+  -- 02, point 6: "the marked case infinity..X keeps 0, 0, 2; infinity..infinity and X+5..X+2 are accepted with the same figures"
+  pub infinity-to-infinity : figures (all-up infinity infinity) ≡ figures-are 0 0 2
+  pub above-its-end : figures (all-up (X+ 5) (X+ 2)) ≡ figures-are 0 0 2
   -- X..X+62: 4,095 cells; X..X+63: 15. X+255..X+255: 768 cells; X+256..X+256: 12
   pub cells-within : figures (all-up (X+ 0) (X+ 62)) ≡ figures-are 0 62 4095
   pub cells-above : figures (all-up (X+ 0) (X+ 63)) ≡ refused 15
