@@ -2,13 +2,13 @@
 use Prim.Native.Nat.{ℕ, suc, _+_, _*_, _-_, _≤_, _<_}
 use mathlib.Core.Path.{_≡_, refl, sym, ap, _∙_, subst}
 use mathlib.Core.Logic.{_⊎_, inl, inr}
-use mathlib.Core.Bool.{false}
+use mathlib.Core.Bool.{true, false, true≢false}
 use mathlib.Core.List.{List, [], _∷_, _++_}
 use native.Mathlib.Omega.{arith}
 use lib.ListN.{length, getD, set}
 use lib.Seq.{getD-set-same, getD-set-other}
 use Rattle.rule.specs.Formula.{Bound, Formula, flag, negate, then, beside, forall}
-use Rattle.rule.specs.Figures.{larger, range-pair, N}
+use Rattle.rule.specs.Figures.{larger, range-pair, N, always-empty}
 use Rattle.rule.specs.declared.Size.{Size}
 use Rattle.rule.specs.declared.Pair.{Pair}
 use Rattle.nodes.specs.Table.{bound-at, Holds}
@@ -19,10 +19,10 @@ use Rattle.nodes.proofs.Nots.{over-nots}
 use Rattle.figures.specs.declared.scope.Scope.{Scope}
 use Rattle.figures.specs.declared.measure.Figure.{Figure}
 use Rattle.figures.specs.Distances.{inside, Near, farthest, Modest}
-use Rattle.figures.specs.Parts.{flag-figure, then-figure, beside-figure, range-figure, FigureOf}
+use Rattle.figures.specs.Parts.{flag-figure, then-figure, beside-figure, empty-figure, range-figure, FigureOf}
 use Rattle.figures.specs.Measured.{SizesAt, Measured, Promise, Measures}
 use Rattle.figures.proofs.Distances.{modest-larger, modest-delay}
-use Rattle.figures.proofs.Parts.{flag-of, negate-of, then-of, beside-of, forall-of}
+use Rattle.figures.proofs.Parts.{flag-of, negate-of, then-of, beside-of, empty-of, forall-of}
 
 -- sizes depend only on the formula's own words
 two-sizes : (F G : Formula) (old new : List ℕ) (ps : List Pair) (m i e : ℕ) → Same old new i e
@@ -48,11 +48,16 @@ keep-sizes (beside F G) old new ps m i e s h z =
       s (i + 9) (omega arith) (omega arith) ∙ z .0,
       two-sizes F G old new ps m i e s (λ e′ x. keep-sizes F old new ps m (i + 12) e′ x) (λ j x. keep-sizes G old new ps m j e x) (h .1 .0) (h .1 .1) (z .1),
     )
-keep-sizes (forall B C F) old new ps m i e s h z =
+keep-sizes (forall B C F) old new ps m i e s h z = λ some.
     let a : i + 12 ≤ e = ends (forall B C F) old m i e h in (
-      s (i + 8) (omega arith) (omega arith) ∙ z .0,
-      keep-sizes F old new (ps ++ (range-pair B C ps ∷ [])) (m + 1) (i + 12) e (λ k x y. s k (omega arith) y) (h .1 .1 .1 .1) (z .1),
+      s (i + 8) (omega arith) (omega arith) ∙ z some .0,
+      keep-sizes F old new (ps ++ (range-pair B C ps ∷ [])) (m + 1) (i + 12) e (λ k x y. s k (omega arith) y) (h .1 .1 .1 .1) (z some .1),
     )
+
+-- the pair of the bounds in the table is the formula's
+range-read : (ns : List ℕ) (i : ℕ) (ps : List Pair) (B C : Bound) (R : Pair) → R ≡ range-pair (bound-at ns (i + 1)) (bound-at ns (i + 4)) ps
+    → bound-at ns (i + 1) ≡ B → bound-at ns (i + 4) ≡ C → R ≡ range-pair B C ps
+range-read ns i ps B C R eR b c = eR ∙ ap (λ (x : Bound). range-pair x (bound-at ns (i + 4)) ps) b ∙ ap (λ (x : Bound). range-pair B x ps) c
 
 -- ---- the arms that write nothing
 
@@ -75,6 +80,18 @@ module _ (ns : List ℕ) (left m i w : ℕ) (ps : List Pair) (start : Size) (q :
   flag-arm r a b c d f (then F G) e h l n = absurd (b (omega arith))
   flag-arm r a b c d f (beside F G) e h l n = absurd (c (omega arith))
   flag-arm r a b c d f (forall B C F) e h l n = absurd (d (omega arith))
+
+  -- a range that is always empty: R its variable's pair
+  pub empty-arm : (R : Pair) (r : Figure) → R ≡ range-pair (bound-at ns (i + 1)) (bound-at ns (i + 4)) ps → always-empty R ≡ true → w ≡ 5 → r ≡ empty-figure
+      → Promise left m i ps start ns ns r
+  unfolding Holds SizesAt
+  empty-arm R r eR z k f (forall B C F) e h l n =
+      let none : always-empty (range-pair B C ps) ≡ true = ap always-empty (sym (range-read ns i ps B C R eR (h .1 .1 .0) (h .1 .1 .1 .0))) ∙ z in
+      record { figure = rw f (empty-of B C F ps start none); holds = h; sizes = λ some. absurd (true≢false (sym none ∙ some)); outside = λ k x. refl }
+  empty-arm R r eR z k f (flag v b) e h l n = absurd (omega arith)
+  empty-arm R r eR z k f (negate F) e h l n = absurd (omega arith)
+  empty-arm R r eR z k f (then F G) e h l n = absurd (omega arith)
+  empty-arm R r eR z k f (beside F G) e h l n = absurd (omega arith)
 
 -- ---- nots: the figures and the sizes of what stands under them
 
@@ -203,8 +220,8 @@ module _ (old : List ℕ) (left m i w : ℕ) (ps : List Pair) (start : Size) (q 
     beside-arm n₃ c p′ len′ en er (then F G) e h l n = absurd (omega arith)
     beside-arm n₃ c p′ len′ en er (forall B C F) e h l n = absurd (omega arith)
 
-  -- a quantifier: R its variable's pair
-  module _ (R : Pair) (eR : R ≡ range-pair (bound-at old (i + 1)) (bound-at old (i + 4)) ps) (c : w ≡ 5) (k : Size) (ek : k ≡ larger start (N (R .upper)))
+  -- any other range
+  module _ (R : Pair) (eR : R ≡ range-pair (bound-at old (i + 1)) (bound-at old (i + 4)) ps) (some : always-empty R ≡ false) (c : w ≡ 5) (k : Size) (ek : k ≡ larger start (N (R .upper)))
       (ps′ : List Pair) (ep : ps′ ≡ ps ++ (R ∷ [])) (n₁ n₃ : List ℕ) (f r : Figure) (len : length n₁ ≡ length old)
       (en : n₃ ≡ set n₁ (i + 8) (4 * (1 + f .cells))) where
     other : (x : ℕ) → (x ≡ i + 8 → ⊥) → getD n₃ x 0 ≡ getD n₁ x 0
@@ -218,13 +235,13 @@ module _ (old : List ℕ) (left m i w : ℕ) (ps : List Pair) (start : Size) (q 
     forall-arm er p (forall B C F) e h l n =
         let bound : i + 12 ≤ e = ends (forall B C F) old m i e h in
         let x : Measured F ps′ k (m + 1) (i + 12) e old n₁ f = p F e (h .1 .1 .1 .1) (omega (arith, z)) n in
-        let eQ : R ≡ range-pair B C ps = eR ∙ ap (λ (b : Bound). range-pair b (bound-at old (i + 4)) ps) (h .1 .1 .0) ∙ ap (λ (b : Bound). range-pair B b ps) (h .1 .1 .1 .0) in
+        let eQ : R ≡ range-pair B C ps = range-read old i ps B C R eR (h .1 .1 .0) (h .1 .1 .1 .0) in
         let eP : ps′ ≡ ps ++ (range-pair B C ps ∷ []) = ep ∙ ap (λ (y : Pair). ps ++ (y ∷ [])) eQ in
         let eK : k ≡ larger start (N ((range-pair B C ps) .upper)) = ek ∙ ap (λ (y : Pair). larger start (N (y .upper))) eQ in
         let fig : FigureOf F (ps ++ (range-pair B C ps ∷ [])) (larger start (N ((range-pair B C ps) .upper))) f =
         subst (λ (y : Size). FigureOf F (ps ++ (range-pair B C ps ∷ [])) y f) eK (subst (λ (y : List Pair). FigureOf F y k f) eP (x .figure)) in
         record {
-          figure = subst (λ (y : Figure). FigureOf (forall B C F) ps start y) (sym (er ∙ ap (λ (y : Pair). range-figure y start f) eQ)) (forall-of B C F ps start f fig);
+          figure = subst (λ (y : Figure). FigureOf (forall B C F) ps start y) (sym (er ∙ ap (λ (y : Pair). range-figure y start f) eQ)) (forall-of B C F ps start f (ap always-empty (sym eQ) ∙ some) fig);
           holds = (
             same (i + 0) (omega arith) (λ d. omega arith) x ∙ h .0,
             (
@@ -238,7 +255,7 @@ module _ (old : List ℕ) (left m i w : ℕ) (ps : List Pair) (start : Size) (q 
               ),
             ),
           );
-          sizes = (
+          sizes = λ live. (
             written (omega arith) ∙ ap (λ (n : ℕ). 4 * (1 + n)) (fig .cells-is),
             keep-sizes F n₁ n₃ (ps ++ (range-pair B C ps ∷ [])) (m + 1) (i + 12) e (λ t u v. other t (λ d. omega arith)) (x .holds) (subst (λ (y : List Pair). SizesAt F n₁ y (i + 12)) eP (x .sizes)),
           );
@@ -267,6 +284,10 @@ Safe r = (r .cells ≤ 4097) × Modest (r .delay)
 pub flag-safe : (r : Figure) → r ≡ flag-figure → Safe r
 unfolding flag-figure
 flag-safe r e = subst Safe (sym e) (omega arith, omega arith)
+
+pub empty-safe : (r : Figure) → r ≡ empty-figure → Safe r
+unfolding empty-figure
+empty-safe r e = subst Safe (sym e) (omega arith, omega arith)
 
 pub then-safe : (f g r : Figure) → r ≡ then-figure f g → Modest (f .delay) → Modest (g .delay) → Safe r
 unfolding then-figure

@@ -2,10 +2,11 @@
 use Prim.Native.Nat.{ℕ, _+_, _*_, _≤_, _<_}
 use mathlib.Core.Path.{_≡_}
 use mathlib.Core.Logic.{_⊎_}
+use mathlib.Core.Bool.{false}
 use mathlib.Core.List.{List, [], _∷_, _++_}
 use lib.ListN.{length, getD}
 use Rattle.rule.specs.Formula.{Formula, flag, negate, then, beside, forall}
-use Rattle.rule.specs.Figures.{range-pair, cells}
+use Rattle.rule.specs.Figures.{range-pair, always-empty, cells}
 use Rattle.rule.specs.declared.Size.{Size}
 use Rattle.rule.specs.declared.Pair.{Pair}
 use Rattle.nodes.specs.Table.{Holds}
@@ -16,7 +17,8 @@ use Rattle.figures.specs.Distances.{inside, Modest}
 use Rattle.figures.specs.Parts.{FigureOf}
 
 -- Beside: word 9 is the words of the first part's run. For all: word 8 is the words of one position's slot. Both are made of cells that are
--- counted up to 4,097: within the limits these are 01's figures.
+-- counted up to 4,097: within the limits these are 01's figures. A range that is always empty has no size, and nothing is said of its body's words: the
+-- engine never looks at them.
 unfoldable pub SizesAt : Formula → List ℕ → List Pair → ℕ → Type 0
 SizesAt (flag variable k) ns ps node = Unit {0}
 SizesAt (negate F) ns ps node = SizesAt F ns ps (node + 12)
@@ -24,7 +26,8 @@ SizesAt (then F G) ns ps node = SizesAt F ns ps (node + 12) × SizesAt G ns ps (
 SizesAt (beside F G) ns ps node =
     (getD ns (node + 9) 0 ≡ 4 * cap (cells F ps)) × (SizesAt F ns ps (node + 12) × SizesAt G ns ps (getD ns (node + 7) 0))
 SizesAt (forall B₁ B₂ F) ns ps node =
-    (getD ns (node + 8) 0 ≡ 4 * (1 + cap (cells F (ps ++ (range-pair B₁ B₂ ps ∷ [])))))
+    always-empty (range-pair B₁ B₂ ps) ≡ false
+    → (getD ns (node + 8) 0 ≡ 4 * (1 + cap (cells F (ps ++ (range-pair B₁ B₂ ps ∷ [])))))
     × SizesAt F ns (ps ++ (range-pair B₁ B₂ ps ∷ [])) (node + 12)
 
 -- What measuring the formula F in the words from `node` to `end` answers and writes.

@@ -28,6 +28,10 @@ beside-figure first second =
       cells = beside-cells (first .cells) (second .cells);
     }
 
+-- A range that is always empty; any other range.
+unfoldable pub empty-figure : Figure
+empty-figure = record { delay = Finite 0; history = Finite 0; cells = 1 }
+
 unfoldable pub range-figure : Pair → Size → Figure → Figure
 range-figure pair k figure =
     record {

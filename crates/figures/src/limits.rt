@@ -1,13 +1,12 @@
-// Numbers with a sign and infinite ones: 01's N(u), N(k - l) and W.
+// Numbers with a sign and infinite ones: a limit moved by an offset, 01's N(k - l) and W.
 ghost use mathlib.Core.Path.{_≡_};
 ghost use Prim.Native.Nat.{_*_, _≤_};
 ghost use lib.IntN.{natAbs, pos, _+ℤ_, _-ℤ_};
-ghost use Rattle.rule.specs.Figures.{shift, N, N-back, positions-from, larger};
+ghost use Rattle.rule.specs.Figures.{shift, N-back, positions-from};
 ghost use Rattle.cell_count.specs.Counts.{cap};
 ghost use Rattle.figures.specs.Distances.{Near, farthest, Modest};
 use cell_count::ABOVE_LIMIT;
 use cell_count::capped;
-use outcomes::later;
 use rule::Limit;
 use rule::Size;
 use signed::at_least_zero;
@@ -34,19 +33,6 @@ fn as_signed(number: u64) -> i64
     number as i64
 }
 
-// The larger of two sizes: infinite where one is.
-pub(crate) fn larger_size(first: Size, second: Size) -> Size
-    ensures { λ r. ⌜ r ≡ larger first second ⌝ }
-{
-    match first {
-        Size::Unbounded => Size::Unbounded,
-        Size::Finite(one) => match second {
-            Size::Unbounded => Size::Unbounded,
-            Size::Finite(other) => Size::Finite(later(one, other)),
-        },
-    }
-}
-
 // A limit moved by an offset; an infinite one stays.
 pub(crate) fn shifted(limit: Limit, offset: i64) -> Limit
     requires { ⌜ Near farthest limit × (natAbs offset ≤ farthest) ⌝ }
@@ -56,17 +42,6 @@ pub(crate) fn shifted(limit: Limit, offset: i64) -> Limit
         Limit::Lowest => Limit::Lowest,
         Limit::At(distance) => Limit::At(sum(distance, offset)),
         Limit::Highest => Limit::Highest,
-    }
-}
-
-// N(u), a range's own delay.
-pub(crate) fn range_delay(u: Limit) -> Size
-    ensures { λ r. ⌜ r ≡ N u ⌝ }
-{
-    match u {
-        Limit::Lowest => Size::Finite(0),
-        Limit::At(distance) => Size::Finite(at_least_zero(distance)),
-        Limit::Highest => Size::Unbounded,
     }
 }
 

@@ -6,10 +6,8 @@ ghost use lib.ListN.{set};
 ghost use Rattle.rule.specs.Figures.{N, larger, at-tick};
 ghost use Rattle.rule.specs.declared.Size.the-variants.{Finite};
 ghost use Rattle.figures.specs.Distances.{Near, farthest, Modest, Measurable};
-ghost use Rattle.figures.specs.Parts.{flag-figure, then-figure, beside-figure, range-figure};
+ghost use Rattle.figures.specs.Parts.{flag-figure, then-figure, beside-figure, empty-figure, range-figure};
 ghost use Rattle.figures.specs.Measured.{Measures, Promise};
-use crate::limits::larger_size;
-use crate::limits::range_delay;
 use crate::limits::range_history;
 use crate::limits::range_width;
 use crate::scope::Scope;
@@ -33,6 +31,9 @@ use nodes::skip_nots;
 use rule::Limit;
 use rule::Pair;
 use rule::Size;
+use sizes::always_empty;
+use sizes::larger_size;
+use sizes::range_delay;
 
 // A formula's figures; its cells are counted up to 4,097.
 pub(crate) struct Figure {
@@ -79,7 +80,18 @@ fn beside_figure(first: Figure, second: Figure) -> Figure
     }
 }
 
-// A range whose variable has `pair`, started at k at the latest, over a body with `figure`.
+// A range that is always empty, whatever its body.
+fn empty_figure() -> Figure
+    ensures { λ r. ⌜ r ≡ empty-figure ⌝ }
+{
+    Figure {
+        delay: Size::Finite(0),
+        history: Size::Finite(0),
+        cells: 1,
+    }
+}
+
+// Any other range, whose variable has `pair`, started at k at the latest, over a body with `figure`.
 fn range_figure(pair: Pair, k: Size, figure: Figure) -> Figure
     requires { ⌜ Near farthest (pair .lower) × (Near farthest (pair .upper) × Modest k) ⌝ }
     ensures { λ r. ⌜ r ≡ range-figure pair k figure ⌝ }
@@ -117,7 +129,7 @@ fn store(nodes: &mut [u32], node: usize, index: usize, value: u16)
 }
 
 // The figures of the formula at word `node`, inside `depth` quantifiers and started at k at the latest, with the sizes of its nodes stored.
-// A not has its part's figures and no sizes: a run of nots is skipped.
+// A not has its part's figures and no sizes: a run of nots is skipped. The body of a range that is always empty is not looked at and gets no sizes.
 fn measure_at(
     nodes: &mut [u32],
     left: usize,
@@ -174,6 +186,9 @@ fn measure_at(
             return flag_figure();
         }
         let pair = range_pair(nodes, operand.node, scope, depth);
+        if always_empty(pair) {
+            return empty_figure();
+        }
         let inner = body_start(pair, k);
         let figure = measure_at(
             nodes,

@@ -9,15 +9,15 @@ use Rattle.nodes.proofs.Nodes.{word-in}
 use Rattle.nodes.proofs.Nots.{nots-left, nots-end}
 use Rattle.figures.specs.Distances.{inside, Near, farthest}
 use Rattle.figures.proofs.Distances.{near-more, lower-near, upper-near, body-begun, body-within, modest-larger}
-use Rattle.figures.proofs.Arms.{none-left, deep-arm, flag-arm, then-arm, beside-arm, forall-arm, above-nots, flag-safe, then-safe, beside-safe, range-safe}
+use Rattle.figures.proofs.Arms.{none-left, deep-arm, flag-arm, then-arm, beside-arm, empty-arm, forall-arm, above-nots, flag-safe, then-safe, beside-safe, empty-safe, range-safe}
 use borrow.Fn.Kinds.{In}
 use borrow.Fn.PlainCycle.{Measures, is, falls, and}
 use Rattle.figures.proofs.measure.measure_at.Reads as measure-at
 use Rattle.figures.proofs.measure.measure_at.Kinds as measure-at-kinds
 use Rattle.figures.proofs.measure.+measure_at.Lts-measure_at as measure-at-lts
-use Rattle.figures.proofs.limits.larger_size.Reads as larger-size-reads
 use Rattle.figures.proofs.measure.beside_figure.Reads as beside-figure-reads
 use Rattle.figures.proofs.measure.body_start.Reads as body-start-reads
+use Rattle.figures.proofs.measure.empty_figure.Reads as empty-figure-reads
 use Rattle.figures.proofs.measure.flag_figure.Reads as flag-figure-reads
 use Rattle.figures.proofs.measure.range_figure.Reads as range-figure-reads
 use Rattle.figures.proofs.measure.store.Reads as store-reads
@@ -26,6 +26,8 @@ use Rattle.figures.proofs.scope.range_pair.Reads as range-pair-reads
 use Rattle.figures.proofs.scope.with_pair.Reads as with-pair-reads
 use Rattle.nodes.proofs.node_word.Reads as node-word-reads
 use Rattle.nodes.proofs.skip_nots.Reads as skip-nots-reads
+use Rattle.sizes.proofs.always_empty.Reads as always-empty-reads
+use Rattle.sizes.proofs.larger_size.Reads as larger-size-reads
 use Rattle.figures.proofs.measure.+measure_at.{statement}
 use Rattle.figures.proofs.measure.+measure_at.Tie.{close}
 
@@ -41,7 +43,7 @@ measure-at-below t =
     and 1 measure-at-kinds.ps (falls 1 measure-at-kinds.ps _<_ μ-measure-at t) measure-at.Pre
 
 abbrev measure-at-claims : ℕ → measure-at-lts.Claims
-measure-at-claims t = (skip-nots-reads.Asked, skip-nots-reads.Learnt, flag-figure-reads.Asked, flag-figure-reads.Learnt, node-word-reads.Asked, node-word-reads.Learnt, measure-at-below t, measure-at.Post, larger-size-reads.Asked, larger-size-reads.Learnt, then-figure-reads.Asked, then-figure-reads.Learnt, store-reads.Asked, store-reads.Learnt, beside-figure-reads.Asked, beside-figure-reads.Learnt, range-pair-reads.Asked, range-pair-reads.Learnt, body-start-reads.Asked, body-start-reads.Learnt, with-pair-reads.Asked, with-pair-reads.Learnt, range-figure-reads.Asked, range-figure-reads.Learnt)
+measure-at-claims t = (skip-nots-reads.Asked, skip-nots-reads.Learnt, flag-figure-reads.Asked, flag-figure-reads.Learnt, node-word-reads.Asked, node-word-reads.Learnt, measure-at-below t, measure-at.Post, larger-size-reads.Asked, larger-size-reads.Learnt, then-figure-reads.Asked, then-figure-reads.Learnt, store-reads.Asked, store-reads.Learnt, beside-figure-reads.Asked, beside-figure-reads.Learnt, range-pair-reads.Asked, range-pair-reads.Learnt, always-empty-reads.Asked, always-empty-reads.Learnt, empty-figure-reads.Asked, empty-figure-reads.Learnt, body-start-reads.Asked, body-start-reads.Learnt, with-pair-reads.Asked, with-pair-reads.Learnt, range-figure-reads.Asked, range-figure-reads.Learnt)
 
 -- what is known of a quantifier's pair
 abbrev Ranged : ℕ → Type 0
@@ -310,40 +312,72 @@ measure-at-range-pair-requires measure c κs =
     let u = at-skip-nots .result in
     (word-in old (u .node) 4 (sym (at-node-word .ensures) ∙ at-if4 .taken), (s₀ .pre .1 .nested, s₀ .pre .1 .within))
 
+measure-at-always-empty-requires : (t : ℕ) → measure-at-lts.Need-always-empty-requires (measure-at-claims t) (measure-at-at t) measure-at.Post
+measure-at-always-empty-requires t c κs = tt
+
+measure-at-empty-figure-requires : (t : ℕ) → measure-at-lts.Need-empty-figure-requires (measure-at-claims t) (measure-at-at t) measure-at.Post
+measure-at-empty-figure-requires t c κs = tt
+
+measure-at-same-length-5 : (t : ℕ) → measure-at-lts.Need-same-length-5 (measure-at-claims t) (measure-at-at t) measure-at.Post
+measure-at-same-length-5 t c = search needs
+
+measure-at-returns-5 : (t : ℕ) → measure-at-lts.Need-returns-5 (measure-at-claims t) (measure-at-at t) measure-at.Post
+measure-at-returns-5 measure c =
+    let s₀ = c .before .before .before .before .before .before .before .before .before .before .before .before .before .before .before .before in
+    let at-skip-nots = c .before .before .before .before .before .before .before .before .before .before .before .before .before .skip-nots in
+    let at-node-word = c .before .before .before .before .before .before .before .before .before .node-word in
+    let at-if4 = c .before .before .before .before .before .before .if4 in
+    let at-range-pair = c .before .before .before .range-pair in
+    let at-always-empty = c .before .before .always-empty in
+    let at-if6 = c .before .if6 in
+    let at-empty-figure = c .empty-figure in
+    let old = s₀ .args .nodes .now in
+    let left = s₀ .args .left in
+    let m = s₀ .args .depth in
+    let i = s₀ .args .node in
+    let sc = s₀ .args .scope in
+    let ps = inside (s₀ .args .scope) (s₀ .args .depth) in
+    let k = s₀ .args .k in
+    let u = at-skip-nots .result in
+    let w = at-node-word .result in
+    let v = empty-safe (at-empty-figure .result) (at-empty-figure .ensures) in
+    above-nots old old left m i sc k (at-empty-figure .result) u (at-skip-nots .ensures)
+    (record { small = v .0; modest = v .1; promise = empty-arm old (u .left) m (u .node) w ps k (at-node-word .ensures) (at-range-pair .result) (at-empty-figure .result) (at-range-pair .ensures) (sym (at-always-empty .ensures) ∙ at-if6 .taken) (at-if4 .taken) (at-empty-figure .ensures) })
+
 measure-at-body-start-requires : (t : ℕ) → measure-at-lts.Need-body-start-requires (measure-at-claims t) (measure-at-at t) measure-at.Post
 measure-at-body-start-requires t c κs = tt
 
 measure-at-sub-measure-at-5 : (t : ℕ) → measure-at-lts.Need-sub-measure-at-5 (measure-at-claims t) (measure-at-at t) measure-at.Post
 measure-at-sub-measure-at-5 measure c =
-    let at-if1 = c .before .before .before .before .before .before .before .before .before .before .before .if1 in
+    let at-if1 = c .before .before .before .before .before .before .before .before .before .before .before .before .before .if1 in
     omega (arith, at-if1 .left)
 
 measure-at-add-measure-at-3 : (t : ℕ) → measure-at-lts.Need-add-measure-at-3 (measure-at-claims t) (measure-at-at t) measure-at.Post
 measure-at-add-measure-at-3 measure c =
-    let at-range-pair = c .before .before .before .range-pair in
-    omega (arith, nested measure (c .before .before .before))
+    let at-range-pair = c .before .before .before .before .before .range-pair in
+    omega (arith, nested measure (c .before .before .before .before .before))
 
 measure-at-add-measure-at-4 : (t : ℕ) → measure-at-lts.Need-add-measure-at-4 (measure-at-claims t) (measure-at-at t) measure-at.Post
 measure-at-add-measure-at-4 measure c =
-    let s₀ = c .before .before .before .before .before .before .before .before .before .before .before .before .before .before .before .before .before in
-    let at-skip-nots = c .before .before .before .before .before .before .before .before .before .before .before .before .before .before .skip-nots in
-    let at-node-word = c .before .before .before .before .before .before .before .before .before .before .node-word in
-    let at-if4 = c .before .before .before .before .before .before .before .if4 in
+    let s₀ = c .before .before .before .before .before .before .before .before .before .before .before .before .before .before .before .before .before .before .before in
+    let at-skip-nots = c .before .before .before .before .before .before .before .before .before .before .before .before .before .before .before .before .skip-nots in
+    let at-node-word = c .before .before .before .before .before .before .before .before .before .before .before .before .node-word in
+    let at-if4 = c .before .before .before .before .before .before .before .before .before .if4 in
     let old = s₀ .args .nodes .now in
     let u = at-skip-nots .result in
     omega (arith, word-in old (u .node) 4 (sym (at-node-word .ensures) ∙ at-if4 .taken), s₀ .good .0)
 
 measure-at-with-pair-requires : (t : ℕ) → measure-at-lts.Need-with-pair-requires (measure-at-claims t) (measure-at-at t) measure-at.Post
 measure-at-with-pair-requires measure c κs =
-    let at-range-pair = c .before .before .before .before .range-pair in
-    nested measure (c .before .before .before .before)
+    let at-range-pair = c .before .before .before .before .before .before .range-pair in
+    nested measure (c .before .before .before .before .before .before)
 
 measure-at-measure-at-requires-5 : (t : ℕ) → measure-at-lts.Need-measure-at-requires-5 (measure-at-claims t) (measure-at-at t) measure-at.Post
 measure-at-measure-at-requires-5 measure c κs =
-    let s₀ = c .before .before .before .before .before .before .before .before .before .before .before .before .before .before .before .before .before .before in
-    let at-skip-nots = c .before .before .before .before .before .before .before .before .before .before .before .before .before .before .before .skip-nots in
-    let at-if1 = c .before .before .before .before .before .before .before .before .before .before .before .before .before .if1 in
-    let at-range-pair = c .before .before .before .before .before .range-pair in
+    let s₀ = c .before .before .before .before .before .before .before .before .before .before .before .before .before .before .before .before .before .before .before .before in
+    let at-skip-nots = c .before .before .before .before .before .before .before .before .before .before .before .before .before .before .before .before .before .skip-nots in
+    let at-if1 = c .before .before .before .before .before .before .before .before .before .before .before .before .before .before .before .if1 in
+    let at-range-pair = c .before .before .before .before .before .before .before .range-pair in
     let at-body-start = c .before .before .before .before .body-start in
     let at-with-pair = c .with-pair in
     let old = s₀ .args .nodes .now in
@@ -356,9 +390,9 @@ measure-at-measure-at-requires-5 measure c κs =
     let few = nots-left old left i false u (at-skip-nots .ensures) in (
       omega (arith, s₀ .pre .0, at-if1 .left, few),
       record {
-        nested = omega (arith, nested measure (c .before .before .before .before .before));
-        within = body-within old m (u .node) ps (nested measure (c .before .before .before .before .before)) (s₀ .pre .1 .within) (at-range-pair .result) (at-range-pair .ensures) (inside (at-with-pair .result) (m + 1)) (at-with-pair .ensures);
-        begun = body-begun old m (u .node) ps (nested measure (c .before .before .before .before .before)) (s₀ .pre .1 .within) (at-range-pair .result) (at-range-pair .ensures) k (at-body-start .result) (s₀ .pre .1 .begun) (at-body-start .ensures);
+        nested = omega (arith, nested measure (c .before .before .before .before .before .before .before));
+        within = body-within old m (u .node) ps (nested measure (c .before .before .before .before .before .before .before)) (s₀ .pre .1 .within) (at-range-pair .result) (at-range-pair .ensures) (inside (at-with-pair .result) (m + 1)) (at-with-pair .ensures);
+        begun = body-begun old m (u .node) ps (nested measure (c .before .before .before .before .before .before .before)) (s₀ .pre .1 .within) (at-range-pair .result) (at-range-pair .ensures) k (at-body-start .result) (s₀ .pre .1 .begun) (at-body-start .ensures);
       },
     )
 
@@ -377,20 +411,22 @@ measure-at-store-requires-2 t c κs = tt
 
 measure-at-range-figure-requires : (t : ℕ) → measure-at-lts.Need-range-figure-requires (measure-at-claims t) (measure-at-at t) measure-at.Post
 measure-at-range-figure-requires measure c κs =
-    let s₀ = c .before .before .before .before .before .before .before .before .before .before .before .before .before .before .before .before .before .before .before .before .before .before .before .before .before .before in
-    (lower-ok measure (c .before .before .before .before .before .before .before .before .before .before .before .before .before), (upper-ok measure (c .before .before .before .before .before .before .before .before .before .before .before .before .before), s₀ .pre .1 .begun))
+    let s₀ = c .before .before .before .before .before .before .before .before .before .before .before .before .before .before .before .before .before .before .before .before .before .before .before .before .before .before .before .before in
+    (lower-ok measure (c .before .before .before .before .before .before .before .before .before .before .before .before .before .before .before), (upper-ok measure (c .before .before .before .before .before .before .before .before .before .before .before .before .before .before .before), s₀ .pre .1 .begun))
 
-measure-at-same-length-5 : (t : ℕ) → measure-at-lts.Need-same-length-5 (measure-at-claims t) (measure-at-at t) measure-at.Post
-measure-at-same-length-5 t c = search needs
+measure-at-same-length-6 : (t : ℕ) → measure-at-lts.Need-same-length-6 (measure-at-claims t) (measure-at-at t) measure-at.Post
+measure-at-same-length-6 t c = search needs
 
-measure-at-returns-5 : (t : ℕ) → measure-at-lts.Need-returns-5 (measure-at-claims t) (measure-at-at t) measure-at.Post
-measure-at-returns-5 measure c =
-    let s₀ = c .before .before .before .before .before .before .before .before .before .before .before .before .before .before .before .before .before .before .before .before .before .before .before .before .before .before .before in
-    let at-skip-nots = c .before .before .before .before .before .before .before .before .before .before .before .before .before .before .before .before .before .before .before .before .before .before .before .before .skip-nots in
-    let at-if1 = c .before .before .before .before .before .before .before .before .before .before .before .before .before .before .before .before .before .before .before .before .before .before .if1 in
-    let at-node-word = c .before .before .before .before .before .before .before .before .before .before .before .before .before .before .before .before .before .before .before .before .node-word in
-    let at-if4 = c .before .before .before .before .before .before .before .before .before .before .before .before .before .before .before .before .before .if4 in
-    let at-range-pair = c .before .before .before .before .before .before .before .before .before .before .before .before .before .before .range-pair in
+measure-at-returns-6 : (t : ℕ) → measure-at-lts.Need-returns-6 (measure-at-claims t) (measure-at-at t) measure-at.Post
+measure-at-returns-6 measure c =
+    let s₀ = c .before .before .before .before .before .before .before .before .before .before .before .before .before .before .before .before .before .before .before .before .before .before .before .before .before .before .before .before .before in
+    let at-skip-nots = c .before .before .before .before .before .before .before .before .before .before .before .before .before .before .before .before .before .before .before .before .before .before .before .before .before .before .skip-nots in
+    let at-if1 = c .before .before .before .before .before .before .before .before .before .before .before .before .before .before .before .before .before .before .before .before .before .before .before .before .if1 in
+    let at-node-word = c .before .before .before .before .before .before .before .before .before .before .before .before .before .before .before .before .before .before .before .before .before .before .node-word in
+    let at-if4 = c .before .before .before .before .before .before .before .before .before .before .before .before .before .before .before .before .before .before .before .if4 in
+    let at-range-pair = c .before .before .before .before .before .before .before .before .before .before .before .before .before .before .before .before .range-pair in
+    let at-always-empty = c .before .before .before .before .before .before .before .before .before .before .before .before .before .before .before .always-empty in
+    let at-if6 = c .before .before .before .before .before .before .before .before .before .before .before .before .before .before .if6 in
     let at-body-start = c .before .before .before .before .before .before .before .before .before .before .before .before .before .body-start in
     let at-with-pair = c .before .before .before .before .before .before .before .before .before .with-pair in
     let at-measure-at5 = c .before .before .before .before .before .before .before .before .measure-at5 in
@@ -405,18 +441,18 @@ measure-at-returns-5 measure c =
     let k = s₀ .args .k in
     let u = at-skip-nots .result in
     let w = at-node-word .result in
-    let v = range-safe (at-range-pair .result) k (at-measure-at5 .result) (at-range-figure .result) (at-range-figure .ensures) (at-measure-at5 .ensures .modest) (upper-ok measure (c .before .before .before .before .before .before .before .before .before .before .before .before .before .before)) in
+    let v = range-safe (at-range-pair .result) k (at-measure-at5 .result) (at-range-figure .result) (at-range-figure .ensures) (at-measure-at5 .ensures .modest) (upper-ok measure (c .before .before .before .before .before .before .before .before .before .before .before .before .before .before .before .before)) in
     above-nots old (at-store .last .0) left m i sc k (at-range-figure .result) u (at-skip-nots .ensures)
-    (record { small = v .0; modest = v .1; promise = forall-arm old (u .left) m (u .node) w ps k (at-node-word .ensures) (at-if1 .left) (at-range-pair .result) (at-range-pair .ensures) (at-if4 .taken) (at-body-start .result) (at-body-start .ensures) (inside (at-with-pair .result) (m + 1)) (at-with-pair .ensures) (at-measure-at5 .last .0) (at-store .last .0) (at-measure-at5 .result) (at-range-figure .result) (at-measure-at5 .kept .0) (at-store .ensures) (at-range-figure .ensures) (at-measure-at5 .ensures .promise) })
+    (record { small = v .0; modest = v .1; promise = forall-arm old (u .left) m (u .node) w ps k (at-node-word .ensures) (at-if1 .left) (at-range-pair .result) (at-range-pair .ensures) (sym (at-always-empty .ensures) ∙ at-if6 .left) (at-if4 .taken) (at-body-start .result) (at-body-start .ensures) (inside (at-with-pair .result) (m + 1)) (at-with-pair .ensures) (at-measure-at5 .last .0) (at-store .last .0) (at-measure-at5 .result) (at-range-figure .result) (at-measure-at5 .kept .0) (at-store .ensures) (at-range-figure .ensures) (at-measure-at5 .ensures .promise) })
 
 measure-at-flag-figure-requires-3 : (t : ℕ) → measure-at-lts.Need-flag-figure-requires-3 (measure-at-claims t) (measure-at-at t) measure-at.Post
 measure-at-flag-figure-requires-3 t c κs = tt
 
-measure-at-same-length-6 : (t : ℕ) → measure-at-lts.Need-same-length-6 (measure-at-claims t) (measure-at-at t) measure-at.Post
-measure-at-same-length-6 t c = search needs
+measure-at-same-length-7 : (t : ℕ) → measure-at-lts.Need-same-length-7 (measure-at-claims t) (measure-at-at t) measure-at.Post
+measure-at-same-length-7 t c = search needs
 
-measure-at-returns-6 : (t : ℕ) → measure-at-lts.Need-returns-6 (measure-at-claims t) (measure-at-at t) measure-at.Post
-measure-at-returns-6 measure c =
+measure-at-returns-7 : (t : ℕ) → measure-at-lts.Need-returns-7 (measure-at-claims t) (measure-at-at t) measure-at.Post
+measure-at-returns-7 measure c =
     let s₀ = c .before .before .before .before .before .before .before .before .before .before .before in
     let at-skip-nots = c .before .before .before .before .before .before .before .before .skip-nots in
     let at-if1 = c .before .before .before .before .before .before .if1 in
@@ -475,6 +511,10 @@ pub +measure-at-spec : {M : Type 1} → statement M
     (measure-at-same-length-4 t)
     (measure-at-returns-4 t)
     (measure-at-range-pair-requires t)
+    (measure-at-always-empty-requires t)
+    (measure-at-empty-figure-requires t)
+    (measure-at-same-length-5 t)
+    (measure-at-returns-5 t)
     (measure-at-body-start-requires t)
     (measure-at-sub-measure-at-5 t)
     (measure-at-add-measure-at-3 t)
@@ -485,8 +525,8 @@ pub +measure-at-spec : {M : Type 1} → statement M
     (measure-at-mul-store-2 t)
     (measure-at-store-requires-2 t)
     (measure-at-range-figure-requires t)
-    (measure-at-same-length-5 t)
-    (measure-at-returns-5 t)
-    (measure-at-flag-figure-requires-3 t)
     (measure-at-same-length-6 t)
     (measure-at-returns-6 t)
+    (measure-at-flag-figure-requires-3 t)
+    (measure-at-same-length-7 t)
+    (measure-at-returns-7 t)
