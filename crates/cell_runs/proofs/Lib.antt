@@ -14,6 +14,7 @@ pub mod Reports
 pub mod OneInstance
 pub mod Ticks
 pub mod Sizes
+pub mod SizedTrees
 pub mod Rules
 pub mod Takes
 pub mod Batches

@@ -21,14 +21,15 @@ use Rattle.rule.proofs.Recent.{report-recent, live-recent}
 use Rattle.refusal.specs.Answer.{accepted}
 use Rattle.rule.proofs.Reading.{body-scoped}
 use Rattle.demand.specs.Contract.{State, next-state, HistoryHolds}
-use Rattle.cell_runs.specs.Tree.{Tree, formula-of, tree-at, words}
+use Rattle.cell_runs.specs.Tree.{Tree, formula-of, tree-at, words, Formed}
 use Rattle.cell_runs.specs.Slots.{slot}
-use Rattle.cell_runs.specs.Sized.{sized}
+use Rattle.cell_runs.specs.Sized.{sized, RightSizes}
 use Rattle.cell_runs.specs.Instances.{InstanceHolds, InstancesHold, TicksFit, TicksMoved, Spared}
 use Rattle.cell_runs.specs.Moves.{Stands, Prepares, TableOf, TickFit, TickMoved}
 use Rattle.cell_runs.proofs.Slots.{slot-before, slot-front}
 use Rattle.rule.proofs.Limits.{WithinLimits, within-limits}
-use Rattle.cell_runs.proofs.Sizes.{formula-sized, tree-sized, words-sized, formed-sized}
+use Rattle.cell_runs.proofs.Sizes.{tree-formula, tree-sizes, words-sized, formed-sized}
+use Rattle.cell_runs.proofs.SizedTrees.{words-right, formed-right, instances-right}
 
 -- Before tick 0 the cells stand for every stream.
 pub stands-at-start : (s : State) (flags : ℕ → ℕ) (cells : List ℕ) → s .next ≡ 0 → Stands s cells flags
@@ -55,8 +56,15 @@ module _ (F : Formula) (f : Figures) (ns : List ℕ) (p : Prepares F f ns) where
   limits : WithinLimits F f
   limits = within-limits F f (p .within)
 
-  tree-is : tree-at 64 ns 0 ≡ sized F (at-tick ∷ [])
-  tree-is = tree-sized F 64 ns (at-tick ∷ []) 0 0 (12 * formulas F) (omega (arith, p .stands .room)) (p .stands .holds) (p .sizes)
+  -- the table's tree, and the rule's tree that it stands for
+  formula-is : formula-of (tree-at 64 ns 0) ≡ F
+  formula-is = tree-formula F 64 ns 0 0 (12 * formulas F) (omega (arith, p .stands .room)) (p .stands .holds)
+
+  right : RightSizes (at-tick ∷ []) (tree-at 64 ns 0)
+  right = tree-sizes F 64 ns (at-tick ∷ []) 0 0 (12 * formulas F) (omega (arith, p .stands .room)) (p .stands .holds) (p .sizes)
+
+  tree-is : sized (formula-of (tree-at 64 ns 0)) (at-tick ∷ []) ≡ sized F (at-tick ∷ [])
+  tree-is = ap (λ (G : Formula). sized G (at-tick ∷ [])) formula-is
 
   -- the words of one instance, and of all
   words-are : 4 + words (at-tick ∷ []) (sized F (at-tick ∷ [])) ≡ 4 * (1 + limits .own)
@@ -77,26 +85,26 @@ module _ (F : Formula) (f : Figures) (ns : List ℕ) (p : Prepares F f ns) where
       let w : 4 + words (at-tick ∷ []) (sized F (at-tick ∷ [])) ≡ 4 * (1 + limits .own) = words-are in
       omega arith
 
-  rule-reaches : (flags : ℕ → ℕ) (q : ℕ) → Reach (f .history) flags (q ∷ []) q (formula-of (sized F (at-tick ∷ [])))
+  rule-reaches : (flags : ℕ → ℕ) (q : ℕ) → Reach (f .history) flags (q ∷ []) q (formula-of (tree-at 64 ns 0))
   rule-reaches flags q =
-      subst (Reach (f .history) flags (q ∷ []) q) (sym (formula-sized F (at-tick ∷ [])))
+      subst (Reach (f .history) flags (q ∷ []) q) (sym formula-is)
       (rule-reach (f .history) F (subst (λ (x : Size). Within x (f .history)) (sym (limits .history-is)) (omega arith)) flags q)
 
   -- the ticks older than the last delay + 1 were decided before
   report-is : (flags : ℕ → ℕ) (t low : ℕ) → low ≡ t + 1 - (f .delay + 1)
-      → passing (false-at t) (rule (formula-of (sized F (at-tick ∷ []))) flags t) (t + 1 - low) low ≡ report F flags t
+      → passing (false-at t) (rule (formula-of (tree-at 64 ns 0)) flags t) (t + 1 - low) low ≡ report F flags t
   report-is flags t low e =
       let a : t + 1 - low ≡ suc t - (t - f .delay) = omega arith in
       let b : low ≡ t - f .delay = omega arith in
-      ap (λ (G : Formula). passing (false-at t) (rule G flags t) (t + 1 - low) low) (formula-sized F (at-tick ∷ []))
+      ap (λ (G : Formula). passing (false-at t) (rule G flags t) (t + 1 - low) low) formula-is
       ∙ ap₂ (passing (false-at t) (rule F flags t)) a b ∙ sym (report-recent F (f .delay) (limits .delay-is) flags t)
 
   live-is : (flags : ℕ → ℕ) (t low : ℕ) → low ≡ t + 1 - (f .delay + 1)
-      → passing is-open (rule (formula-of (sized F (at-tick ∷ []))) flags t) (t + 1 - low) low ≡ live F flags t
+      → passing is-open (rule (formula-of (tree-at 64 ns 0)) flags t) (t + 1 - low) low ≡ live F flags t
   live-is flags t low e =
       let a : t + 1 - low ≡ suc t - (t - f .delay) = omega arith in
       let b : low ≡ t - f .delay = omega arith in
-      ap (λ (G : Formula). passing is-open (rule G flags t) (t + 1 - low) low) (formula-sized F (at-tick ∷ []))
+      ap (λ (G : Formula). passing is-open (rule G flags t) (t + 1 - low) low) formula-is
       ∙ ap₂ (passing is-open (rule F flags t)) a b ∙ sym (live-recent F (f .delay) (limits .delay-is) flags t)
 
 -- ---- for the function
@@ -132,22 +140,23 @@ module _ (ns : List ℕ) (f : Figures) (c : ℕ) (hist : List ℕ) (b t low : �
       → (take reported report′ ≡ report F flags t) × (reported ≡ length (report F flags t)) × (live-count ≡ length (live F flags t))
       × InstancesHold (sized F (at-tick ∷ [])) (f .delay + 1) (4 + words (at-tick ∷ []) (sized F (at-tick ∷ []))) flags (suc t) (take (4 * f .cells) table′)
   rule-means F p flags eb kept stand =
-      let T : Tree = sized F (at-tick ∷ []) in
+      let T : Tree = tree-at 64 ns 0 in
       let w : ℕ = 4 + words (at-tick ∷ []) (sized F (at-tick ∷ [])) in
       let n : ℕ = f .delay + 1 in
       let whole : n * w ≡ 4 * f .cells = all-words F f ns p in
       let moved′ : TicksMoved T n w hist b t low table report₀ reported live-count table′ report′ =
-      subst (λ (x : ℕ). TicksMoved T n x hist b t low table report₀ reported live-count table′ report′) (ec ∙ slot-words F f ns p)
-      (subst (λ (x : Tree). TicksMoved x n c hist b t low table report₀ reported live-count table′ report′) (tree-is F f ns p) moved) in
-      let stand′ : InstancesHold T n w flags t (take (n * w) table) = rw whole stand in
+      subst (λ (x : ℕ). TicksMoved T n x hist b t low table report₀ reported live-count table′ report′) (ec ∙ slot-words F f ns p) moved in
+      let stand′ : InstancesHold T n w flags t (take (n * w) table) = instances-right T (right F f ns p) n w flags t (take (n * w) table) .1 (rw (tree-is F f ns p, whole) stand) in
       let x = moved′ .gives flags (f .history) (record { history = kept; current = sym eb }) (rule-reaches F f ns p flags) (stand-whole T n w flags t table (omega arith) (omega arith) stand′) in
       let er : passing (false-at t) (rule (formula-of T) flags t) (t + 1 - low) low ≡ report F flags t = report-is F f ns p flags t low el in
       let count : reported ≡ length (report F flags t) = x .0 ∙ ap length er in
-      let next : InstancesHold T n w flags (t + 1) (take (n * w) table′) = stand-needed T n w flags (t + 1) table′ (omega arith) (omega arith) (x .1 .1 .1) in (
+      let next : InstancesHold T n w flags (t + 1) (take (n * w) table′) = stand-needed T n w flags (t + 1) table′ (omega arith) (omega arith) (x .1 .1 .1) in
+      let next′ : InstancesHold (sized F (at-tick ∷ [])) n w flags (t + 1) (take (n * w) table′) =
+      subst (λ (U : Tree). InstancesHold U n w flags (t + 1) (take (n * w) table′)) (tree-is F f ns p) (instances-right T (right F f ns p) n w flags (t + 1) (take (n * w) table′) .0 next) in (
         ap (take reported) (x .1 .0 ∙ ap (λ (l : List ℕ). l ++ drop reported report₀) er) ∙ take-at (report F flags t) (drop reported report₀) reported (sym count),
         count,
         x .1 .1 .0 ∙ ap length (live-is F f ns p flags t low el),
-        rw (← add-one t, ← whole) next,
+        rw (← add-one t, ← whole) next′,
       )
 
   -- the tick is taken, of every state whose rule stands in the table
@@ -188,14 +197,17 @@ module _ (ns : List ℕ) (f : Figures) (L t cells words′ : ℕ) (i : TickFit n
 
   pub rule-fits : TicksFit (tree-at 64 ns 0) t (f .delay + 1) (f .cells / (f .delay + 1) * 4) cells words′
   rule-fits =
-      let T : Tree = sized F (at-tick ∷ []) in
+      let T : Tree = tree-at 64 ns 0 in
+      let T′ : Tree = sized F (at-tick ∷ []) in
       let room : 4 * f .cells ≤ cells = i .cells-fit in
-      let sw : f .cells / (f .delay + 1) * 4 ≡ 4 + words (at-tick ∷ []) T = slot-words F f ns p in
-      let whole : (f .delay + 1) * (4 + words (at-tick ∷ []) T) ≡ 4 * f .cells = all-words F f ns p in
+      let same : words (at-tick ∷ []) T ≡ words (at-tick ∷ []) T′ = words-right T (at-tick ∷ []) (right F f ns p) ∙ ap (words (at-tick ∷ [])) (tree-is F f ns p) in
+      let sw : f .cells / (f .delay + 1) * 4 ≡ 4 + words (at-tick ∷ []) T′ = slot-words F f ns p in
+      let whole : (f .delay + 1) * (4 + words (at-tick ∷ []) T′) ≡ 4 * f .cells = all-words F f ns p in
       let small : limits F f ns p .own ≤ 4095 = limits F f ns p .small in
       let scoped = body-scoped (i .state .body-bytes) F (i .table-of .reads) in
-      rw (tree-is F f ns p, sw) (record {
-        formed = formed-sized F ns (at-tick ∷ []) 0 0 (12 * formulas F) (p .stands .holds) refl scoped (limits F f ns p .own) (limits F f ns p .own-is) (omega arith);
+      rw sw (record {
+        formed = formed-right T (at-tick ∷ []) (right F f ns p) (subst (Formed (at-tick ∷ [])) (sym (tree-is F f ns p))
+            (formed-sized F ns (at-tick ∷ []) 0 0 (12 * formulas F) (p .stands .holds) refl scoped (limits F f ns p .own) (limits F f ns p .own-is) (omega arith)));
         room = omega arith;
         low = i .low;
         some = omega arith;

@@ -1,5 +1,5 @@
--- A node table that holds a rule's formula with its sizes holds the rule's tree; within the limit of cells this tree is well formed, and its run
--- has four words for each of the formula's cells.
+-- A node table that holds a rule's formula with its sizes holds a tree of this formula with right sizes; within the limit of cells the rule's tree is well
+-- formed, and its run has four words for each of the formula's cells.
 use Prim.Native.Nat.{ℕ, zero, suc, _+_, _*_, _≤_, _<_, min, max}
 use mathlib.Core.Path.{_≡_, refl, sym, ap, ap₂, subst, _∙_}
 use mathlib.Core.Logic.{_⊎_, inl, inr, ⊎-elim}
@@ -21,8 +21,8 @@ use Rattle.nodes.proofs.Nodes.{ends}
 use Rattle.cell_count.specs.Counts.{cap}
 use Rattle.cell_count.proofs.Saturation.{cap-is}
 use Rattle.figures.specs.Measured.{SizesAt}
-use Rattle.cell_runs.specs.Tree.{not-node, formula-of, tree-at, words, Formed}
-use Rattle.cell_runs.specs.Sized.{sized}
+use Rattle.cell_runs.specs.Tree.{formula-of, tree-at, words, Formed}
+use Rattle.cell_runs.specs.Sized.{sized, RightSizes}
 
 pub formula-sized : (F : Formula) (ps : List Pair) → formula-of (sized F ps) ≡ F
 unfolding formula-of sized
@@ -32,23 +32,48 @@ formula-sized (then F G) ps = ap₂ then (formula-sized F ps) (formula-sized G p
 formula-sized (beside F G) ps = ap₂ beside (formula-sized F ps) (formula-sized G ps)
 formula-sized (forall B C F) ps = ap (forall B C) (formula-sized F (ps ++ (range-pair B C ps ∷ [])))
 
-pub tree-sized : (F : Formula) (n : ℕ) (ns : List ℕ) (ps : List Pair) (m i e : ℕ) → e ≤ i + 12 * n → Holds F ns m i e → SizesAt F ns ps i → tree-at n ns i ≡ sized F ps
-unfolding Holds SizesAt tree-at sized
-tree-sized F zero ns ps m i e r h s = absurd (omega (arith, ends F ns m i e h))
-tree-sized (flag v k) (suc n) ns ps m i e r h s = simp (h .0, h .1 .0, h .1 .1 .0)
-tree-sized (negate F) (suc n) ns ps m i e r h s = simp (h .0) (ap not-node (tree-sized F n ns ps m (i + 12) e (omega arith) (h .1) s))
-tree-sized (then F G) (suc n) ns ps m i e r h s =
+pub tree-formula : (F : Formula) (n : ℕ) (ns : List ℕ) (m i e : ℕ) → e ≤ i + 12 * n → Holds F ns m i e → formula-of (tree-at n ns i) ≡ F
+unfolding Holds tree-at formula-of
+tree-formula F zero ns m i e r h = absurd (omega (arith, ends F ns m i e h))
+tree-formula (flag v k) (suc n) ns m i e r h = simp (h .0, h .1 .0, h .1 .1 .0)
+tree-formula (negate F) (suc n) ns m i e r h = simp (h .0) (ap negate (tree-formula F n ns m (i + 12) e (omega arith) (h .1)))
+tree-formula (then F G) (suc n) ns m i e r h =
     let j : ℕ = getD ns (i + 7) 0 in
     let a : i + 24 ≤ j = omega (arith, ends F ns m (i + 12) j (h .1 .0)) in
     let b : j + 12 ≤ e = ends G ns m j e (h .1 .1) in
-    simp (h .0, tree-sized F n ns ps m (i + 12) j (omega arith) (h .1 .0) (s .0), tree-sized G n ns ps m j e (omega arith) (h .1 .1) (s .1))
-tree-sized (beside F G) (suc n) ns ps m i e r h s =
+    simp (h .0, tree-formula F n ns m (i + 12) j (omega arith) (h .1 .0), tree-formula G n ns m j e (omega arith) (h .1 .1))
+tree-formula (beside F G) (suc n) ns m i e r h =
     let j : ℕ = getD ns (i + 7) 0 in
     let a : i + 24 ≤ j = omega (arith, ends F ns m (i + 12) j (h .1 .0)) in
     let b : j + 12 ≤ e = ends G ns m j e (h .1 .1) in
-    simp (h .0, s .0, tree-sized F n ns ps m (i + 12) j (omega arith) (h .1 .0) (s .1 .0), tree-sized G n ns ps m j e (omega arith) (h .1 .1) (s .1 .1))
-tree-sized (forall B C F) (suc n) ns ps m i e r h s =
-    simp (h .0, h .1 .1 .0, h .1 .1 .1 .0, s .0, tree-sized F n ns (ps ++ (range-pair B C ps ∷ [])) (m + 1) (i + 12) e (omega arith) (h .1 .1 .1 .1) (s .1))
+    simp (h .0, tree-formula F n ns m (i + 12) j (omega arith) (h .1 .0), tree-formula G n ns m j e (omega arith) (h .1 .1))
+tree-formula (forall B C F) (suc n) ns m i e r h =
+    simp (h .0, h .1 .1 .0, h .1 .1 .1 .0, tree-formula F n ns (m + 1) (i + 12) e (omega arith) (h .1 .1 .1 .1))
+
+pub tree-sizes : (F : Formula) (n : ℕ) (ns : List ℕ) (ps : List Pair) (m i e : ℕ) → e ≤ i + 12 * n → Holds F ns m i e → SizesAt F ns ps i → RightSizes ps (tree-at n ns i)
+unfolding Holds SizesAt tree-at RightSizes
+tree-sizes F zero ns ps m i e r h s = absurd (omega (arith, ends F ns m i e h))
+tree-sizes (flag v k) (suc n) ns ps m i e r h s = simp (h .0) tt
+tree-sizes (negate F) (suc n) ns ps m i e r h s = simp (h .0) (tree-sizes F n ns ps m (i + 12) e (omega arith) (h .1) s)
+tree-sizes (then F G) (suc n) ns ps m i e r h s =
+    let j : ℕ = getD ns (i + 7) 0 in
+    let a : i + 24 ≤ j = omega (arith, ends F ns m (i + 12) j (h .1 .0)) in
+    let b : j + 12 ≤ e = ends G ns m j e (h .1 .1) in
+    simp (h .0) (tree-sizes F n ns ps m (i + 12) j (omega arith) (h .1 .0) (s .0), tree-sizes G n ns ps m j e (omega arith) (h .1 .1) (s .1))
+tree-sizes (beside F G) (suc n) ns ps m i e r h s =
+    let j : ℕ = getD ns (i + 7) 0 in
+    let a : i + 24 ≤ j = omega (arith, ends F ns m (i + 12) j (h .1 .0)) in
+    let b : j + 12 ≤ e = ends G ns m j e (h .1 .1) in
+    simp (h .0) (
+      s .0 ∙ ap (λ (x : Formula). 4 * cap (cells x ps)) (sym (tree-formula F n ns m (i + 12) j (omega arith) (h .1 .0))),
+      (tree-sizes F n ns ps m (i + 12) j (omega arith) (h .1 .0) (s .1 .0), tree-sizes G n ns ps m j e (omega arith) (h .1 .1) (s .1 .1)),
+    )
+tree-sizes (forall B C F) (suc n) ns ps m i e r h s =
+    let P : List Pair = ps ++ (range-pair B C ps ∷ []) in
+    simp (h .0, h .1 .1 .0, h .1 .1 .1 .0) (λ some. (
+      s some .0 ∙ ap (λ (x : Formula). 4 * (1 + cap (cells x P))) (sym (tree-formula F n ns (m + 1) (i + 12) e (omega arith) (h .1 .1 .1 .1))),
+      tree-sizes F n ns P (m + 1) (i + 12) e (omega arith) (h .1 .1 .1 .1) (s some .1),
+    ))
 
 -- ---- the parts of a number of cells
 
