@@ -64,9 +64,9 @@ extern "C" {
 /* ---- Version ---- */
 
 #define SW_VERSION_MAJOR 0
-#define SW_VERSION_MINOR 6
+#define SW_VERSION_MINOR 7
 #define SW_VERSION_PATCH 0
-#define SW_VERSION "0.6.0"
+#define SW_VERSION "0.7.0"
 
 /* ---- Refusals: the sentence that sw_sentence writes, and what to do ---- */
 
@@ -122,7 +122,8 @@ extern "C" {
 #define SW_DELAY_ABOVE_LIMIT 12
 
 /* "the history is infinite"
- * A range from position 0 cannot be watched live. sw_outcome takes it. */
+ * A range from position 0 can be watched live only inside one that is always empty.
+ * sw_outcome takes it. */
 #define SW_HISTORY_INFINITE 13
 
 /* "the history is above 4,096"
@@ -233,7 +234,9 @@ extern "C" {
 /* Bytes of a state: 512 for the rule's body, then four 64-bit numbers, low byte first:
  * the body's size at 512, the opened history's length at 520, the next tick at 528, the
  * live count at 536. A state is plain bytes: it may be copied, stored and moved. It
- * belongs to the cell table that its steps wrote.
+ * belongs to the cell table that its steps wrote, and to the figures that its rule had when
+ * it was opened: where a later version of the library has others, open the rule anew
+ * (CHANGELOG.md, 0.7.0).
  *
  * Every call looks at the state anew. It answers SW_STATE_NOT_OPENED where no opening
  * gives such a state: the opened length is above 4096, the body's size is above 512 or it
@@ -362,7 +365,8 @@ uint32_t sw_rule_to_text(const uint8_t *body, size_t body_len,
 
 /* The figures of a rule's body: how many past flags it needs (history, at most 4096),
  * within how many ticks it is decided (delay, at most 255), and how many cells of four
- * words its steps need (cells, at most 4096, so that a uint16_t holds it).
+ * words its steps need (cells, at most 4096, so that a uint16_t holds it). A range that is
+ * always empty needs one cell, and what stands in it is not counted (docs/RULES.md).
  * Answers 0, or 4 to 15, 23, 24.
  * After 0 the three numbers are set. */
 uint32_t sw_figures(const uint8_t *body, size_t body_len,

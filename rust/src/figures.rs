@@ -52,7 +52,8 @@ impl fmt::Display for Figures {
     }
 }
 
-/// The figures of a rule's body. Refusals 4 to 15, 23, 24.
+/// The figures of a rule's body. A range that is always empty needs one cell, and what stands
+/// in it is not counted. Refusals 4 to 15, 23, 24.
 ///
 /// ```
 /// use station_watch::{figures, Figures, Refusal};
@@ -62,6 +63,9 @@ impl fmt::Display for Figures {
 /// assert_eq!(figures(&body), Ok(Figures { history: 0, delay: 62, cells: 4_095 }));
 /// let body = [5, 2, 0, 0, 0, 2, 0, 63, 0, 1, 1, 0];
 /// assert_eq!(figures(&body), Err(Refusal::CellsAboveLimit));
+/// // For all Y from infinity to infinity, for all Z from 0 to infinity, flag 0 at Z.
+/// let body = [5, 1, 0, 0, 0, 1, 0, 0, 0, 5, 0, 0, 0, 0, 1, 0, 0, 0, 1, 2, 0];
+/// assert_eq!(figures(&body), Ok(Figures { history: 0, delay: 0, cells: 2 }));
 /// ```
 pub fn figures(body: &[u8]) -> Result<Figures, Refusal> {
     let (mut history, mut delay, mut cells) = (0, 0, 0);

@@ -218,7 +218,8 @@ impl Watch {
     /// A watch of stored parts, which goes on where they were left, without a calendar.
     /// Refusals 21, 17, 18, 20, as of a first step; after that only 20 can come. Of the cells
     /// it keeps those that the rule needs. Parts that were not left together by one watch, or were
-    /// changed, may go unnoticed: their steps report something.
+    /// changed, or are of a version in which the rule had other figures, may go unnoticed: their
+    /// steps report something.
     ///
     /// ```
     /// use station_watch::{sheet_of, Refusal, Watch};
