@@ -5,6 +5,7 @@ use Rattle.rule.proofs.Progress as progress
 use Rattle.rule.proofs.Delay.{delay-law}
 use Rattle.rule.proofs.Locality.{locality}
 use Rattle.rule.proofs.Window.{rule-window}
+use Rattle.rule.proofs.AlwaysEmpty as empty
 use Rattle.rule.proofs.OneBody as bodies
 use Rattle.rule.proofs.BodyNumbers as numbers
 use Rattle.rule.proofs.BodyLengths as lengths
@@ -48,6 +49,10 @@ claimed =
       in-time = delay-law;
       none-later = locality;
       none-older = rule-window;
+      empty-is-true = empty.empty-true;
+      empty-delay = empty.empty-delay;
+      empty-history = empty.empty-history;
+      empty-cells = empty.empty-cells;
       ups-are = said.ups-said;
       first-up-is = said.first-up-said;
       last-up-is = said.last-up-said;
@@ -71,6 +76,7 @@ claimed =
       at-limits = cases.limits;
       refusal-order = cases.orders;
       bound-order = cases.bounds;
+      empty-ranges = cases.empty-ranges;
       example-run = cases.run;
       example-recorded = cases.evaluated;
     }

@@ -7,6 +7,7 @@
 use Prim.Native.Nat.{ℕ, _+_, _≤_, _<_, max}
 use mathlib.Core.Path.{_≡_}
 use mathlib.Core.Logic.{_↔_}
+use mathlib.Core.Bool.{true}
 use mathlib.Core.List.{List, [], _∷_, _++_}
 use lib.ListN.{length, getD, take, drop}
 use Rattle.refusal.specs.Answer.{refused, accepted, and-then}
@@ -14,18 +15,21 @@ use Rattle.words.specs.Words.{Bytes}
 use Rattle.sheet_writer.specs.Writing.{sheet-length, sheet-of, buffer-after}
 use Rattle.sheet_writer.specs.RoundTrip.{ReadsBack}
 use Rattle.rule.specs.declared.Verdict.{Verdict}
+use Rattle.rule.specs.declared.Verdict.the-variants.{True}
 use Rattle.rule.specs.declared.Outcome.the-variants.{Decided, Open}
+use Rattle.rule.specs.declared.Size.{Size}
 use Rattle.rule.specs.declared.Size.the-variants.{Finite}
 use Rattle.rule.specs.declared.Pair.{Pair}
 use Rattle.rule.specs.Formula.{Bound, Formula, forall}
 use Rattle.rule.specs.Body.{body, OfABody}
 use Rattle.rule.specs.Meaning.{range, seen, outcome, rule}
-use Rattle.rule.specs.Figures.{at-tick, delay, history}
+use Rattle.rule.specs.Figures.{at-tick, range-pair, always-empty, delay, history, cells}
 use Rattle.rule.specs.Positions.{Within, Fits}
 use Rattle.rule.specs.Started.{Scoped, By, Before}
 use Rattle.rule.specs.ForAll.{Said}
 use Rattle.marked_cases.specs.Marked.{Marked}
 use Rattle.marked_cases.specs.Orders.{Limits, Orders, Bounds}
+use Rattle.marked_cases.specs.EmptyRanges.{EmptyRanges}
 use Rattle.marked_cases.specs.Runs.{ExampleRun, Recorded}
 use Rattle.notation.specs.Notation.{Rule, Reads}
 use Rattle.notation.specs.Bodies.{named-body, checked, fitted, body-of-text, Misspelt, Unbound}
@@ -89,6 +93,14 @@ pub record Claims : Type 0 where
       → (env : List ℕ) → ((variable : ℕ) → getD env variable 0 ≤ t) → (s : ℕ) → outcome F flags t env s ≡ outcome F others t env s
   pub none-older : (F : Formula) (figure : ℕ) → Scoped 1 F → history F (at-tick ∷ []) (Finite 0) ≡ Finite figure → (t p : ℕ) → p ≤ t
       → (flags others : ℕ → ℕ) → ((tick : ℕ) → p ≤ tick + figure → tick ≤ t → flags tick ≡ others tick) → rule F flags t p ≡ rule F others t p
+  -- A range whose l is infinity, or greater than its u (02, point 6), is true at its start, whatever the flags and its body, and its figures are delay 0,
+  -- history 0 and one cell.
+  pub empty-is-true : (B₁ B₂ : Bound) (F : Formula) {p : ℕ} {ps : List Pair} {env : List ℕ} → Fits p ps env → always-empty (range-pair B₁ B₂ ps) ≡ true
+      → (flags : ℕ → ℕ) (t s : ℕ) → outcome (forall B₁ B₂ F) flags t env s ≡ Decided True s
+  pub empty-delay : (B₁ B₂ : Bound) (F : Formula) (ps : List Pair) → always-empty (range-pair B₁ B₂ ps) ≡ true → delay (forall B₁ B₂ F) ps ≡ Finite 0
+  pub empty-history : (B₁ B₂ : Bound) (F : Formula) (ps : List Pair) → always-empty (range-pair B₁ B₂ ps) ≡ true
+      → (k : Size) → history (forall B₁ B₂ F) ps k ≡ Finite 0
+  pub empty-cells : (B₁ B₂ : Bound) (F : Formula) (ps : List Pair) → always-empty (range-pair B₁ B₂ ps) ≡ true → cells (forall B₁ B₂ F) ps ≡ Finite 1
   -- ---- questions to a flag calendar, said of each tick: in a range cut at the last kept tick the number of ups, the first and the last; of all kept ticks the nearest up, the
   -- earlier of two equally near; none exactly where no such tick is up, also as C hears it
 
@@ -128,13 +140,15 @@ pub record Claims : Type 0 where
   -- A buffer of 432 bytes takes every body (SW_MAX_BODY, 512, is above that), one of 4,096 (SW_MAX_TEXT) every text.
   pub body-room : (text : List ℕ) (room : ℕ) → 432 ≤ room → body-of-text text room ≡ refused 22 → ⊥
   pub text-room : (bytes : List ℕ) (room : ℕ) → 4096 ≤ room → text-of-body bytes room ≡ refused 22 → ⊥
-  -- ---- 01's marked cases hold of the definitions
+  -- ---- 01's marked cases, and those of 02's point 6, hold of the definitions
   pub marked-cases : Marked
   -- Limits at their boundary: what is within one is not refused with that limit's number, what is above it is.
   pub at-limits : Limits
   -- Which refusal a body or a sheet gets, also where it has two faults; and, for a bound, 23 before 24 before 8.
   pub refusal-order : Orders
   pub bound-order : Bounds
+  -- Ranges that are always empty: which are, over what bodies, and in which places of a rule.
+  pub empty-ranges : EmptyRanges
   -- Of 01's example: each step's report and live count, and what the evaluator of a recording answers.
   pub example-run : ExampleRun
   pub example-recorded : Recorded
