@@ -1,6 +1,6 @@
 //! The rules that are measured, and the streams.
 
-use rust_tests::notation::{all, beside, flag, not, then, x, y, X, Y, Z};
+use rust_tests::notation::{all, beside, flag, not, start, then, x, y, INFINITY, W, X, Y, Z};
 use rust_tests::paper::Formula;
 use rust_tests::random::Random;
 
@@ -58,6 +58,28 @@ pub fn cases() -> Vec<Case> {
     ]
 }
 
+/// Rules with ranges that are always empty (02, point 6), which are compared and not measured.
+pub fn always_empty() -> Vec<Case> {
+    let endless = |variable| all(start(0), INFINITY, flag(0, variable));
+    vec![
+        case(
+            "always empty",
+            "~forall y in x+5..x+2 : forall z in 0..infinity : @z.0",
+            not(all(x(5), x(2), endless(Z))),
+        ),
+        case(
+            "always empty, then",
+            "(forall y in infinity..x+9 : @y.0 && forall y in x-1..x+2 : @y.0)",
+            then(all(INFINITY, x(9), flag(0, Y)), all(x(-1), x(2), flag(0, Y))),
+        ),
+        case(
+            "always empty, nested",
+            "forall y in x-2..x+3 : ~(@y.0 /\\ forall z in y+6..x : forall u in 0..infinity : @u.0)",
+            all(x(-2), x(3), not(beside(flag(0, Y), all(y(6), x(0), endless(W))))),
+        ),
+    ]
+}
+
 pub fn find(name: &str) -> Formula {
     if let Some(n) = name.strip_prefix("ahead ") {
         return ahead(n.parse().expect("a number"));
@@ -65,7 +87,7 @@ pub fn find(name: &str) -> Formula {
     if let Some(n) = name.strip_prefix("behind ") {
         return behind(n.parse().expect("a number"));
     }
-    let found = cases().into_iter().find(|case| case.name == name);
+    let found = cases().into_iter().chain(always_empty()).find(|case| case.name == name);
     found.unwrap_or_else(|| panic!("no rule {name:?}")).rule
 }
 

@@ -21,7 +21,7 @@ mod sets;
 mod time;
 mod ways;
 
-use cases::{ahead, behind, cases, find, stream, STREAMS};
+use cases::{ahead, always_empty, behind, cases, find, stream, STREAMS};
 use rust_tests::paper::Formula;
 use sets::{open_rules, several, KINDS, MIXED, RULE_COUNTS, SET_WAYS};
 use std::env;
@@ -87,14 +87,16 @@ fn agree_on(name: &str, of: &str, mut ways: [Box<dyn Way>; 4]) {
 
 /// All four ways of one rule.
 fn agree() {
-    for (name, rule) in rules() {
+    let mut rules = rules();
+    rules.extend(always_empty().into_iter().map(|case| (case.name.to_string(), case.rule)));
+    for (name, rule) in &rules {
         for (of, _) in STREAMS {
-            agree_on(&name, of, WAYS.map(|way| open(way, &rule)));
+            agree_on(name, of, WAYS.map(|way| open(way, rule)));
         }
     }
     println!(
         "All four ways agree: {} rules, {} streams, 3000 steps each.",
-        rules().len(),
+        rules.len(),
         STREAMS.len()
     );
 }

@@ -192,16 +192,18 @@ impl Step<'_> {
     }
 }
 
-/// The pair of a variable or bound of a rule that can be opened: l, `None` for
-/// infinity, and u.
+/// The pair of a variable or bound of a rule that can be opened: l, `None` if it is
+/// infinite, and u.
 type Pair = (Option<i64>, i64);
 
 /// The pair of a bound.
 fn pair(bound: Bound, pairs: &[Pair]) -> Pair {
     match bound {
         Bound::Variable(v, offset) => (pairs[v].0.map(|l| l + offset), pairs[v].1 + offset),
-        // Only an empty range of such a rule begins at infinity, and none at 0.
-        Bound::Infinity | Bound::Start(_) => (None, 0),
+        // Where l or u is infinite, the range is always empty or in the body of one
+        // that is, and has no words but its head.
+        Bound::Start(offset) => (None, offset),
+        Bound::Infinity => (None, 0),
     }
 }
 

@@ -93,6 +93,17 @@ static uint32_t figures_are(const uint8_t *body, size_t len, uint64_t h, uint64_
         SAME(73, c);                                                          \
     } while (0)
 
+/* X+5..X+2 over a flag, infinity..infinity over 0..infinity: the body isn't counted, but read. */
+static void always_empty_ranges(void)
+{
+    static const uint8_t lacking[] = {5, 2, 0, 5, 0, 2, 0, 2, 0, 1, 1, 0};
+    static const uint8_t retired[] = {5, 1, 0, 0, 0, 1, 0, 0, 0, 5, 0, 0, 0, 0, 1, 0, 0, 0, 1, 2, 0};
+    SAME(SW_OK, figures_are(lacking, sizeof lacking, 0, 0, 2));
+    SAME(SW_OK, figures_are(retired, sizeof retired, 0, 0, 2));
+    REFUSED(SW_NO_SUCH_FLAG, 5, 1, 0, 0, 0, 1, 0, 0, 0, 1, 1, 8);
+    REFUSED(SW_BODY_ENDS_EARLY, 5, 1, 0, 0, 0, 1, 0, 0, 0);
+}
+
 static void bodies(void)
 {
     SAME(SW_OK, figures_are(example, sizeof example, 1, 2, EXAMPLE_CELLS));
@@ -640,6 +651,7 @@ int main(void)
 {
     sheets();
     bodies();
+    always_empty_ranges();
     texts();
     recordings();
     lending();

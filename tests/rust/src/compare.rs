@@ -4,6 +4,7 @@
 
 mod calendars;
 mod calls;
+mod empty_ranges;
 mod formula_counts;
 mod runs;
 mod set_calls;
@@ -19,6 +20,10 @@ pub use calendars::{
     questions, FLAGS,
 };
 pub use calls::{figures, opening, outcome, place, round_trip, write};
+pub use empty_ranges::{
+    empty_range_bodies, empty_range_limits, empty_range_openings, empty_range_recordings,
+    empty_range_runs, empty_range_sets,
+};
 pub use formula_counts::{formula_counts, typed_formula_counts};
 pub use runs::{run, Plan, Tally};
 pub use set_calls::{set_figures, set_opening};

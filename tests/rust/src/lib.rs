@@ -8,6 +8,7 @@
 //! - `guard_pages`: memory at pages that nobody may touch, and a library to which all is
 //!   lent there.
 //! - `library`: the boundary to the library.
+//! - `ranges`: the ranges of a formula, with their pairs and places.
 //! - `states`: a state's bytes, and which number a call on any of them is due.
 //! - `records`: the same of a set's records.
 //! - `notation`: short names, with which the tests write rules and recordings.
@@ -25,6 +26,7 @@ pub mod library;
 pub mod notation;
 pub mod paper;
 pub mod random;
+pub mod ranges;
 pub mod records;
 pub mod stand_in;
 pub mod states;

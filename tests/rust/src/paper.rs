@@ -13,7 +13,9 @@ pub mod text;
 
 pub use body::{read_body, write_body, Bound, Formula};
 pub use calls::{answer_at, decided_by, open, step_refusal, Answer, Lengths, Opened, Watch};
-pub use figures::{exact_cells, figures, formula_figures, Figures};
+pub use figures::{
+    exact_cells, figures, formula_figures, tick_pair, variable_pair, Figures, Low, Pair,
+};
 pub use meaning::{evaluate, outcome, rule_outcome, Outcome, Verdict};
 pub use sets::{
     all_cells, open_set, set_rules, set_step_refusal, sheet_rules, OpenedSet, SetAnswer,

@@ -7,6 +7,7 @@
 //! tests is the suites: that they ask what they should, and see what differs.
 
 mod calendars;
+mod empty_ranges;
 mod sets;
 mod texts;
 
@@ -21,6 +22,7 @@ use crate::paper::{
 use crate::random::{places, Place};
 use crate::states::{self, number_at, put_number, LIVE_AT, NEXT_AT, OPENED_AT, SIZE_AT};
 pub use calendars::CalendarFlaw;
+pub use empty_ranges::EmptyRangeFlaw;
 pub use sets::SetFlaw;
 
 #[derive(Clone, Copy, Debug, PartialEq, Eq)]
@@ -116,6 +118,8 @@ pub enum Flaw {
     ChangesStateBody,
     BatchAnswers19,
     TakesEmptyBatch,
+    // Ranges that are always empty.
+    EmptyRange(EmptyRangeFlaw),
     // The calls on a set.
     Set(SetFlaw),
     // The calls with a calendar.
@@ -158,7 +162,10 @@ impl StandIn {
             Err(24) if self.has(Flaw::Exchanges23And24) => Err(23),
             Err(24) if self.has(Flaw::FarInfinityIs8) && has_far_infinity(body) => Err(8),
             Ok(_) if self.has(Flaw::InnerBoundIs23) && has_inner_bound(body) => Err(23),
-            Err(number) => Err(self.at_the_65th(Reader::Figures, body, number)),
+            Err(number) => match self.unread_figures(body) {
+                Some(figures) => Ok(figures),
+                None => Err(self.at_the_65th(Reader::Figures, body, number)),
+            },
             Ok(formula) => self.formula_figures(&formula),
         }
     }
@@ -194,6 +201,7 @@ impl StandIn {
             }
             Ok(_) if self.has(Flaw::NoPositionsAfterTheBody) && none_over_many(formula) => Err(15),
             Err(11 | 12) if self.has(Flaw::HistoryBeforeDelay) && begins_at_0(formula) => Err(13),
+            Ok(figures) => self.with_empty_ranges(formula, figures),
             other => other,
         }
     }
@@ -206,7 +214,7 @@ impl StandIn {
                 other => (first, other),
             }),
             Flaw::ThenAsBeside => then_as_beside(formula),
-            _ => formula.clone(),
+            _ => self.waiting(formula),
         }
     }
 

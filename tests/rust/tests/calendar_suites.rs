@@ -31,7 +31,7 @@ fn the_right_one_passes_hostile_input() {
     let tally = hostile::calendar_states(&RIGHT, 605, 300).unwrap();
     assert!(tally.kept > 1_000 && tally.past > 1_000, "{tally:?}");
     assert!(tally.refused.each_at_least(&[17, 18, 19, 20, 21], 30), "{tally:?}");
-    let numbers = hostile::every_calendar_length(&RIGHT, 606, 1).unwrap();
+    let numbers = hostile::every_calendar_length(&RIGHT, 606, 2).unwrap();
     assert!(numbers.each_at_least(&[0, 7, 17, 18, 19], 20), "{numbers:?}");
     assert_eq!(hostile::empty_calendars(&RIGHT), Ok(()));
     assert_eq!(hostile::huge_calendars(&RIGHT), Ok(()));

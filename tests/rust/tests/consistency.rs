@@ -6,8 +6,18 @@ use rust_tests::paper::{
     Verdict, Watch,
 };
 use rust_tests::random::{
-    accepted_rule, sheet_bodies, sheet_of, stream, visits, wild_formula, Random,
+    accepted_rule, often_empty_rule, sheet_bodies, sheet_of, stream, visits, wild_formula, Random,
+    Rule,
 };
+
+/// A rule that the engine accepts; one in three has many ranges that are always empty.
+fn some_rule(random: &mut Random) -> Rule {
+    if random.one_in(3) {
+        often_empty_rule(random)
+    } else {
+        accepted_rule(random)
+    }
+}
 
 /// What is known at horizon t of an outcome at a later one.
 fn cut(outcome: Outcome, t: i64) -> Outcome {
@@ -49,7 +59,7 @@ fn outcomes_stay() {
     let mut compared = 0;
     for round in 0..1_500 {
         let formula = match round % 2 {
-            0 => accepted_rule(&mut random).formula,
+            0 => some_rule(&mut random).formula,
             _ => wild_formula(&mut random),
         };
         let recording = recording_for(&mut random, &formula);
@@ -64,7 +74,7 @@ fn decided_in_time() {
     let mut random = Random::new(102);
     let (mut decided, mut at_last) = (0, 0);
     for _ in 0..3_000 {
-        let rule = accepted_rule(&mut random);
+        let rule = some_rule(&mut random);
         let delay = rule.figures.delay as i64;
         let length = rule.figures.delay as usize + random.size(1, 30);
         let flags = stream(&mut random, length);
@@ -86,7 +96,7 @@ fn older_flags_do_not_matter() {
     let mut random = Random::new(103);
     let (mut compared, mut oldest_mattered) = (0, 0);
     for _ in 0..3_000 {
-        let rule = accepted_rule(&mut random);
+        let rule = some_rule(&mut random);
         let history = rule.figures.history as usize;
         if history > 300 {
             continue;
@@ -115,7 +125,7 @@ fn watch_is_the_definition() {
     let mut random = Random::new(104);
     let (mut steps, mut reported) = (0, 0);
     for _ in 0..400 {
-        let rule = accepted_rule(&mut random);
+        let rule = some_rule(&mut random);
         let flags = stream(&mut random, 40);
         let mut watch = Watch::new(rule.formula.clone());
         for t in 0..flags.len() {
@@ -136,7 +146,7 @@ fn each_violation_once() {
     let mut random = Random::new(105);
     let mut violations = 0;
     for _ in 0..300 {
-        let rule = accepted_rule(&mut random);
+        let rule = some_rule(&mut random);
         let flags = stream(&mut random, 60);
         let mut watch = Watch::new(rule.formula.clone());
         let mut seen = Vec::new();

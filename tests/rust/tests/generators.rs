@@ -3,14 +3,16 @@
 
 use rust_tests::paper::{
     body_of_text, evaluate, figures, read_body, rule_place, set_rules, write_body, write_sheet,
-    Bound, Formula, BODY_REFUSALS, LAST_REFUSAL, MAX_HISTORY, MAX_OFFSET, RULE_REFUSALS,
+    Bound, Formula, Low, BODY_REFUSALS, LAST_REFUSAL, MAX_DELAY, MAX_HISTORY, MAX_OFFSET,
+    RULE_REFUSALS,
 };
 use rust_tests::random::{
     accepted_rule, aimed, any_body, any_set_sheet, any_text, begun, calendar_length,
     calendar_words, crowded, damaged_sheet, depth, edge_ticks, faulty_bounds, figure_boundary,
-    loose_text, rule_of_cells, rule_set, sheet_of_rules, size, stream, twice_damaged, typed,
-    wild_formula, writer_input, Random, Rule,
+    loose_text, often_empty_rule, rule_of_cells, rule_set, sheet_of_rules, size, stream,
+    twice_damaged, typed, wild_formula, writer_input, Random, Rule,
 };
+use rust_tests::ranges::{ranges, Around, Placed};
 
 /// How often each number was answered, 0 for none.
 type Counts = [u64; LAST_REFUSAL as usize + 1];
@@ -202,6 +204,90 @@ fn at_flag(formula: &Formula, variable: usize) -> bool {
         Formula::Flag(v, _) => *v == variable,
         Formula::Not(part) | Formula::ForAll(_, _, part) => at_flag(part, variable),
         Formula::Then(f, g) | Formula::Beside(f, g) => at_flag(f, variable) || at_flag(g, variable),
+    }
+}
+
+/// The rules of which one range in four is always empty.
+fn often_empty_rules() -> Vec<Rule> {
+    let mut random = Random::new(216);
+    (0..4_000).map(|_| often_empty_rule(&mut random)).collect()
+}
+
+fn all_ranges(rules: &[Rule]) -> Vec<Placed> {
+    rules.iter().flat_map(|rule| ranges(&rule.formula)).collect()
+}
+
+/// About one range in four that is counted by its place; from infinity, and through variables
+/// of every depth, by one position and by more.
+#[test]
+fn one_range_in_four_is_always_empty() {
+    let counted = all_ranges(&often_empty_rules()).into_iter().filter(Placed::counted);
+    let (empty, live): (Vec<_>, Vec<_>) = counted.partition(Placed::always_empty);
+    let share = 100 * empty.len() / (empty.len() + live.len());
+    assert!((21..=29).contains(&share), "{share} of a hundred, {} in all", empty.len());
+    let count = |wanted: &dyn Fn(&Placed) -> bool| empty.iter().filter(|r| wanted(r)).count();
+    let gap = |range: &Placed| match (range.pair.l, range.pair.u) {
+        (Low::At(l), Some(u)) => Some(l - u),
+        _ => None,
+    };
+    assert!(count(&|range| range.bounds == (Bound::Infinity, Bound::Infinity)) > 200);
+    assert!(count(&|range| range.pair.l == Low::Infinity && range.pair.u.is_some()) > 200);
+    assert!(count(&|range| gap(range) == Some(1)) > 200);
+    assert!(count(&|range| gap(range) > Some(1)) > 200);
+    assert!(live.iter().filter(|range| gap(range) == Some(0)).count() > 200);
+    for variable in 0..=3 {
+        let from = |bound| matches!(bound, Bound::Variable(v, _) if v == variable);
+        assert!(count(&|range| from(range.bounds.0)) > 20, "from variable {variable}");
+        assert!(count(&|range| from(range.bounds.1)) > 20, "to variable {variable}");
+    }
+}
+
+/// As the only formula, and in each part of every formula.
+#[test]
+fn always_empty_ranges_stand_everywhere() {
+    let empty: Vec<Placed> =
+        all_ranges(&often_empty_rules()).into_iter().filter(Placed::always_empty).collect();
+    let count = |wanted: &dyn Fn(&Placed) -> bool| empty.iter().filter(|r| wanted(r)).count();
+    assert!(count(&|range| range.around.is_empty()) > 100, "alone");
+    for around in [
+        Around::Not,
+        Around::ThenFirst,
+        Around::ThenSecond,
+        Around::BesideFirst,
+        Around::BesideSecond,
+        Around::Range,
+        Around::EmptyRange,
+    ] {
+        let right_in = |range: &Placed| range.around.last() == Some(&around);
+        assert!(count(&right_in) > 200, "{around:?}: {}", count(&right_in));
+    }
+    assert!(count(&|range| range.outer.len() == 3) > 100, "the fourth nested");
+}
+
+/// Always empty ranges over what the engine refuses where it is counted, and over many formulas.
+/// Document 01 refused such rules; each of its reasons is there.
+#[test]
+fn always_empty_ranges_stand_over_anything() {
+    let rules = often_empty_rules();
+    let count = |wanted: &dyn Fn(&Rule) -> bool| rules.iter().filter(|r| wanted(r)).count();
+    let has =
+        |rule: &Rule, wanted: &dyn Fn(&Placed) -> bool| ranges(&rule.formula).iter().any(wanted);
+    let endless = |range: &Placed| range.pair.u.is_none();
+    let delayed = |range: &Placed| range.pair.u.is_some_and(|u| u > MAX_DELAY);
+    let from_0 = |range: &Placed| range.pair.l == Low::MinusInfinity;
+    let far_back = |range: &Placed| matches!(range.pair.l, Low::At(l) if -l > MAX_HISTORY as i64);
+    let reasons: [&dyn Fn(&Placed) -> bool; 4] = [&endless, &delayed, &from_0, &far_back];
+    for (at, reason) in reasons.iter().enumerate() {
+        let seen = count(&|rule| has(rule, reason));
+        assert!(seen > 50, "reason {at}: {seen}");
+    }
+    let refused_by_01 = |rule: &Rule| reasons.iter().any(|reason| has(rule, reason));
+    assert!(count(&refused_by_01) > rules.len() / 4, "{} newly accepted", count(&refused_by_01));
+    assert!(count(&|rule| size(&rule.formula) > 40) > 50, "large");
+    assert!(count(&|rule| rule.figures.delay > 0) > rules.len() / 2, "with a delay");
+    assert!(count(&|rule| rule.figures.history > 0) > rules.len() / 4, "with a history");
+    for rule in &rules {
+        assert_eq!(read_body(&rule.body), Ok(rule.formula.clone()));
     }
 }
 

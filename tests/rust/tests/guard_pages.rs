@@ -49,6 +49,15 @@ fn runs() {
     on_both_sides(|library| compare::runs(library, 3_009, 500, 50_000));
 }
 
+/// The body of an always empty range has no cells of its own.
+#[test]
+fn always_empty_ranges() {
+    on_both_sides(|library| compare::empty_range_bodies(library, 3_037, 1_000));
+    on_both_sides(|library| compare::empty_range_recordings(library, 3_038, 200));
+    on_both_sides(|library| compare::empty_range_runs(library, 3_039, 250, 25_000));
+    on_both_sides(|library| compare::empty_range_sets(library, 3_040, 50, 2_000));
+}
+
 #[test]
 fn texts() {
     on_both_sides(|library| compare::texts(library, 3_010, 5_000));

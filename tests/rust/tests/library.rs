@@ -46,6 +46,15 @@ const CALENDAR_RULES: u64 = 2_500;
 const CALENDAR_STEPS: u64 = 250_000;
 const CALENDAR_OPENINGS: usize = 6_000;
 
+/// The same with rules of which one range in four is always empty.
+const EMPTY_RANGE_BODIES: usize = 7_000;
+const EMPTY_RANGE_OPENINGS: usize = 3_000;
+const EMPTY_RANGE_RECORDINGS: usize = 2_000;
+const EMPTY_RANGE_RULES: u64 = 2_500;
+const EMPTY_RANGE_STEPS: u64 = 200_000;
+const EMPTY_RANGE_SETS: u64 = 500;
+const EMPTY_RANGE_SET_STEPS: u64 = 20_000;
+
 fn check_runs(seed: u64) {
     let tally = compare::runs(&Linked, seed, RULES, STEPS).unwrap();
     assert!(tally.rules >= RULES && tally.steps >= STEPS, "{tally:?}");
@@ -280,4 +289,43 @@ fn calendar_openings() {
     assert!(tally.openings > 20 * often, "{tally:?}");
     assert!(tally.refused.each_at_least(&[1, 2, 3, 17, 18], often), "{tally:?}");
     assert!(tally.refused.each_at_least(RULE_REFUSALS, often), "{tally:?}");
+}
+
+#[test]
+fn empty_range_bodies() {
+    let numbers = compare::empty_range_limits(&Linked).unwrap();
+    assert!(numbers.of(0) > 60, "{numbers:?}");
+    let numbers = compare::empty_range_bodies(&Linked, 1_025, EMPTY_RANGE_BODIES).unwrap();
+    let each = (EMPTY_RANGE_BODIES / RULE_REFUSALS.len()) as u64;
+    assert!(numbers.each_at_least(BODY_REFUSALS, each / 4), "{numbers:?}");
+    assert!(numbers.of(0) > EMPTY_RANGE_BODIES as u64, "{numbers:?}");
+}
+
+#[test]
+fn empty_range_openings() {
+    let numbers = compare::empty_range_openings(&Linked, 1_026, EMPTY_RANGE_OPENINGS).unwrap();
+    let often = EMPTY_RANGE_OPENINGS as u64 / 20;
+    assert!(numbers.each_at_least(&[0, 17, 18], often), "{numbers:?}");
+}
+
+#[test]
+fn empty_range_recordings() {
+    let asked = compare::empty_range_recordings(&Linked, 1_027, EMPTY_RANGE_RECORDINGS).unwrap();
+    assert!(asked > 10 * EMPTY_RANGE_RECORDINGS as u64, "{asked} ticks asked");
+}
+
+#[test]
+fn empty_range_runs() {
+    let (rules, steps) = (EMPTY_RANGE_RULES, EMPTY_RANGE_STEPS);
+    let tally = compare::empty_range_runs(&Linked, 1_028, rules, steps).unwrap();
+    assert!(tally.rules >= rules && tally.steps >= steps, "{tally:?}");
+    check_tally(&tally);
+}
+
+#[test]
+fn empty_range_sets() {
+    let (sets, steps) = (EMPTY_RANGE_SETS, EMPTY_RANGE_SET_STEPS);
+    let tally = compare::empty_range_sets(&Linked, 1_029, sets, steps).unwrap();
+    assert!(tally.sets >= sets && tally.steps >= steps, "{tally:?}");
+    check_set_tally(&tally);
 }

@@ -50,6 +50,24 @@ fn position_0_and_infinity() {
     assert_eq!(triple(all(INFINITY, x(0), flag(0, Y))), Ok((0, 0, 2)));
 }
 
+/// 02, point 6: "The marked case infinity..X keeps 0, 0, 2; infinity..infinity and X+5..X+2 are
+/// accepted with the same figures."
+#[test]
+fn always_empty_ranges() {
+    for (first, second) in [(INFINITY, x(0)), (INFINITY, INFINITY), (x(5), x(2))] {
+        assert_eq!(triple(all(first, second, flag(0, Y))), Ok((0, 0, 2)));
+        // "Its body isn't counted at all."
+        let endless = all(start(0), INFINITY, flag(0, Z));
+        assert_eq!(triple(all(first, second, endless)), Ok((0, 0, 2)));
+        for tick in 0..4 {
+            let rule = all(first, second, flag(0, Y));
+            assert_eq!(rule_outcome(&rule, &bits("0000"), tick), true_at(tick));
+        }
+    }
+    assert_eq!(triple(all(x(1), x(0), flag(0, Y))), Ok((0, 0, 2)));
+    assert_eq!(triple(all(x(0), x(0), flag(0, Y))), Ok((0, 0, 3)));
+}
+
 #[test]
 fn limits_of_cells_and_delay() {
     assert_eq!(triple(all(x(0), x(62), flag(0, Y))), Ok((0, 62, 4095)));
@@ -206,15 +224,21 @@ fn trap_judging_on_arrival() {
     assert_eq!(answers, due);
 }
 
-/// l > u: only W is 0; delay and history of the range and of its body count.
+/// l > u: neither the range's own delay and history count, nor its body's; the same body counts
+/// where l = u.
 #[test]
-fn empty_range_counts() {
-    // l = 1, u = 0. Body: X-9..X+3, delay 3; history N(0 + 9) = 9; 4 * (1 + 1).
-    let rule = all(x(1), x(0), all(x(-9), x(3), flag(0, Z)));
-    assert_eq!(triple(rule), Ok((9, 3, 8)));
-    // The empty range's own u and l: u = 4, so delay 4; N(0 - 6) = 0; body k = 4.
+fn empty_range_counts_nothing() {
+    // Body: X-9..X+3.
+    let over = |first, second| all(first, second, all(x(-9), x(3), flag(0, Z)));
+    assert_eq!(triple(over(x(1), x(0))), Ok((0, 0, 2)));
+    // Delay 3, history N(0 + 9) = 9. Cells: 1 + (1 + 1 + 13 * 1) = 16; 4 * 17 = 68.
+    assert_eq!(triple(over(x(0), x(0))), Ok((9, 3, 68)));
+    // u = 4, which would be the delay and the body's k.
     let rule = all(x(6), x(4), all(x(-2), x(-2), flag(0, Z)));
-    assert_eq!(triple(rule), Ok((6, 4, 10)));
+    assert_eq!(triple(rule), Ok((0, 0, 2)));
+    // As the first part of "then" it starts the second no later.
+    let reach = all(x(-1), x(-1), flag(0, Y));
+    assert_eq!(triple(then(all(x(6), x(4), flag(0, Y)), reach)), Ok((1, 0, 4)));
 }
 
 /// "then" takes max(k, delay of F), never a sum.

@@ -254,18 +254,33 @@ fn order_of_the_figures() {
     figures_refuse(all(x(0), x(256), flag(0, Y)), 12);
 }
 
+/// 02, point 6: "a range whose l is infinity, or whose l is greater than its u [..], its body
+/// isn't counted at all. Body layout is still checked."
 #[test]
-fn infinity_as_first_bound() {
-    // l is infinity, but u counts: 11 with infinity, 12 with X+256.
-    figures_refuse(all(INFINITY, INFINITY, flag(0, Y)), 11);
-    figures_refuse(all(INFINITY, x(256), flag(0, Y)), 12);
-    // A variable of an endless range carries its u into the delay of the inner one;
-    // the outer one is refused for itself already.
-    figures_refuse(all(INFINITY, INFINITY, all(x(0), x(0), flag(0, Z))), 11);
-    // l of Y+5 is infinity too: 0 for N(k - l), W 0. Delay 2 from u of X+2.
-    let rule = all(INFINITY, x(2), all(y(5), x(0), flag(0, Z)));
-    let got = figures(&write_body(&rule)).unwrap();
-    assert_eq!((got.history, got.delay, got.cells), (0, 2, 6));
+fn always_empty_ranges() {
+    for (first, second) in [(INFINITY, INFINITY), (INFINITY, x(256)), (x(5), x(2))] {
+        // 11, 12 and 13 where they are counted.
+        for part in [
+            all(x(0), INFINITY, flag(0, Z)),
+            all(x(256), x(256), flag(0, Z)),
+            all(start(0), x(0), flag(0, Z)),
+            // The range's own variable, with its infinite l and u.
+            all(y(5), y(0), flag(0, Z)),
+        ] {
+            assert!(figures(&write_body(&all(first, second, part))).is_ok());
+        }
+        // 6 to 8: as everywhere.
+        figures_refuse(all(first, second, flag(0, Z)), 6);
+        figures_refuse(all(first, second, flag(8, Y)), 7);
+        figures_refuse(all(first, second, all(x(4096), x(0), flag(0, Z))), 8);
+        // What stands beside it is counted.
+        let range = || all(first, second, flag(0, Y));
+        figures_refuse(beside(range(), all(x(0), INFINITY, flag(0, Y))), 11);
+        figures_refuse(then(range(), all(start(0), x(0), flag(0, Y))), 13);
+    }
+    // l of position 0 is -infinity: it is above no u.
+    figures_refuse(all(start(0), start(-1), flag(0, Y)), 13);
+    figures_refuse(all(start(9), x(-9), flag(0, Y)), 13);
 }
 
 #[test]

@@ -34,7 +34,7 @@ fn the_right_one_passes_runs() {
 
 #[test]
 fn the_right_one_passes_hostile_input() {
-    let numbers = hostile::random_records(&RIGHT, 504, 500).unwrap();
+    let numbers = hostile::random_records(&RIGHT, 504, 600).unwrap();
     assert!(numbers.of(21) > 1_500 && numbers.each_at_least(&[0, 17, 18], 5), "{numbers:?}");
     let numbers = hostile::disturbed_records(&RIGHT, 505, 5).unwrap();
     assert!(numbers.each_at_least(&[0, 21], 150), "{numbers:?}");
@@ -198,7 +198,7 @@ const CAUGHT: &[(SetFlaw, Suite, &str)] = &[
     (SetFlaw::LooksAtFurther, disturbed, "answered 21, due is 0"),
     (SetFlaw::LooksAtFurther, runs, "answered 21"),
     (SetFlaw::BatchStepsFirst, runs, "a batch"),
-    (SetFlaw::BatchStepsFirst, overwritten, "pairs of rule"),
+    (SetFlaw::BatchStepsFirst, overwritten, "a batch wrote"),
     (SetFlaw::BatchFillsReport, runs, "a batch"),
     (SetFlaw::BatchAnswers19, runs, "answered 19"),
     (SetFlaw::BatchAnswers19, every_length, "answered 19, due is 0"),

@@ -9,16 +9,27 @@ use crate::library::Library;
 use crate::paper::{
     set_rules, OpenedSet, SetLengths, CELL_WORDS, MAX_HISTORY, MAX_RULES, RULE_REFUSALS,
 };
-use crate::random::{self, Random, Rule};
+use crate::random::{self, Maker, Random, Rule};
 use std::slice::from_ref;
 
 /// At least so many sets and so many steps.
 pub fn set_runs(library: &dyn Library, seed: u64, sets: u64, steps: u64) -> Check<SetTally> {
+    set_runs_of(library, random::accepted_rule, seed, sets, steps)
+}
+
+/// The same of rules that are made so.
+pub(super) fn set_runs_of(
+    library: &dyn Library,
+    make: Maker,
+    seed: u64,
+    sets: u64,
+    steps: u64,
+) -> Check<SetTally> {
     let mut random = Random::new(seed);
     let mut tally = SetTally::default();
     let average = (steps / sets) as usize;
     while tally.sets < sets || tally.steps < steps {
-        let rules = random::rule_set(&mut random);
+        let rules = random::rule_set_of(&mut random, make);
         let history = some_history_length(&mut random, &rules);
         let taken = some_steps(&mut random, &rules, average);
         set_run(library, &mut random, &rules, history, taken, &mut tally)?;

@@ -1,4 +1,6 @@
-//! "Figures": delay, history and cells, with refusals 11 to 15.
+//! "Figures": delay, history and cells, with refusals 11 to 15. By 02, point 6, "a range whose l
+//! is infinity, or whose l is greater than its u, now has delay 0, history 0 and one cell, and its
+//! body isn't counted at all".
 
 use super::{read_body, Bound, Formula, Refusal, MAX_CELLS, MAX_DELAY, MAX_HISTORY};
 
@@ -10,8 +12,8 @@ pub struct Figures {
 }
 
 /// The lower number of a pair.
-#[derive(Clone, Copy)]
-enum Low {
+#[derive(Clone, Copy, Debug, PartialEq, Eq)]
+pub enum Low {
     MinusInfinity,
     At(i64),
     Infinity,
@@ -19,10 +21,21 @@ enum Low {
 
 /// "Each variable has a pair (l, u): its position lies from p + l to p + u."
 /// For u, `None` is infinity; minus infinity doesn't occur there.
-#[derive(Clone, Copy)]
-struct Pair {
-    l: Low,
-    u: Option<i64>,
+#[derive(Clone, Copy, Debug, PartialEq, Eq)]
+pub struct Pair {
+    pub l: Low,
+    pub u: Option<i64>,
+}
+
+impl Pair {
+    /// "A range whose l is infinity, or whose l is greater than its u".
+    pub fn always_empty(self) -> bool {
+        match self.l {
+            Low::MinusInfinity => false,
+            Low::At(l) => self.u.is_some_and(|u| l > u),
+            Low::Infinity => true,
+        }
+    }
 }
 
 /// "Asked for a body's figures, the library answers all three or a refusal from
@@ -50,8 +63,8 @@ pub fn formula_figures(formula: &Formula) -> Result<Figures, Refusal> {
     Ok(Figures { history: history as u64, delay: delay as u64, cells: cells as u64 })
 }
 
-/// "Variable 0: (0, 0)."
-fn tick_pair() -> Vec<Pair> {
+/// The pairs of the variables that are bound at the rule: "Variable 0: (0, 0)."
+pub fn tick_pair() -> Vec<Pair> {
     vec![Pair { l: Low::At(0), u: Some(0) }]
 }
 
@@ -88,7 +101,7 @@ fn plus(l: Low, n: i64) -> Low {
 }
 
 /// "A quantifier gives its variable l of B1 and u of B2."
-fn variable_pair(first: Bound, second: Bound, pairs: &[Pair]) -> Pair {
+pub fn variable_pair(first: Bound, second: Bound, pairs: &[Pair]) -> Pair {
     Pair { l: bound_pair(first, pairs).l, u: bound_pair(second, pairs).u }
 }
 
@@ -123,6 +136,9 @@ fn delay(formula: &Formula, pairs: &mut Vec<Pair>) -> Option<i64> {
         Formula::Then(f, g) | Formula::Beside(f, g) => larger(delay(f, pairs), delay(g, pairs)),
         Formula::ForAll(first, second, body) => {
             let pair = variable_pair(*first, *second, pairs);
+            if pair.always_empty() {
+                return Some(0);
+            }
             let of_body = inside(pair, pairs, |pairs| delay(body, pairs));
             larger(of_body, pair.u.map(n))
         }
@@ -144,6 +160,9 @@ fn history(formula: &Formula, k: i64, pairs: &mut Vec<Pair>) -> Option<i64> {
         }
         Formula::ForAll(first, second, body) => {
             let pair = variable_pair(*first, *second, pairs);
+            if pair.always_empty() {
+                return Some(0);
+            }
             let later = k.max(n(pair.u?));
             let of_body = inside(pair, pairs, |pairs| history(body, later, pairs));
             larger(reach_back(k, pair.l), of_body)
@@ -172,19 +191,19 @@ fn cells(formula: &Formula, pairs: &mut Vec<Pair>) -> i128 {
         Formula::Beside(f, g) => 1 + cells(f, pairs) + cells(g, pairs),
         Formula::ForAll(first, second, body) => {
             let pair = variable_pair(*first, *second, pairs);
+            if pair.always_empty() {
+                return 1;
+            }
             let of_body = inside(pair, pairs, |pairs| cells(body, pairs));
             1 + width(pair) * (1 + of_body)
         }
     }
 }
 
-/// "W is u - l + 1, or 0 if l is infinity or l > u."
+/// "W is u - l + 1, or 0 if l is infinity or l > u": it isn't 0 where a range is counted.
 fn width(pair: Pair) -> i128 {
-    let u = pair.u.expect("an infinite u was refused with 11");
-    match pair.l {
-        Low::Infinity => 0,
-        Low::MinusInfinity => panic!("l of -infinity was refused with 13"),
-        Low::At(l) if l > u => 0,
-        Low::At(l) => (u - l + 1) as i128,
+    match (pair.l, pair.u) {
+        (Low::At(l), Some(u)) => (u - l + 1) as i128,
+        _ => panic!("an infinite u was refused with 11, and l of -infinity with 13"),
     }
 }

@@ -1,8 +1,10 @@
 //! Formulas of all five codes, and rules that the engine accepts.
 
+use super::empty_ranges::{empty_or_tame, uncounted};
 use super::Random;
 use crate::paper::{
-    formula_figures, write_body, Bound, Figures, Formula, MAX_FORMULAS, MAX_NESTED, MAX_OFFSET,
+    formula_figures, tick_pair, variable_pair, write_body, Bound, Figures, Formula, Pair,
+    MAX_FORMULAS, MAX_NESTED, MAX_OFFSET,
 };
 
 /// A rule that the engine accepts.
@@ -13,20 +15,33 @@ pub struct Rule {
     pub figures: Figures,
 }
 
+/// How rules that the engine accepts are made.
+pub type Maker = fn(&mut Random) -> Rule;
+
 /// What a random formula is aimed at.
 #[derive(Clone, Copy)]
-struct Aim {
+pub(super) struct Aim {
     /// The number of formulas.
-    size: usize,
+    pub size: usize,
     /// The most nested quantifiers.
-    nested: usize,
+    pub nested: usize,
     /// Offsets of first bounds lie from `low` to `high`.
-    low: i64,
-    high: i64,
+    pub low: i64,
+    pub high: i64,
     /// A range has up to this many positions more than one.
-    width: i64,
-    /// Bounds and offsets of every kind, also at the limits.
-    wild: bool,
+    pub width: i64,
+    pub ranges: Ranges,
+}
+
+/// Which ranges a random formula has.
+#[derive(Clone, Copy, PartialEq)]
+pub(super) enum Ranges {
+    /// Those that the engine accepts.
+    Tame,
+    /// Half of them with bounds and offsets of every kind, also at the limits.
+    Wild,
+    /// Many always empty, over anything; the others tame.
+    OftenEmpty,
 }
 
 /// A formula with bounds of every kind, which the body reader accepts and the
@@ -34,12 +49,17 @@ struct Aim {
 pub fn wild_formula(random: &mut Random) -> Formula {
     let size = if random.one_in(8) { random.size(1, MAX_FORMULAS) } else { random.size(1, 12) };
     let nested = random.size(0, MAX_NESTED);
-    let wild = !random.one_in(4);
-    tree(random, Aim { size, nested, low: -3, high: 3, width: 3, wild }, 0)
+    let ranges = if random.one_in(4) { Ranges::Tame } else { Ranges::Wild };
+    made(random, Aim { size, nested, low: -3, high: 3, width: 3, ranges })
 }
 
 /// A rule that the engine accepts. Most have a delay of 1 to 20.
 pub fn accepted_rule(random: &mut Random) -> Rule {
+    accepted(random, candidate)
+}
+
+/// The first of these candidates that the engine accepts, and few without delay or range.
+pub(super) fn accepted(random: &mut Random, candidate: fn(&mut Random) -> Formula) -> Rule {
     loop {
         let formula = candidate(random);
         let Ok(figures) = formula_figures(&formula) else {
@@ -59,25 +79,25 @@ fn candidate(random: &mut Random) -> Formula {
     match random.below(20) {
         0..=8 => {
             let (size, nested) = (random.size(2, 12), random.size(1, 3));
-            tree(random, Aim { size, nested, low: -3, high: 4, width: 4, wild: false }, 0)
+            made(random, Aim { size, nested, low: -3, high: 4, width: 4, ranges: Ranges::Tame })
         }
         9..=11 => {
             let size = random.size(5, 20);
-            tree(random, Aim { size, nested: 4, low: -2, high: 2, width: 2, wild: false }, 0)
+            made(random, Aim { size, nested: 4, low: -2, high: 2, width: 2, ranges: Ranges::Tame })
         }
         12..=13 => {
             let (size, nested) = (random.size(2, 6), random.size(1, 2));
-            tree(random, Aim { size, nested, low: -25, high: 8, width: 12, wild: false }, 0)
+            made(random, Aim { size, nested, low: -25, high: 8, width: 12, ranges: Ranges::Tame })
         }
         14..=15 => four_ranges(random),
         16 => {
             let (size, nested) = (random.size(2, 4), random.size(1, 2));
-            tree(random, Aim { size, nested, low: -9, high: 250, width: 5, wild: false }, 0)
+            made(random, Aim { size, nested, low: -9, high: 250, width: 5, ranges: Ranges::Tame })
         }
         17 => long_history(random),
         18 => {
             let size = random.size(20, MAX_FORMULAS);
-            tree(random, Aim { size, nested: 2, low: -1, high: 2, width: 1, wild: false }, 0)
+            made(random, Aim { size, nested: 2, low: -1, high: 2, width: 1, ranges: Ranges::Tame })
         }
         _ => wild_formula(random),
     }
@@ -86,7 +106,7 @@ fn candidate(random: &mut Random) -> Formula {
 /// Four nested ranges of one to three positions, with nots and conjunctions
 /// between them.
 fn four_ranges(random: &mut Random) -> Formula {
-    let aim = Aim { size: 2, nested: 4, low: -2, high: 2, width: 1, wild: false };
+    let aim = Aim { size: 2, nested: 4, low: -2, high: 2, width: 1, ranges: Ranges::Tame };
     let mut formula = flag(random, 4);
     for nested in (0..MAX_NESTED).rev() {
         let (first, second) = tame_range(random, aim, nested);
@@ -125,28 +145,52 @@ fn long_history(random: &mut Random) -> Formula {
     }
 }
 
-/// A formula of `aim.size` formulas nested under `nested` quantifiers.
-fn tree(random: &mut Random, aim: Aim, nested: usize) -> Formula {
+/// A rule's formula of `aim.size` formulas, and more where ranges are empty.
+pub(super) fn made(random: &mut Random, aim: Aim) -> Formula {
+    tree(random, aim, &mut tick_pair())
+}
+
+/// A formula in which variables of these pairs are bound.
+pub(super) fn tree(random: &mut Random, aim: Aim, pairs: &mut Vec<Pair>) -> Formula {
+    let nested = pairs.len() - 1;
     if aim.size == 1 {
         return flag(random, nested);
     }
     let rest = Aim { size: aim.size - 1, ..aim };
     let choice = random.below(10);
     if choice < 5 && nested < aim.nested {
-        let (first, second) = range(random, aim, nested);
-        return Formula::ForAll(first, second, Box::new(tree(random, rest, nested + 1)));
+        let bounds = range(random, aim, pairs);
+        return for_all(random, rest, pairs, bounds);
     }
     if choice < 7 || aim.size == 2 {
-        return not(tree(random, rest, nested));
+        return not(tree(random, rest, pairs));
     }
     let left = random.size(1, aim.size - 2);
-    let f = tree(random, Aim { size: left, ..aim }, nested);
-    let g = tree(random, Aim { size: aim.size - 1 - left, ..aim }, nested);
+    let f = tree(random, Aim { size: left, ..aim }, pairs);
+    let g = tree(random, Aim { size: aim.size - 1 - left, ..aim }, pairs);
     if random.one_in(2) {
         then(f, g)
     } else {
         beside(f, g)
     }
+}
+
+/// The range between these bounds, over what is aimed at.
+fn for_all(
+    random: &mut Random,
+    aim: Aim,
+    pairs: &mut Vec<Pair>,
+    (first, second): (Bound, Bound),
+) -> Formula {
+    let pair = variable_pair(first, second, pairs);
+    pairs.push(pair);
+    let part = if aim.ranges == Ranges::OftenEmpty && pair.always_empty() {
+        uncounted(random, aim, pairs)
+    } else {
+        tree(random, aim, pairs)
+    };
+    pairs.pop();
+    Formula::ForAll(first, second, Box::new(part))
 }
 
 fn not(part: Formula) -> Formula {
@@ -162,23 +206,27 @@ fn beside(f: Formula, g: Formula) -> Formula {
 }
 
 /// A flag at some variable, most often at the innermost.
-fn flag(random: &mut Random, nested: usize) -> Formula {
+pub(super) fn flag(random: &mut Random, nested: usize) -> Formula {
     let variable = if random.one_in(3) { random.size(0, nested) } else { nested };
     let flag = if random.one_in(8) { random.below(8) as u8 } else { random.pick(&[0, 0, 1, 7]) };
     Formula::Flag(variable, flag)
 }
 
-fn range(random: &mut Random, aim: Aim, nested: usize) -> (Bound, Bound) {
-    if aim.wild && random.one_in(2) {
-        return (wild_bound(random, nested), wild_bound(random, nested));
+fn range(random: &mut Random, aim: Aim, pairs: &[Pair]) -> (Bound, Bound) {
+    let nested = pairs.len() - 1;
+    match aim.ranges {
+        Ranges::OftenEmpty => empty_or_tame(random, aim, pairs),
+        Ranges::Wild if random.one_in(2) => {
+            (wild_bound(random, nested), wild_bound(random, nested))
+        }
+        _ => tame_range(random, aim, nested),
     }
-    tame_range(random, aim, nested)
 }
 
 /// A range that the engine accepts: most often from one variable's
 /// neighbourhood, sometimes none, with position 0 at its end, with infinity at
 /// its beginning, or from one variable to another.
-fn tame_range(random: &mut Random, aim: Aim, nested: usize) -> (Bound, Bound) {
+pub(super) fn tame_range(random: &mut Random, aim: Aim, nested: usize) -> (Bound, Bound) {
     let variable = random.size(0, nested);
     let low = random.between(aim.low, aim.high);
     let high = low + random.between(0, aim.width);
@@ -192,7 +240,7 @@ fn tame_range(random: &mut Random, aim: Aim, nested: usize) -> (Bound, Bound) {
     }
 }
 
-fn wild_bound(random: &mut Random, nested: usize) -> Bound {
+pub(super) fn wild_bound(random: &mut Random, nested: usize) -> Bound {
     let offset = wild_offset(random);
     match random.below(8) {
         0 | 1 => Bound::Start(offset),

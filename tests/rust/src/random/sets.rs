@@ -1,7 +1,7 @@
 //! Rules for a set: as many as open together, and sheets of about as many.
 
 use super::bodies::neighbours;
-use super::formulas::{accepted_rule, Rule};
+use super::formulas::{accepted_rule, Maker, Rule};
 use super::sheets::{damage, sheet_of};
 use super::Random;
 use crate::paper::{
@@ -10,17 +10,26 @@ use crate::paper::{
 
 /// 1 to 32 rules that have at most 4,096 cells together; now and then two are the same.
 pub fn rule_set(random: &mut Random) -> Vec<Rule> {
+    rule_set_of(random, accepted_rule)
+}
+
+/// The same of rules that are made so.
+pub fn rule_set_of(random: &mut Random, make: Maker) -> Vec<Rule> {
     let count = match random.below(6) {
         0 => random.size(1, 2),
         1 | 2 => random.size(2, 5),
         3 | 4 => random.size(5, 14),
         _ => random.size(14, MAX_RULES),
     };
-    rules_within(random, count, MAX_CELLS as u64)
+    made_within(random, make, count, MAX_CELLS as u64)
 }
 
 /// So many rules that have at most so many cells together.
 pub fn rules_within(random: &mut Random, count: usize, cells: u64) -> Vec<Rule> {
+    made_within(random, accepted_rule, count, cells)
+}
+
+fn made_within(random: &mut Random, make: Maker, count: usize, cells: u64) -> Vec<Rule> {
     let mut rules: Vec<Rule> = Vec::new();
     let mut left = cells;
     for missing in (1..=count).rev() {
@@ -28,7 +37,7 @@ pub fn rules_within(random: &mut Random, count: usize, cells: u64) -> Vec<Rule> 
         let rule = if !rules.is_empty() && random.one_in(8) {
             smallest(&rules)
         } else {
-            rule_within(random, share)
+            rule_within(random, make, share)
         };
         left -= rule.figures.cells;
         rules.insert(random.size(0, rules.len()), rule);
@@ -36,9 +45,9 @@ pub fn rules_within(random: &mut Random, count: usize, cells: u64) -> Vec<Rule> 
     rules
 }
 
-fn rule_within(random: &mut Random, cells: u64) -> Rule {
+fn rule_within(random: &mut Random, make: Maker, cells: u64) -> Rule {
     loop {
-        let rule = accepted_rule(random);
+        let rule = make(random);
         if rule.figures.cells <= cells {
             return rule;
         }
