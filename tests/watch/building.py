@@ -107,7 +107,7 @@ class Building(Repository):
         self.assertEqual(self.calls(), ["rt check watch"])
 
 
-LIBRARY_CRATES = "words:\nexports_rules: words\nexports_watch: words\nexports_sets: words\nexports_calendar: words\n"
+LIBRARY_CRATES = "words:\nexports_rules: words\nexports_watch: words\nexports_sets: words\nexports_calendar: words\nexports_questions: words\n"
 
 # Each part has a function of its own and one that is local to it and called the same in each.
 LIBRARY_RT = """#!/bin/sh
@@ -121,10 +121,10 @@ ar rcs "lib$2.a" ./*.o
 rm ./*.o
 """
 
-PART_BEGUN = "library: building: 1 of 5 crates proved (words, 2 s)\n"
+PART_BEGUN = "library: building: 1 of 6 crates proved (words, 2 s)\n"
 LIBRARY_BEGIN = BEGIN.replace("watch", "library") + PART_BEGUN
 LIBRARY_BUILT = "library: built target/lib/libstation_watch.a and target/lib/libstation_watch.so\n"
-ALL_PARTS = LIBRARY_BEGIN + 3 * PART_BEGUN + LIBRARY_BUILT
+ALL_PARTS = LIBRARY_BEGIN + 4 * PART_BEGUN + LIBRARY_BUILT
 
 
 class Library(Repository):
@@ -146,8 +146,8 @@ class Library(Repository):
     def test_the_parts_are_one_library(self):
         """And the archive is the same from build to build."""
         self.ends(0, "", ALL_PARTS)
-        self.assertEqual(self.calls(), ["rt staticlib exports_" + part for part in ("rules", "watch", "sets", "calendar")])
-        parts = ["sw_exports_calendar", "sw_exports_rules", "sw_exports_sets", "sw_exports_watch"]
+        self.assertEqual(self.calls(), ["rt staticlib exports_" + part for part in ("rules", "watch", "sets", "calendar", "questions")])
+        parts = ["sw_exports_calendar", "sw_exports_questions", "sw_exports_rules", "sw_exports_sets", "sw_exports_watch"]
         self.assertEqual(self.functions("--extern-only", self.archive), parts)
         self.assertEqual(self.functions("--dynamic", self.path("target", "lib", "libstation_watch.so")), parts)
         self.assertEqual(os.readlink(self.path("target", "lib", "libstation_watch.so.9.8")), "libstation_watch.so")

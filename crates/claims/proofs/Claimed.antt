@@ -19,7 +19,7 @@ use Rattle.engine.proofs.Demand3 as values
 use Rattle.exports_watch.proofs.Demand3 as bytes
 use Rattle.exports_sets.proofs.Demand3 as sets
 use Rattle.exports_calendar.proofs.Demand3 as calendars
-use Rattle.exports_calendar.proofs.Told as told
+use Rattle.exports_questions.proofs.Told as told
 use Rattle.calendar.proofs.Said as said
 use Rattle.demand.proofs.SetAlone as alone
 use Rattle.cell_runs.specs.Moves.{Stands}

@@ -44,7 +44,7 @@ use Rattle.cell_runs.specs.Moves.{Stands}
 use Rattle.engine.specs.declared.state.State as code
 use Rattle.engine.specs.States.{state-of, fresh-code, moved-code, by-value}
 use Rattle.state_bytes.specs.Numbers.{number-at}
-use Rattle.exports_calendar.specs.Ticks.{NoneTold}
+use Rattle.exports_questions.specs.Ticks.{NoneTold}
 use Rattle.state_bytes.specs.States.{loaded, stored, Storable, moved-bytes, in-bytes}
 
 pub record Claims : Type 0 where

@@ -1,3 +1,2 @@
 pub mod Kept
 pub mod Demand3
-pub mod Told

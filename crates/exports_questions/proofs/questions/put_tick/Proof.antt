@@ -1,13 +1,13 @@
--- `exports_calendar::questions::put_tick` meets its contract.
+-- `exports_questions::questions::put_tick` meets its contract.
 use mathlib.Core.Path.{sym, ap, _∙_}
 use denote.Ref.{now}
 use Rattle.refusal.specs.Answer.{Answer, or-kept, number}
 use Rattle.calendar.specs.declared.UpTick.{UpTick}
 use Rattle.calendar_questions.specs.Answers.{tick-answer}
-use Rattle.exports_calendar.specs.Ticks.{tick-number}
+use Rattle.exports_questions.specs.Ticks.{tick-number}
 use borrow.Author.Needs.{needs}
-use Rattle.exports_calendar.proofs.questions.put_tick.Statement.{statement}
-use Rattle.exports_calendar.proofs.questions.put_tick.Tie as tie
+use Rattle.exports_questions.proofs.questions.put_tick.Statement.{statement}
+use Rattle.exports_questions.proofs.questions.put_tick.Tie as tie
 
 enum-known-answer : tie.Need-enum-known-answer
 enum-known-answer c = search needs

@@ -1,12 +1,12 @@
--- `exports_calendar::questions::sw_calendar_ups` meets its contract.
+-- `exports_questions::questions::sw_calendar_ups` meets its contract.
 use Prim.Native.Nat.{ℕ}
 use mathlib.Core.Path.{sym, ap, _∙_}
 use denote.Ref.{now}
 use Rattle.refusal.specs.Answer.{Answer, or-kept, number}
 use Rattle.calendar_questions.specs.Answers.{count-answer}
 use borrow.Author.Needs.{needs}
-use Rattle.exports_calendar.proofs.questions.sw_calendar_ups.Statement.{statement}
-use Rattle.exports_calendar.proofs.questions.sw_calendar_ups.Tie as tie
+use Rattle.exports_questions.proofs.questions.sw_calendar_ups.Statement.{statement}
+use Rattle.exports_questions.proofs.questions.sw_calendar_ups.Tie as tie
 
 ups-requires : tie.Need-ups-requires
 ups-requires c κs = search needs

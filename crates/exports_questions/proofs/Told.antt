@@ -9,7 +9,7 @@ use Rattle.calendar.specs.declared.UpTick.the-variants.{At, None}
 use Rattle.calendar.specs.Calendar.{kept, up-at, first-up, last-up, nearest-up}
 use Rattle.calendar.specs.Said.{Near, InRange, FirstUp, LastUp, NearestUp}
 use Rattle.calendar.proofs.Said.{first-up-said, last-up-said, nearest-up-said}
-use Rattle.exports_calendar.specs.Ticks.{tick-number, TellsNone, NoneTold}
+use Rattle.exports_questions.specs.Ticks.{tick-number, TellsNone, NoneTold}
 
 module _ (words : List ℕ) (few : kept words ≤ 18446744073709551615) (k : ℕ) where
   -- One of these ticks, kept and up, was found.

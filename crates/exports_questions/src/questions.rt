@@ -3,7 +3,7 @@ ghost use mathlib.Core.Path.{_≡_};
 ghost use Rattle.refusal.specs.Answer.{number, or-kept};
 ghost use Rattle.calendar.specs.Calendar.{ups, first-up, last-up, nearest-up};
 ghost use Rattle.calendar_questions.specs.Answers.{of-flag, tick-answer};
-ghost use Rattle.exports_calendar.specs.Ticks.{tick-number};
+ghost use Rattle.exports_questions.specs.Ticks.{tick-number};
 use calendar::UpTick;
 use calendar_questions::CountAnswer;
 use calendar_questions::TickAnswer;
