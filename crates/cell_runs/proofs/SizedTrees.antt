@@ -8,9 +8,7 @@ use mathlib.Core.List.{List, [], _∷_, _++_}
 use native.Mathlib.Omega.{arith}
 use native.Mathlib.Nat.{zero-mul}
 use lib.ListN.{getD, drop}
-use Rattle.rule.specs.declared.Verdict.the-variants.{True}
 use Rattle.rule.specs.declared.Outcome.{Outcome}
-use Rattle.rule.specs.declared.Outcome.the-variants.{Decided, Open}
 use Rattle.rule.specs.declared.Size.{Size}
 use Rattle.rule.specs.declared.Pair.{Pair}
 use Rattle.rule.specs.Formula.{Bound, Formula}

@@ -19,8 +19,8 @@ sized (forall B₁ B₂ F) ps =
     range-node B₁ B₂ (4 * (1 + cap (cells F (ps ++ (range-pair B₁ B₂ ps ∷ [])))))
     (sized F (ps ++ (range-pair B₁ B₂ ps ∷ [])))
 
--- A tree with these sizes, but for ranges that are always empty: a table has no size for these, their bodies hold what the reader found in the table,
--- and no step looks at either.
+-- A tree with these sizes, but for ranges that are always empty: a table has no size for these, the words of their bodies are as the reader left them,
+-- and neither changes what a step does.
 unfoldable pub RightSizes : List Pair → Tree → Type 0
 RightSizes ps (flag-node variable k) = Unit {0}
 RightSizes ps (not-node F) = RightSizes ps F

@@ -51,7 +51,7 @@ words ps (beside-node size F G) = 4 + size + words ps G
 words ps (range-node B₁ B₂ size F) = 4 + cap (width (range-pair B₁ B₂ ps)) * size
 
 -- Where the variables have the pairs `ps`, a range's W is its count, the sizes are enough, each flag's variable is bound and at most 4 quantifiers
--- are nested. The body of a range with no position is never looked at, and its sizes may be past every word: nothing is asked of it.
+-- are nested. The body of a range with no position is never looked at, and its sizes may be anything: nothing is asked of it.
 unfoldable pub Formed : List Pair → Tree → Type 0
 Formed ps (flag-node variable k) = variable < length ps
 Formed ps (not-node F) = Formed ps F

@@ -17,8 +17,8 @@ use Rattle.figures.specs.Distances.{inside, Modest}
 use Rattle.figures.specs.Parts.{FigureOf}
 
 -- Beside: word 9 is the words of the first part's run. For all: word 8 is the words of one position's slot. Both are made of cells that are
--- counted up to 4,097: within the limits these are 01's figures. A range that is always empty has no size, and nothing is said of its body's words: the
--- engine never looks at them.
+-- counted up to 4,097: within the limits these are 01's figures. A range that is always empty has no size, and nothing is said of the sizes in its body: a
+-- step never comes there.
 unfoldable pub SizesAt : Formula → List ℕ → List Pair → ℕ → Type 0
 SizesAt (flag variable k) ns ps node = Unit {0}
 SizesAt (negate F) ns ps node = SizesAt F ns ps (node + 12)

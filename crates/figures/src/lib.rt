@@ -14,7 +14,8 @@ use measure::measure_rule;
 use nodes::TABLE_WORDS;
 use reader::Reading;
 
-// Reads a body into the node table, writes the sizes of its nodes (words 8 and 9) and answers its figures. A refusal leaves the table all 0.
+// Reads a body into the node table, writes the sizes of its nodes (words 8 and 9; none for a range that is always empty, nor in its body) and answers its
+// figures. A refusal leaves the table all 0.
 pub fn prepare(body: &[u8], nodes: &mut [u32; TABLE_WORDS]) -> FigureAnswer
     ensures { λ r. ⌜ Prepared (now (body .entry)) r (now (nodes .exit)) ⌝ }
 {

@@ -16,6 +16,9 @@ use crate::scope::with_pair;
 use cell_count::beside_cells;
 use cell_count::range_cells;
 use cell_count::then_cells;
+use figure_numbers::always_empty;
+use figure_numbers::larger_size;
+use figure_numbers::range_delay;
 use nodes::BESIDE_CODE;
 use nodes::CODE;
 use nodes::FIRST_WORDS;
@@ -31,9 +34,6 @@ use nodes::skip_nots;
 use rule::Limit;
 use rule::Pair;
 use rule::Size;
-use sizes::always_empty;
-use sizes::larger_size;
-use sizes::range_delay;
 
 // A formula's figures; its cells are counted up to 4,097.
 pub(crate) struct Figure {
@@ -91,7 +91,7 @@ fn empty_figure() -> Figure
     }
 }
 
-// Any other range, whose variable has `pair`, started at k at the latest, over a body with `figure`.
+// Any other range, whose variable has `pair`, started at k at the latest, over a body with `figure`. Here W is never 0 and l never infinity.
 fn range_figure(pair: Pair, k: Size, figure: Figure) -> Figure
     requires { ⌜ Near farthest (pair .lower) × (Near farthest (pair .upper) × Modest k) ⌝ }
     ensures { λ r. ⌜ r ≡ range-figure pair k figure ⌝ }

@@ -52,7 +52,6 @@ limits =
       pairs-above = refl;
       nested-within = refl;
       nested-above = refl;
-      none-over-many = refl;
     }
 
 pub orders : Orders
@@ -137,6 +136,7 @@ empty-ranges =
       over-the-start = refl;
       over-no-end = refl;
       over-far = refl;
+      over-many = refl;
       over-empty = refl;
       under-not = refl;
       first-of-then = refl;
@@ -149,8 +149,11 @@ empty-ranges =
       unknown-code = refl;
       not-bound = refl;
       flag-8 = refl;
+      offset-above = refl;
       nested-five = refl;
       left-over = refl;
+      variable-byte = refl;
+      infinity-offset = refl;
     }
 
 pub run : ExampleRun

@@ -63,8 +63,6 @@ pub record Limits : Type 0 where
   pub pairs-above : body (besides 32) ≡ refused 9
   pub nested-within : body-figures (nested 4) ≡ refused 13
   pub nested-above : body (nested 5) ≡ refused 9
-  -- W = 0 leaves one cell, whatever the body needs: X+1..X over X-4,095..X, whose own cells are 4,097
-  pub none-over-many : body-figures (over (var 0 1 0) (var 0 0 0) (over (var 0 1 0xF0) (var 0 0 0) (up-at 2))) ≡ figures-are 0 0 2
 
 pub record Orders : Type 0 where
   pub empty : body [] ≡ refused 4

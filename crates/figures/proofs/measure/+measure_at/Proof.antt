@@ -26,8 +26,8 @@ use Rattle.figures.proofs.scope.range_pair.Reads as range-pair-reads
 use Rattle.figures.proofs.scope.with_pair.Reads as with-pair-reads
 use Rattle.nodes.proofs.node_word.Reads as node-word-reads
 use Rattle.nodes.proofs.skip_nots.Reads as skip-nots-reads
-use Rattle.sizes.proofs.always_empty.Reads as always-empty-reads
-use Rattle.sizes.proofs.larger_size.Reads as larger-size-reads
+use Rattle.figure_numbers.proofs.always_empty.Reads as always-empty-reads
+use Rattle.figure_numbers.proofs.larger_size.Reads as larger-size-reads
 use Rattle.figures.proofs.measure.+measure_at.{statement}
 use Rattle.figures.proofs.measure.+measure_at.Tie.{close}
 

@@ -1,4 +1,4 @@
--- `sizes::range_delay` meets its contract.
+-- `figure_numbers::range_delay` meets its contract.
 use mathlib.Core.Path.{ap, _∙_}
 use borrow.Author.Needs.{needs}
 use mir.Syntax.{w64}
@@ -6,8 +6,8 @@ use mir.ValLaws.{toZ-ofZ}
 use Rattle.rule.specs.Meaning.{raised}
 use Rattle.rule.specs.Figures.{N}
 use Rattle.rule.specs.declared.Size.the-variants.{Finite}
-use Rattle.sizes.proofs.range_delay.Statement.{statement}
-use Rattle.sizes.proofs.range_delay.Tie as tie
+use Rattle.figure_numbers.proofs.range_delay.Statement.{statement}
+use Rattle.figure_numbers.proofs.range_delay.Tie as tie
 
 enum-told : tie.Need-enum-told
 enum-told c = search needs

@@ -1,12 +1,12 @@
--- `sizes::always_empty` meets its contract.
+-- `figure_numbers::always_empty` meets its contract.
 use mathlib.Core.Path.{ap₂}
 use borrow.Author.Needs.{needs}
 use lib.Signed.{ltZ}
 use mir.Syntax.{w64}
 use mir.ValLaws.{toZ-ofZ}
 use Rattle.rule.specs.Figures.{none-between, always-empty}
-use Rattle.sizes.proofs.always_empty.Statement.{statement}
-use Rattle.sizes.proofs.always_empty.Tie as tie
+use Rattle.figure_numbers.proofs.always_empty.Statement.{statement}
+use Rattle.figure_numbers.proofs.always_empty.Tie as tie
 
 enum-told : tie.Need-enum-told
 enum-told c = search needs

@@ -1,4 +1,5 @@
-// Numbers from 0 on and infinity, and a range's own pair: the larger of two sizes, 01's N(u), and 02's ranges that are always empty.
+// Numbers of figures, some of them infinite: the larger of two sizes, 01's N(u), and whether the pair of a range's variable leaves it always empty (02, point
+// 6).
 ghost use mathlib.Core.Path.{_≡_};
 ghost use Rattle.rule.specs.Figures.{larger, N, always-empty};
 use outcomes::later;

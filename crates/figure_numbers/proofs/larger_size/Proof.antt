@@ -1,10 +1,10 @@
--- `sizes::larger_size` meets its contract.
+-- `figure_numbers::larger_size` meets its contract.
 use mathlib.Core.Path.{ap}
 use borrow.Author.Needs.{needs}
 use Rattle.rule.specs.Figures.{larger}
 use Rattle.rule.specs.declared.Size.the-variants.{Finite}
-use Rattle.sizes.proofs.larger_size.Statement.{statement}
-use Rattle.sizes.proofs.larger_size.Tie as tie
+use Rattle.figure_numbers.proofs.larger_size.Statement.{statement}
+use Rattle.figure_numbers.proofs.larger_size.Tie as tie
 
 enum-told : tie.Need-enum-told
 enum-told c = search needs
