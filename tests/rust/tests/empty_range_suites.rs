@@ -59,8 +59,11 @@ fn sets(library: &dyn Library) -> Check {
 
 /// Each flaw, the suite that must catch it, and a word of what it must say.
 const CAUGHT: &[(EmptyRangeFlaw, Suite, &str)] = &[
-    (EmptyRangeFlaw::EqualIsEmpty, limits, "due is"),
+    (EmptyRangeFlaw::EqualIsEmpty, limits, "[0, 0, 2], due is [0, 0, 3]"),
     (EmptyRangeFlaw::EqualIsEmpty, bodies, "due is"),
+    (EmptyRangeFlaw::ByTypedBounds, limits, "answered 0, due is 11"),
+    (EmptyRangeFlaw::ByTypedBounds, bodies, "due is"),
+    (EmptyRangeFlaw::FromZeroIsEmpty, limits, "answered 0, due is 13"),
     (EmptyRangeFlaw::CountsDelay, limits, "answered 11, due is 0"),
     (EmptyRangeFlaw::CountsDelay, bodies, "due is"),
     (EmptyRangeFlaw::CountsFiniteEnd, limits, "due is"),

@@ -59,8 +59,8 @@ fn full_offsets(random: &mut Random, nested: usize) -> Formula {
     formula
 }
 
-/// One in three is always empty, and no other: one in four of those in accepted rules, of which
-/// few have no delay.
+/// One in three is made always empty, the others never are. Among accepted rules that leaves one
+/// in four.
 pub(super) fn empty_or_tame(random: &mut Random, aim: Aim, pairs: &[Pair]) -> (Bound, Bound) {
     let empty = random.one_in(3);
     loop {
