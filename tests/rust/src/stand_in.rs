@@ -244,7 +244,7 @@ impl StandIn {
         }
         let by_21 = |number| if self.has(Flaw::BodyByItsNumber) { number } else { 21 };
         let formula = paper::read_body(&state[..size as usize]).map_err(by_21)?;
-        let figures = paper::formula_figures(&formula).map_err(by_21)?;
+        let figures = self.counted(&formula).map_err(by_21)?;
         if length < figures.history {
             return Err(if self.has(Flaw::ShortHistoryIs17) { 17 } else { 21 });
         }
