@@ -47,7 +47,7 @@ impl StandIn {
         self.flaw == Flaw::EmptyRange(flaw)
     }
 
-    /// The figures, but for flaws that have nothing to do with such ranges.
+    /// The figures, with no flaw but one at such ranges.
     pub(super) fn counted(&self, formula: &Formula) -> Result<Figures, Refusal> {
         match self.flaw {
             Flaw::EmptyRange(flaw) => paper::figures_without(formula, flaw.uncounted()),
