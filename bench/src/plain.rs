@@ -200,8 +200,8 @@ type Pair = (Option<i64>, i64);
 fn pair(bound: Bound, pairs: &[Pair]) -> Pair {
     match bound {
         Bound::Variable(v, offset) => (pairs[v].0.map(|l| l + offset), pairs[v].1 + offset),
-        // Where l or u is infinite, the range is always empty or in the body of one
-        // that is, and has no words but its head.
+        // Where l or u is infinite, the range is always empty or in the body of one that is.
+        // What stands for an infinite number does not matter there.
         Bound::Start(offset) => (None, offset),
         Bound::Infinity => (None, 0),
     }

@@ -5,7 +5,7 @@ mod common;
 
 use common::{sheet, stream, BODY, FIGURES, FLAG, FLAGS, LATE};
 use station_watch::{
-    figures, sheet_of, Pair, Refusal, State, Watch, MAX_BODY, MAX_TICKS, STATE_BYTES,
+    figures, sheet_of, Figures, Pair, Refusal, State, Watch, MAX_BODY, MAX_TICKS, STATE_BYTES,
 };
 
 fn open(body: &[u8]) -> Watch {
@@ -163,6 +163,19 @@ fn stored_bytes_of_a_wrong_length() {
     let mut long = [0; STATE_BYTES];
     long[520..528].copy_from_slice(&u64::MAX.to_le_bytes());
     assert_eq!(Watch::from_bytes(&long).unwrap_err(), Refusal::StateNotOpened);
+}
+
+/// For all Y from infinity to X + 5, flag 0 at Y: 2 cells. Before 0.7.0 the rule had a delay of
+/// 5 and 12 cells.
+#[test]
+fn stored_by_an_earlier_version() {
+    let mut watch = open(&[5, 1, 0, 0, 0, 2, 0, 5, 0, 1, 1, 0]);
+    all_pairs(&mut watch, &FLAGS);
+    assert_eq!(watch.figures(), Figures { history: 0, delay: 0, cells: 2 });
+    let mut bytes = watch.to_bytes();
+    assert_eq!(Watch::from_bytes(&bytes).unwrap().to_bytes(), bytes);
+    bytes.resize(STATE_BYTES + 12 * 16, 0);
+    assert_eq!(Watch::from_bytes(&bytes).unwrap_err().number(), 21);
 }
 
 /// Of a longer cell table a watch keeps what its rule needs.

@@ -1,5 +1,6 @@
 //! Hostile input: states and tables that no opening and no step left, lengths
-//! of all sizes, overwritten histories. Guards stand around all that is lent.
+//! of all sizes, overwritten histories. Guards stand around all that is lent. One rule
+//! in three has many ranges that are always empty.
 //!
 //! "For another dishonest state or table it [21] may come before any other; one
 //! not caught gets some ending step, which writes at most one history byte, the
@@ -72,7 +73,7 @@ fn random_state(random: &mut Random) -> Vec<u8> {
         2 => {
             // A body somewhere in it.
             let mut state: Vec<u8> = vec![0; STATE_BYTES];
-            let body = random::accepted_rule(random).body;
+            let body = random::some_rule(random).body;
             let at = random.below(STATE_BYTES - body.len());
             state[at..at + body.len()].copy_from_slice(&body);
             for _ in 0..random.size(0, 8) {
@@ -99,7 +100,7 @@ pub fn forged_states(library: &dyn Library, seed: u64, count: usize) -> Check<Nu
     let mut random = Random::new(seed);
     let mut numbers = Numbers::default();
     for _ in 0..count {
-        let rule = random::accepted_rule(&mut random);
+        let rule = random::some_rule(&mut random);
         let mut lot = forged_lot(&mut random, &rule);
         take_some(library, &mut random, &mut lot, 3, &mut numbers)?;
     }
@@ -158,7 +159,7 @@ pub fn damaged_states(library: &dyn Library, seed: u64, count: usize) -> Check<N
     let mut random = Random::new(seed);
     let mut numbers = Numbers::default();
     for _ in 0..count {
-        let rule = random::accepted_rule(&mut random);
+        let rule = random::some_rule(&mut random);
         let steps = random.size(0, 30);
         let mut lot = honest(library, &mut random, &rule, steps)?;
         match random.below(4) {
@@ -204,7 +205,7 @@ fn damage_cells(random: &mut Random, lot: &mut Lot) {
 
 /// The state of another rule, or of another moment, in place of its own.
 fn take_foreign_state(library: &dyn Library, random: &mut Random, lot: &mut Lot) -> Check {
-    let rule = random::accepted_rule(random);
+    let rule = random::some_rule(random);
     let steps = random.size(0, 30);
     let other = honest(library, random, &rule, steps)?;
     lot.state.part().copy_from_slice(other.state.seen());
@@ -230,7 +231,7 @@ pub fn overwritten_histories(library: &dyn Library, seed: u64, count: usize) -> 
     let mut random = Random::new(seed);
     let mut steps = 0;
     for _ in 0..count {
-        let rule = random::accepted_rule(&mut random);
+        let rule = random::some_rule(&mut random);
         let taken = random.size(0, 20);
         let mut lot = honest(library, &mut random, &rule, taken)?;
         for _ in 0..30 {
@@ -380,7 +381,7 @@ fn empty_history(library: &dyn Library) -> Check {
 pub fn huge_lengths(library: &dyn Library) -> Check {
     const HUGE: usize = 1 << 22;
     let mut random = Random::new(5);
-    let rule = random::accepted_rule(&mut random);
+    let rule = random::some_rule(&mut random);
     let sheet = random::sheet_of(std::slice::from_ref(&rule.body));
     let mut followed = rule.body.clone();
     followed.resize(HUGE, 1);
@@ -425,7 +426,7 @@ fn typed(length: usize) -> Vec<u8> {
 
 /// A step with a huge history, refused; with a huge table and report, taken.
 fn huge_step(library: &dyn Library, random: &mut Random, huge: usize) -> Check {
-    let rule = random::accepted_rule(random);
+    let rule = random::some_rule(random);
     let mut lot = honest(library, random, &rule, 5)?;
     let own = lot.history.clone();
     lot.history = Lent::new(&vec![3; huge]);

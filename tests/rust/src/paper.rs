@@ -14,7 +14,8 @@ pub mod text;
 pub use body::{read_body, write_body, Bound, Formula};
 pub use calls::{answer_at, decided_by, open, step_refusal, Answer, Lengths, Opened, Watch};
 pub use figures::{
-    exact_cells, figures, formula_figures, tick_pair, variable_pair, Figures, Low, Pair,
+    always_empty, exact_cells, figures, figures_without, formula_figures, tick_pair, variable_pair,
+    Figures, Low, Pair, Uncounted,
 };
 pub use meaning::{evaluate, outcome, rule_outcome, Outcome, Verdict};
 pub use sets::{

@@ -15,11 +15,11 @@ pub use bodies::{
     neighbours, places, twice_damaged, Neighbours, Place,
 };
 pub use calendars::{calendar_length, calendar_words, edge_ticks};
-pub use empty_ranges::{often_empty_formula, often_empty_rule, under_empty_range};
+pub use empty_ranges::{often_empty_formula, often_empty_rule, some_rule, under_empty_range};
 pub use formulas::{accepted_rule, depth, quantifiers, size, visits, wild_formula, Maker, Rule};
 pub use sets::{
-    any_set_sheet, refused_with, rule_ahead, rule_of_cells, rule_set, rule_set_of, rules_within,
-    sheet_of_rules,
+    any_set_sheet, refused_with, rule_ahead, rule_of, rule_of_cells, rule_set, rule_set_of,
+    rules_within, sheet_of_rules,
 };
 pub use sheets::{damaged_sheet, sheet_bodies, sheet_of, sheet_with, writer_input, WriterInput};
 pub use streams::stream;

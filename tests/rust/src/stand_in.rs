@@ -187,7 +187,7 @@ impl StandIn {
         let figures = if self.has(Flaw::ZeroIsThisTick) {
             paper::formula_figures(&bounds_changed(formula, &zero_is_this_tick))
         } else {
-            paper::formula_figures(formula)
+            self.counted(formula)
         };
         match figures {
             Ok(f) if self.has(Flaw::DelayBelow255) && f.delay == 255 => Err(12),
@@ -201,7 +201,6 @@ impl StandIn {
             }
             Ok(_) if self.has(Flaw::NoPositionsAfterTheBody) && none_over_many(formula) => Err(15),
             Err(11 | 12) if self.has(Flaw::HistoryBeforeDelay) && begins_at_0(formula) => Err(13),
-            Ok(figures) => self.with_empty_ranges(formula, figures),
             other => other,
         }
     }
@@ -245,7 +244,7 @@ impl StandIn {
         }
         let by_21 = |number| if self.has(Flaw::BodyByItsNumber) { number } else { 21 };
         let formula = paper::read_body(&state[..size as usize]).map_err(by_21)?;
-        let figures = paper::formula_figures(&formula).map_err(by_21)?;
+        let figures = self.counted(&formula).map_err(by_21)?;
         if length < figures.history {
             return Err(if self.has(Flaw::ShortHistoryIs17) { 17 } else { 21 });
         }

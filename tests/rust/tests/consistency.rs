@@ -5,19 +5,7 @@ use rust_tests::paper::{
     answer_at, decided_by, read_body, rule_body, rule_outcome, write_body, Formula, Outcome,
     Verdict, Watch,
 };
-use rust_tests::random::{
-    accepted_rule, often_empty_rule, sheet_bodies, sheet_of, stream, visits, wild_formula, Random,
-    Rule,
-};
-
-/// A rule that the engine accepts; one in three has many ranges that are always empty.
-fn some_rule(random: &mut Random) -> Rule {
-    if random.one_in(3) {
-        often_empty_rule(random)
-    } else {
-        accepted_rule(random)
-    }
-}
+use rust_tests::random::{sheet_bodies, sheet_of, some_rule, stream, visits, wild_formula, Random};
 
 /// What is known at horizon t of an outcome at a later one.
 fn cut(outcome: Outcome, t: i64) -> Outcome {

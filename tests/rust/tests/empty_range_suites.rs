@@ -2,6 +2,7 @@
 //! tests the others: the right one passes, and each wrong one is caught.
 
 use rust_tests::compare::{self, Check};
+use rust_tests::hostile;
 use rust_tests::library::Library;
 use rust_tests::paper::BODY_REFUSALS;
 use rust_tests::stand_in::{EmptyRangeFlaw, Flaw, StandIn};
@@ -57,16 +58,35 @@ fn sets(library: &dyn Library) -> Check {
     compare::empty_range_sets(library, 709, 10, 400).map(|_| ())
 }
 
+fn forged(library: &dyn Library) -> Check {
+    hostile::forged_states(library, 710, 100).map(|_| ())
+}
+
+fn damaged(library: &dyn Library) -> Check {
+    hostile::damaged_states(library, 711, 50).map(|_| ())
+}
+
+fn overwritten(library: &dyn Library) -> Check {
+    hostile::overwritten_histories(library, 712, 20).map(|_| ())
+}
+
 /// Each flaw, the suite that must catch it, and a word of what it must say.
 const CAUGHT: &[(EmptyRangeFlaw, Suite, &str)] = &[
-    (EmptyRangeFlaw::EqualIsEmpty, limits, "due is"),
+    (EmptyRangeFlaw::EqualIsEmpty, limits, "[0, 0, 2], due is [0, 0, 3]"),
     (EmptyRangeFlaw::EqualIsEmpty, bodies, "due is"),
+    (EmptyRangeFlaw::ByTypedBounds, limits, "answered 0, due is 11"),
+    (EmptyRangeFlaw::ByTypedBounds, bodies, "due is"),
+    (EmptyRangeFlaw::FromZeroIsEmpty, limits, "answered 0, due is 13"),
     (EmptyRangeFlaw::CountsDelay, limits, "answered 11, due is 0"),
     (EmptyRangeFlaw::CountsDelay, bodies, "due is"),
+    (EmptyRangeFlaw::CountsDelay, forged, "a step answered"),
+    (EmptyRangeFlaw::CountsDelay, damaged, "a step answered"),
+    (EmptyRangeFlaw::CountsDelay, overwritten, "a step answered"),
     (EmptyRangeFlaw::CountsFiniteEnd, limits, "due is"),
     (EmptyRangeFlaw::CountsFiniteEnd, bodies, "due is"),
     (EmptyRangeFlaw::CountsHistory, limits, "answered 13, due is 0"),
     (EmptyRangeFlaw::CountsHistory, bodies, "due is"),
+    (EmptyRangeFlaw::CountsHistory, forged, "answered 21, due is"),
     (EmptyRangeFlaw::LeavesBodyUnread, bodies, "answered 0, due is"),
     (EmptyRangeFlaw::WaitsForTheEnd, recordings, "due is"),
     (EmptyRangeFlaw::WaitsForTheEnd, runs, "due is"),
@@ -85,7 +105,7 @@ fn each_wrong_one_is_caught() {
 /// The same suites pass without a flaw, so that it is the flaw they caught.
 #[test]
 fn the_catching_suites_pass_the_right_one() {
-    for suite in [limits as Suite, bodies, recordings, runs, sets] {
+    for suite in [limits as Suite, bodies, recordings, runs, sets, forged, damaged, overwritten] {
         assert_eq!(suite(&RIGHT), Ok(()));
     }
 }

@@ -2,8 +2,8 @@
 //! inside, interesting rules, streams with long runs.
 
 use rust_tests::paper::{
-    body_of_text, evaluate, figures, read_body, rule_place, set_rules, write_body, write_sheet,
-    Bound, Formula, Low, BODY_REFUSALS, LAST_REFUSAL, MAX_DELAY, MAX_HISTORY, MAX_OFFSET,
+    body_of_text, evaluate, figures, figures_without, read_body, rule_place, set_rules, write_body,
+    write_sheet, Bound, Formula, Low, BODY_REFUSALS, LAST_REFUSAL, MAX_HISTORY, MAX_OFFSET,
     RULE_REFUSALS,
 };
 use rust_tests::random::{
@@ -265,24 +265,17 @@ fn always_empty_ranges_stand_everywhere() {
 }
 
 /// Always empty ranges over what the engine refuses where it is counted, and over many formulas.
-/// Document 01 refused such rules; each of its reasons is there.
+/// Document 01, which counted every range, refused such rules with each of 11 to 15.
 #[test]
 fn always_empty_ranges_stand_over_anything() {
     let rules = often_empty_rules();
     let count = |wanted: &dyn Fn(&Rule) -> bool| rules.iter().filter(|r| wanted(r)).count();
-    let has =
-        |rule: &Rule, wanted: &dyn Fn(&Placed) -> bool| ranges(&rule.formula).iter().any(wanted);
-    let endless = |range: &Placed| range.pair.u.is_none();
-    let delayed = |range: &Placed| range.pair.u.is_some_and(|u| u > MAX_DELAY);
-    let from_0 = |range: &Placed| range.pair.l == Low::MinusInfinity;
-    let far_back = |range: &Placed| matches!(range.pair.l, Low::At(l) if -l > MAX_HISTORY as i64);
-    let reasons: [&dyn Fn(&Placed) -> bool; 4] = [&endless, &delayed, &from_0, &far_back];
-    for (at, reason) in reasons.iter().enumerate() {
-        let seen = count(&|rule| has(rule, reason));
-        assert!(seen > 50, "reason {at}: {seen}");
+    let by_01 = |rule: &Rule| figures_without(&rule.formula, [|_, _, _| false; 3]);
+    for number in 11..=15 {
+        let seen = count(&|rule| by_01(rule) == Err(number));
+        assert!(seen >= 5, "{number}: {seen}");
     }
-    let refused_by_01 = |rule: &Rule| reasons.iter().any(|reason| has(rule, reason));
-    assert!(count(&refused_by_01) > rules.len() / 4, "{} newly accepted", count(&refused_by_01));
+    assert!(count(&|rule| by_01(rule).is_err()) > rules.len() / 4, "newly accepted");
     assert!(count(&|rule| size(&rule.formula) > 40) > 50, "large");
     assert!(count(&|rule| rule.figures.delay > 0) > rules.len() / 2, "with a delay");
     assert!(count(&|rule| rule.figures.history > 0) > rules.len() / 4, "with a history");

@@ -5,7 +5,8 @@ use rust_tests::library::Running;
 use rust_tests::notation::*;
 use rust_tests::paper::{
     evaluate, figures, open, open_set, read_body, rule_body, rule_place, set_step_refusal,
-    step_refusal, write_body, write_sheet, Formula, Lengths, OpenedSet, Refusal, SetLengths,
+    step_refusal, write_body, write_sheet, Figures, Formula, Lengths, OpenedSet, Refusal,
+    SetLengths,
 };
 use rust_tests::random::{rule_of_cells, sheet_of, sheet_of_rules};
 use rust_tests::records;
@@ -267,7 +268,8 @@ fn always_empty_ranges() {
             // The range's own variable, with its infinite l and u.
             all(y(5), y(0), flag(0, Z)),
         ] {
-            assert!(figures(&write_body(&all(first, second, part))).is_ok());
+            let none = Figures { history: 0, delay: 0, cells: 2 };
+            assert_eq!(figures(&write_body(&all(first, second, part))), Ok(none));
         }
         // 6 to 8: as everywhere.
         figures_refuse(all(first, second, flag(0, Z)), 6);

@@ -198,7 +198,7 @@ const CAUGHT: &[(SetFlaw, Suite, &str)] = &[
     (SetFlaw::LooksAtFurther, disturbed, "answered 21, due is 0"),
     (SetFlaw::LooksAtFurther, runs, "answered 21"),
     (SetFlaw::BatchStepsFirst, runs, "a batch"),
-    (SetFlaw::BatchStepsFirst, overwritten, "a batch wrote"),
+    (SetFlaw::BatchStepsFirst, overwritten, "pairs of rule"),
     (SetFlaw::BatchFillsReport, runs, "a batch"),
     (SetFlaw::BatchAnswers19, runs, "answered 19"),
     (SetFlaw::BatchAnswers19, every_length, "answered 19, due is 0"),

@@ -6,6 +6,7 @@ use super::set_runs::{set_run, SetTally};
 use super::{hex, Check, Numbers};
 use crate::demand;
 use crate::library::Library;
+use crate::notation::{all, flag, x, INFINITY, Y};
 use crate::paper::{
     set_rules, OpenedSet, SetLengths, CELL_WORDS, MAX_HISTORY, MAX_RULES, RULE_REFUSALS,
 };
@@ -138,7 +139,7 @@ fn sum_cases() -> Vec<(Vec<Rule>, u32)> {
     };
     let chosen = chosen_sums().into_iter().map(of_cells);
     let placed = (2..=MAX_RULES).flat_map(placed_sums).map(of_cells);
-    chosen.chain(placed).chain(delayed_sums()).collect()
+    chosen.chain(placed).chain(delayed_sums()).chain(always_empty_sums()).collect()
 }
 
 fn chosen_sums() -> Vec<(Vec<u64>, u32)> {
@@ -188,6 +189,14 @@ fn delayed_sums() -> Vec<(Vec<Rule>, u32)> {
         })
     };
     (0..=62).flat_map(filled).collect()
+}
+
+/// Nine ranges that are always empty and would have 512 cells each, 4,608 together, were their
+/// delay of 255 counted (02, point 6): they have 18. By themselves, and filled up as above.
+fn always_empty_sums() -> Vec<(Vec<Rule>, u32)> {
+    let none = vec![random::rule_of(all(INFINITY, x(255), flag(0, Y))); 9];
+    let with = |cells| [&none[..], &[random::rule_of_cells(cells)]].concat();
+    vec![(none.clone(), 0), (with(4096 - 18), 0), (with(4097 - 18), 27)]
 }
 
 /// Sheets with many reasons for a refusal: 1, 2, the first refused rule's, 27, 17, 18, of which

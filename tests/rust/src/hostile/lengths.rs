@@ -40,7 +40,7 @@ pub(super) fn of_length(random: &mut Random, bytes: &[u8], length: usize) -> Vec
 /// A rule whose tables can be lent in every length.
 pub(super) fn small_rule(random: &mut Random) -> Rule {
     loop {
-        let rule = random::accepted_rule(random);
+        let rule = random::some_rule(random);
         let figures = rule.figures;
         if figures.history < 40 && (1..20).contains(&figures.delay) && figures.cells < 60 {
             return rule;

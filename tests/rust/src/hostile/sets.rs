@@ -89,7 +89,7 @@ fn take_one(library: &dyn Library, random: &mut Random, lot: &mut SetLot) -> Che
 /// A set of few cells after some steps, with so many further records.
 fn some_set(library: &dyn Library, random: &mut Random, further: usize) -> Check<SetLot> {
     let count = if random.one_in(5) { MAX_RULES } else { random.size(1, 9) };
-    let rules = random::rules_within(random, count, 1_200);
+    let rules = random::rules_within(random, random::some_rule, count, 1_200);
     let steps = random.size(0, 12);
     honest_set(library, random, &rules, further, steps)
 }
@@ -222,7 +222,7 @@ pub fn forged_records(library: &dyn Library, seed: u64, count: usize) -> Check<N
 }
 
 fn forged_lot(random: &mut Random) -> SetLot {
-    let rules = random::rule_set(random);
+    let rules = random::rule_set_of(random, random::some_rule);
     let mut sheet = random::sheet_of_rules(&rules);
     let places = rule_places(&sheet);
     let count = random.size(1, MAX_RULES.min(3 + rules.len()));
@@ -345,7 +345,7 @@ pub fn disturbed_neighbours(library: &dyn Library, seed: u64, sets: usize) -> Ch
     let mut reported = 0;
     for _ in 0..sets {
         let count = random.size(2, 9);
-        let rules = random::rules_within(&mut random, count, 1_200);
+        let rules = random::rules_within(&mut random, random::some_rule, count, 1_200);
         let mut lot = honest_set(library, &mut random, &rules, 0, 0)?;
         let own = random.below(count);
         let mut watch = Watch::new(rules[own].formula.clone());

@@ -38,25 +38,37 @@ impl Pair {
     }
 }
 
+/// Whether a range between these bounds is not counted, by the pairs of the variables around it.
+pub type Uncounted = fn(Bound, Bound, &[Pair]) -> bool;
+
+/// What the papers do not count.
+pub fn always_empty(first: Bound, second: Bound, pairs: &[Pair]) -> bool {
+    variable_pair(first, second, pairs).always_empty()
+}
+
 /// "Asked for a body's figures, the library answers all three or a refusal from
 /// 4 to 15." And 23 and 24, with 4 to 10.
 pub fn figures(body: &[u8]) -> Result<Figures, Refusal> {
     formula_figures(&read_body(body)?)
 }
 
-/// "11: delay infinite. 12: above 255. 13: history infinite. 14: above 4,096.
-/// 15: cells above 4,096."
 pub fn formula_figures(formula: &Formula) -> Result<Figures, Refusal> {
-    let mut pairs = tick_pair();
-    let delay = delay(formula, &mut pairs).ok_or(11u32)?;
+    figures_without(formula, [always_empty; 3])
+}
+
+/// "11: delay infinite. 12: above 255. 13: history infinite. 14: above 4,096.
+/// 15: cells above 4,096." With what is not counted in delay, history and cells.
+pub fn figures_without(formula: &Formula, not: [Uncounted; 3]) -> Result<Figures, Refusal> {
+    let [mut of_delay, mut of_history, mut of_cells] = not.map(Scope::new);
+    let delay = delay(formula, &mut of_delay).ok_or(11u32)?;
     if delay > MAX_DELAY {
         return Err(12);
     }
-    let history = history(formula, 0, &mut pairs).ok_or(13u32)?;
+    let history = history(formula, 0, &mut of_history).ok_or(13u32)?;
     if history > MAX_HISTORY as i64 {
         return Err(14);
     }
-    let cells = needed_cells(formula, delay);
+    let cells = needed_cells(formula, delay, &mut of_cells);
     if cells > MAX_CELLS {
         return Err(15);
     }
@@ -69,15 +81,16 @@ pub fn tick_pair() -> Vec<Pair> {
 }
 
 /// "The rule needs (delay + 1) times (1 + its cells)."
-fn needed_cells(formula: &Formula, delay: i64) -> i128 {
-    (delay as i128 + 1) * (1 + cells(formula, &mut tick_pair()))
+fn needed_cells(formula: &Formula, delay: i64, scope: &mut Scope) -> i128 {
+    (delay as i128 + 1) * (1 + cells(formula, scope))
 }
 
 /// The cells that a rule needs, not compared with the limit; its delay must be
 /// finite.
 pub fn exact_cells(formula: &Formula) -> i128 {
-    let delay = delay(formula, &mut tick_pair());
-    needed_cells(formula, delay.expect("an infinite delay is refused with 11"))
+    let mut scope = Scope::new(always_empty);
+    let delay = delay(formula, &mut scope).expect("an infinite delay is refused with 11");
+    needed_cells(formula, delay, &mut scope)
 }
 
 /// "Bounds: position 0 plus offset n, (-infinity, n); infinity, (infinity,
@@ -119,27 +132,44 @@ fn larger(a: Option<i64>, b: Option<i64>) -> Option<i64> {
     Some(a?.max(b?))
 }
 
-/// What `count` answers for the body of a quantifier whose variable has `pair`.
-fn inside<T>(pair: Pair, pairs: &mut Vec<Pair>, count: impl FnOnce(&mut Vec<Pair>) -> T) -> T {
-    pairs.push(pair);
-    let answer = count(pairs);
-    pairs.pop();
-    answer
+/// The variables that are bound at a formula.
+struct Scope {
+    pairs: Vec<Pair>,
+    not: Uncounted,
+}
+
+impl Scope {
+    fn new(not: Uncounted) -> Scope {
+        Scope { pairs: tick_pair(), not }
+    }
+
+    /// The pair of a quantifier's variable, `None` where the range is not counted.
+    fn counted(&self, first: Bound, second: Bound) -> Option<Pair> {
+        let counts = !(self.not)(first, second, &self.pairs);
+        counts.then(|| variable_pair(first, second, &self.pairs))
+    }
+
+    /// What `count` answers for the body of a quantifier whose variable has `pair`.
+    fn inside<T>(&mut self, pair: Pair, count: impl FnOnce(&mut Scope) -> T) -> T {
+        self.pairs.push(pair);
+        let answer = count(self);
+        self.pairs.pop();
+        answer
+    }
 }
 
 /// "Delay: flag 0; not, the part's; the conjunctions, the larger; for all, the
 /// larger of the body's and N(u)." `None` is infinity.
-fn delay(formula: &Formula, pairs: &mut Vec<Pair>) -> Option<i64> {
+fn delay(formula: &Formula, scope: &mut Scope) -> Option<i64> {
     match formula {
         Formula::Flag(..) => Some(0),
-        Formula::Not(part) => delay(part, pairs),
-        Formula::Then(f, g) | Formula::Beside(f, g) => larger(delay(f, pairs), delay(g, pairs)),
+        Formula::Not(part) => delay(part, scope),
+        Formula::Then(f, g) | Formula::Beside(f, g) => larger(delay(f, scope), delay(g, scope)),
         Formula::ForAll(first, second, body) => {
-            let pair = variable_pair(*first, *second, pairs);
-            if pair.always_empty() {
+            let Some(pair) = scope.counted(*first, *second) else {
                 return Some(0);
-            }
-            let of_body = inside(pair, pairs, |pairs| delay(body, pairs));
+            };
+            let of_body = scope.inside(pair, |scope| delay(body, scope));
             larger(of_body, pair.u.map(n))
         }
     }
@@ -149,22 +179,21 @@ fn delay(formula: &Formula, pairs: &mut Vec<Pair>) -> Option<i64> {
 /// beside, the larger, same k; then, the larger of F's with k and G's with
 /// max(k, delay of F); for all, the larger of N(k - l) and the body's with
 /// max(k, N(u))." `None` is infinity; an infinite delay was refused before.
-fn history(formula: &Formula, k: i64, pairs: &mut Vec<Pair>) -> Option<i64> {
+fn history(formula: &Formula, k: i64, scope: &mut Scope) -> Option<i64> {
     match formula {
         Formula::Flag(..) => Some(0),
-        Formula::Not(part) => history(part, k, pairs),
-        Formula::Beside(f, g) => larger(history(f, k, pairs), history(g, k, pairs)),
+        Formula::Not(part) => history(part, k, scope),
+        Formula::Beside(f, g) => larger(history(f, k, scope), history(g, k, scope)),
         Formula::Then(f, g) => {
-            let later = k.max(delay(f, pairs)?);
-            larger(history(f, k, pairs), history(g, later, pairs))
+            let later = k.max(delay(f, scope)?);
+            larger(history(f, k, scope), history(g, later, scope))
         }
         Formula::ForAll(first, second, body) => {
-            let pair = variable_pair(*first, *second, pairs);
-            if pair.always_empty() {
+            let Some(pair) = scope.counted(*first, *second) else {
                 return Some(0);
-            }
+            };
             let later = k.max(n(pair.u?));
-            let of_body = inside(pair, pairs, |pairs| history(body, later, pairs));
+            let of_body = scope.inside(pair, |scope| history(body, later, scope));
             larger(reach_back(k, pair.l), of_body)
         }
     }
@@ -183,27 +212,27 @@ fn reach_back(k: i64, l: Low) -> Option<i64> {
 /// for all, 1 + W times (1 + the body's)." Asked only once delay and history
 /// are known to be finite. The largest, four ranges at full offsets times 60
 /// formulas, is below 10^19: no 128-bit sum or product overflows.
-fn cells(formula: &Formula, pairs: &mut Vec<Pair>) -> i128 {
+fn cells(formula: &Formula, scope: &mut Scope) -> i128 {
     match formula {
         Formula::Flag(..) => 0,
-        Formula::Not(part) => cells(part, pairs),
-        Formula::Then(f, g) => 1 + cells(f, pairs).max(cells(g, pairs)),
-        Formula::Beside(f, g) => 1 + cells(f, pairs) + cells(g, pairs),
+        Formula::Not(part) => cells(part, scope),
+        Formula::Then(f, g) => 1 + cells(f, scope).max(cells(g, scope)),
+        Formula::Beside(f, g) => 1 + cells(f, scope) + cells(g, scope),
         Formula::ForAll(first, second, body) => {
-            let pair = variable_pair(*first, *second, pairs);
-            if pair.always_empty() {
+            let Some(pair) = scope.counted(*first, *second) else {
                 return 1;
-            }
-            let of_body = inside(pair, pairs, |pairs| cells(body, pairs));
+            };
+            let of_body = scope.inside(pair, |scope| cells(body, scope));
             1 + width(pair) * (1 + of_body)
         }
     }
 }
 
-/// "W is u - l + 1, or 0 if l is infinity or l > u": it isn't 0 where a range is counted.
+/// "W is u - l + 1, or 0 if l is infinity or l > u."
 fn width(pair: Pair) -> i128 {
     match (pair.l, pair.u) {
-        (Low::At(l), Some(u)) => (u - l + 1) as i128,
+        (Low::At(l), Some(u)) => n(u - l + 1) as i128,
+        (Low::Infinity, _) => 0,
         _ => panic!("an infinite u was refused with 11, and l of -infinity with 13"),
     }
 }

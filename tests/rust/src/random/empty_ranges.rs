@@ -2,13 +2,22 @@
 //! these, so they hold anything that can be written.
 
 use super::formulas::{
-    accepted, flag, made, size, tame_range, tree, wild_bound, Aim, Ranges, Rule,
+    accepted, accepted_rule, flag, made, size, tame_range, tree, wild_bound, Aim, Ranges, Rule,
 };
 use super::Random;
 use crate::paper::{
     tick_pair, variable_pair, write_body, Bound, Formula, Low, Pair, MAX_FORMULAS, MAX_NESTED,
     MAX_OFFSET,
 };
+
+/// A rule that the engine accepts; one in three is such a rule.
+pub fn some_rule(random: &mut Random) -> Rule {
+    if random.one_in(3) {
+        often_empty_rule(random)
+    } else {
+        accepted_rule(random)
+    }
+}
 
 /// A rule that the engine accepts.
 pub fn often_empty_rule(random: &mut Random) -> Rule {
@@ -59,8 +68,8 @@ fn full_offsets(random: &mut Random, nested: usize) -> Formula {
     formula
 }
 
-/// One in three is always empty, and no other: one in four of those in accepted rules, of which
-/// few have no delay.
+/// One in three is made always empty, the others never are. Among accepted rules that leaves one
+/// in four.
 pub(super) fn empty_or_tame(random: &mut Random, aim: Aim, pairs: &[Pair]) -> (Bound, Bound) {
     let empty = random.one_in(3);
     loop {

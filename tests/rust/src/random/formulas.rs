@@ -291,17 +291,30 @@ pub fn depth(formula: &Formula) -> usize {
 
 /// At most this many formulas are evaluated for one outcome over a recording of
 /// `length` ticks: no range has more positions than the recording, nor more
-/// than its offsets allow where both bounds name the same variable.
+/// than its offsets allow where both bounds name the same variable, and one that is always
+/// empty has none.
 pub fn visits(formula: &Formula, length: usize) -> u64 {
+    visits_inside(formula, length, &mut tick_pair())
+}
+
+/// The same where variables of these pairs are bound.
+fn visits_inside(formula: &Formula, length: usize, pairs: &mut Vec<Pair>) -> u64 {
     match formula {
         Formula::Flag(..) => 1,
-        Formula::Not(part) => 1 + visits(part, length),
+        Formula::Not(part) => 1 + visits_inside(part, length, pairs),
         Formula::Then(f, g) | Formula::Beside(f, g) => {
-            (1 + visits(f, length)).saturating_add(visits(g, length))
+            let of_f = 1 + visits_inside(f, length, pairs);
+            of_f.saturating_add(visits_inside(g, length, pairs))
         }
         Formula::ForAll(first, second, part) => {
-            let positions = positions(*first, *second, length);
-            positions.saturating_mul(visits(part, length)).saturating_add(1)
+            let pair = variable_pair(*first, *second, pairs);
+            if pair.always_empty() {
+                return 1;
+            }
+            pairs.push(pair);
+            let of_part = visits_inside(part, length, pairs);
+            pairs.pop();
+            positions(*first, *second, length).saturating_mul(of_part).saturating_add(1)
         }
     }
 }
@@ -311,7 +324,6 @@ fn positions(first: Bound, second: Bound, length: usize) -> u64 {
         (Bound::Variable(v, low), Bound::Variable(w, high)) if v == w => {
             (high - low + 1).clamp(0, length as i64) as u64
         }
-        (Bound::Infinity, _) => 0,
         _ => length as u64,
     }
 }

@@ -21,15 +21,11 @@ pub fn rule_set_of(random: &mut Random, make: Maker) -> Vec<Rule> {
         3 | 4 => random.size(5, 14),
         _ => random.size(14, MAX_RULES),
     };
-    made_within(random, make, count, MAX_CELLS as u64)
+    rules_within(random, make, count, MAX_CELLS as u64)
 }
 
-/// So many rules that have at most so many cells together.
-pub fn rules_within(random: &mut Random, count: usize, cells: u64) -> Vec<Rule> {
-    made_within(random, accepted_rule, count, cells)
-}
-
-fn made_within(random: &mut Random, make: Maker, count: usize, cells: u64) -> Vec<Rule> {
+/// So many rules that are made so and have at most so many cells together.
+pub fn rules_within(random: &mut Random, make: Maker, count: usize, cells: u64) -> Vec<Rule> {
     let mut rules: Vec<Rule> = Vec::new();
     let mut left = cells;
     for missing in (1..=count).rev() {
@@ -80,7 +76,8 @@ pub fn rule_ahead(n: i64) -> Rule {
     rule_of(Formula::ForAll(x(0), x(n), Box::new(Formula::Flag(1, 0))))
 }
 
-fn rule_of(formula: Formula) -> Rule {
+/// The rule of this formula, which the engine accepts.
+pub fn rule_of(formula: Formula) -> Rule {
     let figures = formula_figures(&formula).expect("the rule opens");
     Rule { body: write_body(&formula), formula, figures }
 }

@@ -2,20 +2,24 @@
 
 use super::{Flaw, StandIn};
 use crate::paper::{
-    self, tick_pair, variable_pair, Bound, Figures, Formula, Low, Pair, Refusal, MAX_CELLS,
-    MAX_DELAY, MAX_HISTORY,
+    self, always_empty, tick_pair, variable_pair, Bound, Figures, Formula, Low, Pair, Refusal,
+    Uncounted,
 };
-use crate::ranges::{ranges, Placed};
+use crate::ranges::ranges;
 
 #[derive(Clone, Copy, Debug, PartialEq, Eq)]
 pub enum EmptyRangeFlaw {
     /// A range of one position is taken for an empty one.
     EqualIsEmpty,
+    /// So is one whose bounds name the same variable, the first with the larger offset.
+    ByTypedBounds,
+    /// So is one whose bounds are at position 0, the first with the larger offset.
+    FromZeroIsEmpty,
     /// The delay is that of document 01, which counts every range.
     CountsDelay,
-    /// The same of ranges from infinity to a position alone.
+    /// A range from infinity to a position counts.
     CountsFiniteEnd,
-    /// Histories in the body count.
+    /// The history is that of document 01.
     CountsHistory,
     /// The bytes of the body are not looked at.
     LeavesBodyUnread,
@@ -23,33 +27,32 @@ pub enum EmptyRangeFlaw {
     WaitsForTheEnd,
 }
 
+impl EmptyRangeFlaw {
+    /// What is not counted in delay, history and cells.
+    fn uncounted(self) -> [Uncounted; 3] {
+        match self {
+            EmptyRangeFlaw::EqualIsEmpty => [empty_or_one; 3],
+            EmptyRangeFlaw::ByTypedBounds => [empty_as_typed; 3],
+            EmptyRangeFlaw::FromZeroIsEmpty => [empty_from_0; 3],
+            EmptyRangeFlaw::CountsFiniteEnd => [empty_without_end; 3],
+            EmptyRangeFlaw::CountsDelay => [none, always_empty, always_empty],
+            EmptyRangeFlaw::CountsHistory => [always_empty, none, always_empty],
+            EmptyRangeFlaw::LeavesBodyUnread | EmptyRangeFlaw::WaitsForTheEnd => [always_empty; 3],
+        }
+    }
+}
+
 impl StandIn {
     fn at_empty_range(&self, flaw: EmptyRangeFlaw) -> bool {
         self.flaw == Flaw::EmptyRange(flaw)
     }
 
-    /// What is made of the right figures of an accepted rule.
-    pub(super) fn with_empty_ranges(
-        &self,
-        formula: &Formula,
-        right: Figures,
-    ) -> Result<Figures, Refusal> {
-        let Flaw::EmptyRange(flaw) = self.flaw else {
-            return Ok(right);
-        };
-        let delay = match flaw {
-            EmptyRangeFlaw::EqualIsEmpty => delay(formula, |pair| pair.always_empty() || one(pair)),
-            EmptyRangeFlaw::CountsDelay => delay(formula, |_| false),
-            EmptyRangeFlaw::CountsFiniteEnd => {
-                delay(formula, |pair| pair.always_empty() && !finite_end(pair))
-            }
-            _ => Some(right.delay as i64),
-        };
-        let history = match flaw {
-            EmptyRangeFlaw::CountsHistory => history(formula),
-            _ => Some(0),
-        };
-        within_limits(right, delay.ok_or(11u32)?, history.ok_or(13u32)?)
+    /// The figures, with no flaw but one at such ranges.
+    pub(super) fn counted(&self, formula: &Formula) -> Result<Figures, Refusal> {
+        match self.flaw {
+            Flaw::EmptyRange(flaw) => paper::figures_without(formula, flaw.uncounted()),
+            _ => paper::formula_figures(formula),
+        }
     }
 
     /// The figures of a body that is refused inside of the range with which it begins.
@@ -71,46 +74,32 @@ impl StandIn {
     }
 }
 
-fn one(pair: Pair) -> bool {
-    matches!((pair.l, pair.u), (Low::At(l), Some(u)) if l == u)
+fn none(_: Bound, _: Bound, _: &[Pair]) -> bool {
+    false
 }
 
-fn finite_end(pair: Pair) -> bool {
-    pair.l == Low::Infinity && pair.u.is_some()
+fn empty_or_one(first: Bound, second: Bound, pairs: &[Pair]) -> bool {
+    let pair = variable_pair(first, second, pairs);
+    pair.always_empty() || matches!((pair.l, pair.u), (Low::At(l), Some(u)) if l == u)
 }
 
-/// The largest u of the ranges that are not left out, nor in the body of one that is.
-fn delay(formula: &Formula, left_out: fn(Pair) -> bool) -> Option<i64> {
-    let counts =
-        |range: &Placed| !left_out(range.pair) && !range.outer.iter().any(|&p| left_out(p));
-    let counted = ranges(formula).into_iter().filter(counts);
-    counted.map(|range| range.pair.u).try_fold(0, |most: i64, u| Some(most.max(u?)))
-}
-
-/// How far before the tick the ranges begin, all of them.
-fn history(formula: &Formula) -> Option<i64> {
-    let reach = |range: Placed| match range.pair.l {
-        Low::MinusInfinity => None,
-        Low::At(l) => Some(-l),
-        Low::Infinity => Some(0),
-    };
-    ranges(formula).into_iter().map(reach).try_fold(0, |most: i64, back| Some(most.max(back?)))
-}
-
-/// The right figures with this delay, and with this history if it is larger.
-fn within_limits(right: Figures, delay: i64, history: i64) -> Result<Figures, Refusal> {
-    let history = right.history.max(history as u64);
-    let cells = right.cells / (right.delay + 1) * (delay as u64 + 1);
-    if delay > MAX_DELAY {
-        return Err(12);
+fn empty_as_typed(first: Bound, second: Bound, pairs: &[Pair]) -> bool {
+    match (first, second) {
+        (Bound::Variable(v, low), Bound::Variable(w, high)) if v == w => low > high,
+        _ => always_empty(first, second, pairs),
     }
-    if history > MAX_HISTORY as u64 {
-        return Err(14);
+}
+
+fn empty_from_0(first: Bound, second: Bound, pairs: &[Pair]) -> bool {
+    match (first, second) {
+        (Bound::Start(low), Bound::Start(high)) => low > high,
+        _ => always_empty(first, second, pairs),
     }
-    if i128::from(cells) > MAX_CELLS {
-        return Err(15);
-    }
-    Ok(Figures { history, delay: delay as u64, cells })
+}
+
+fn empty_without_end(first: Bound, second: Bound, pairs: &[Pair]) -> bool {
+    let pair = variable_pair(first, second, pairs);
+    pair.always_empty() && (pair.l != Low::Infinity || pair.u.is_none())
 }
 
 /// The formula with a position at the end of each always empty range, where it is true.
