@@ -39,7 +39,9 @@ none-positions (At l) (At u) = (
       parts-ltZ u l (omega (arith, sum-parts (u -ℤ l) (pos 1), sub-parts-ℤ u l)),
 )
 none-positions (At l) Highest = (λ h. absurd (false≢true h), λ e. absurd (endless e))
-none-positions Highest u = (λ h. refl, λ e. refl)
+none-positions Highest Lowest = (λ h. refl, λ e. refl)
+none-positions Highest (At u) = (λ h. refl, λ e. refl)
+none-positions Highest Highest = (λ h. refl, λ e. refl)
 
 pub empty-width : (pair : Pair) → (always-empty pair ≡ true) ↔ (width pair ≡ Finite 0)
 unfolding always-empty width
