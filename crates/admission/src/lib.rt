@@ -13,7 +13,7 @@ use nodes::TABLE_WORDS;
 use nodes::clear;
 use refusal::Refusal;
 use rule::Figures;
-use rule::LAST_TICK;
+use rule::FIRST_UNTAKEN;
 use rule::MAX_HISTORY;
 
 // The bytes that a history can have at most.
@@ -54,7 +54,7 @@ pub fn admit_opening(body: &[u8], history: usize, table: usize) -> FigureAnswer
 fn fit_step(
     figures: Figures,
     opened: usize,
-    tick: u32,
+    tick: u64,
     history: usize,
     table: usize,
     report: usize,
@@ -73,7 +73,7 @@ fn fit_step(
     if report < words {
         return FigureAnswer::Refused(Refusal::ReportTooShort);
     }
-    if tick == LAST_TICK {
+    if FIRST_UNTAKEN <= tick {
         return FigureAnswer::Refused(Refusal::TicksUsedUp);
     }
     FigureAnswer::Sized(figures)
@@ -83,7 +83,7 @@ fn fit_step(
 fn fit_state(
     figures: Figures,
     opened: usize,
-    tick: u32,
+    tick: u64,
     history: usize,
     table: usize,
     report: usize,
@@ -103,7 +103,7 @@ fn fit_state(
 pub fn admit_step(
     body: &[u8],
     opened: usize,
-    tick: u32,
+    tick: u64,
     history: usize,
     table: usize,
     report: usize,
@@ -127,9 +127,12 @@ pub fn admit_step(
 }
 
 // How many of `count` flags can be taken from `tick` on before 20: before the tick numbers end.
-pub fn flags_left(count: usize, tick: u32) -> usize
-    ensures { λ r. ⌜ r ≡ min count (4294967295 - tick) ⌝ }
+pub fn flags_left(count: usize, tick: u64) -> usize
+    ensures { λ r. ⌜ r ≡ min count (4611686018427387904 - tick) ⌝ }
 {
-    let left = (LAST_TICK - tick) as usize;
+    if FIRST_UNTAKEN <= tick {
+        return 0;
+    }
+    let left = (FIRST_UNTAKEN - tick) as usize;
     if count < left { count } else { left }
 }

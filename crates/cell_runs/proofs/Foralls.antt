@@ -240,7 +240,7 @@ bound-alone ps n h v = elim (decLt v n) [
       h v (omega arith) ∙ sym (List·getD-eq-default (take n ps) 0 e)
 ]
 
-pub plan-here : (B₁ B₂ : Bound) (e : Variables) (t s first n : ℕ) (end : Outcome) (r : Range) → t < 4294967296 → ((v : ℕ) → getD (e .pos) v 0 ≤ t)
+pub plan-here : (B₁ B₂ : Bound) (e : Variables) (t s first n : ℕ) (end : Outcome) (r : Range) → t < 4611686018427387904 → ((v : ℕ) → getD (e .pos) v 0 ≤ t)
     → ((v : ℕ) → e .known ≤ v → getD (e .pos) v 0 ≡ 0) → r ≡ range B₁ B₂ (ranges.clamped (e .pos)) → Plans r (ranges.clamped-at t) s first n end
     → Plans (range B₁ B₂ (places e)) t s first n end
 plan-here B₁ B₂ e t s first n end r low past unbound er p =

@@ -32,14 +32,14 @@ zeros (suc (suc (suc (suc (suc v))))) = refl
 pub slot-fit : (F : Tree) (t p len : ℕ) → InstanceFit F t p len
     → SlotFit F (record { known = 0; pos = 0 ∷ 0 ∷ 0 ∷ 0 ∷ 0 ∷ []; bytes = 0 ∷ 0 ∷ 0 ∷ 0 ∷ 0 ∷ [] }) t p len
 slot-fit F t p len f =
-    let low : t < 4294967295 = f .low in
     record {
       pairs = at-tick ∷ [];
       fits = fits-tick p;
       size = refl;
       formed = f .formed;
       room = f .room;
-      low = omega arith;
+      low = f .low;
+      near = f .near;
       come = f .come;
       past = λ v. omega (arith, zeros v);
       unbound = λ v h. zeros v;

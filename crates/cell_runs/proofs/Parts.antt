@@ -67,7 +67,7 @@ module _ (F : Tree) (hist : List ℕ) (b : ℕ) (e : Variables) (s t k a z : ℕ
         let end : z ≤ length run = fit .inside in
         let after : 4 ≤ a = fit .after-cell in
         let cell : k < 2 = fit .cell in
-        let low : t < 4294967296 = fit .fit .low in
+        let near : t < own-tick (places e) + 4294967296 = fit .fit .near in
         let put : List ℕ = putMid a (z - a) run ys in
         let dl : length (drop a run) ≡ length run - a = length-drop a run in
         let len : length ys ≡ z - a = ly ∙ length-take-le (z - a) (drop a run) (omega arith) in

@@ -47,12 +47,12 @@ module _ (b : List ℕ) (L t h c n : ℕ) (a : FigureAnswer) (ns : List ℕ) (ad
           next = refl;
         }
 
-    pub tick-fits : t < 4294967296 → TickFit ns f h t c n
-    tick-fits word =
+    pub tick-fits : TickFit ns f h t c n
+    tick-fits =
         record {
           state = state-at b L t 0;
           table-of = table-of 0;
-          low = omega (arith, known .tick-left);
+          low = known .tick-left;
           cells-fit = known .cells-fit;
           report-fits = known .report-fits;
         }

@@ -52,7 +52,8 @@ pub record AtHand (flags : ℕ → ℕ) (h : ℕ) (history : List ℕ) (flag : �
   pub stream : FlagsAtHand flags h history flag t
   pub saved : (variable : ℕ) → variable < variables .known → getD (variables .bytes) variable 0 ≡ flags (getD (variables .pos) variable 0)
 
--- ---- what the functions require: nothing of what the cells hold
+-- ---- what the functions require: nothing of what the cells hold. Tick t is one that steps take (`low`), and so near to the rule's own tick that a cell's word can
+-- count the steps between them (`near`)
 
 pub record Fit (F : Tree) (variables : Variables) (t : ℕ) (len : ℕ) : Type 0 where
   pub pairs : List Pair
@@ -60,7 +61,8 @@ pub record Fit (F : Tree) (variables : Variables) (t : ℕ) (len : ℕ) : Type 0
   pub size : length pairs ≡ variables .known
   pub formed : Formed pairs F
   pub room : words pairs F ≤ len
-  pub low : t < 4294967296
+  pub low : t < 4611686018427387904
+  pub near : t < own-tick (places variables) + 4294967296
   pub past : (variable : ℕ) → getD (variables .pos) variable 0 ≤ t
   pub unbound : (variable : ℕ) → variables .known ≤ variable → getD (variables .pos) variable 0 ≡ 0
   pub five-places : length (variables .pos) ≡ 5
@@ -75,7 +77,8 @@ pub record SlotFit (F : Tree) (variables : Variables) (t q : ℕ) (len : ℕ) : 
   pub size : length pairs ≡ suc (variables .known)
   pub formed : Formed pairs F
   pub room : 4 + words pairs F ≤ len
-  pub low : t < 4294967296
+  pub low : t < 4611686018427387904
+  pub near : t < own-tick (with-position (places variables) q) + 4294967296
   pub come : q ≤ t
   pub past : (variable : ℕ) → getD (variables .pos) variable 0 ≤ t
   pub unbound : (variable : ℕ) → variables .known ≤ variable → getD (variables .pos) variable 0 ≡ 0

@@ -23,8 +23,9 @@ InstanceHolds flags F t p cell = SlotHolds flags t [] p F p cell
 pub record InstanceFit (F : Tree) (t p len : ℕ) : Type 0 where
   pub formed : Formed (at-tick ∷ []) F
   pub room : 4 + words (at-tick ∷ []) F ≤ len
-  pub low : t < 4294967295
+  pub low : t < 4611686018427387904
   pub come : p ≤ t
+  pub near : t < p + 4294967296
 
 pub record InstanceMoved (F : Tree) (history : List ℕ) (flag t p : ℕ) (cell : List ℕ) (outcome : Outcome) (cell′ : List ℕ) : Type 0 where
   pub gives :
@@ -46,8 +47,9 @@ InstancesHold F count size flags t cells = (last p : ℕ) → t ≡ last + 1 →
 pub record TicksFit (F : Tree) (t count size len words′ : ℕ) : Type 0 where
   pub formed : Formed (at-tick ∷ []) F
   pub room : 4 + words (at-tick ∷ []) F ≤ size
-  pub low : t < 4294967295
+  pub low : t < 4611686018427387904
   pub some : 0 < count
+  pub few : count ≤ 256
   pub table : count * size ≤ len
   pub report : count ≤ words′
 

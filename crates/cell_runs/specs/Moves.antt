@@ -44,7 +44,7 @@ pub record TableOf (ns : List ℕ) (needs : Figures) (L t : ℕ) (state : State)
 pub record TickFit (ns : List ℕ) (needs : Figures) (L t cells report : ℕ) : Type 0 where
   pub state : State
   pub table-of : TableOf ns needs L t state
-  pub low : t < 4294967295
+  pub low : t < 4611686018427387904
   pub cells-fit : 4 * needs .cells ≤ cells
   pub report-fits : needs .delay + 1 ≤ report
 

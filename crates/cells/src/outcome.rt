@@ -1,31 +1,33 @@
-// An outcome in two words of a cell. Steps are counted from the rule's own tick p, so that they fit a word.
+// An outcome in two words of a cell. Steps are counted from the rule's own tick p, so that they fit a word of 32 bits however high ticks
+// are.
 ghost use mathlib.Core.Path.{_≡_};
-ghost use Prim.Native.Nat.{_+_};
+ghost use Prim.Native.Nat.{_+_, _<_};
 ghost use Rattle.cells.specs.Cells.{since, held};
 use crate::WORD_VALUES;
 use rule::Outcome;
 use rule::Verdict;
 
 // A step counted from p.
-pub fn elapsed(p: u32, step: u64) -> u32
+pub fn elapsed(p: u64, step: u64) -> u32
     ensures { λ r. ⌜ r ≡ since p step ⌝ }
 {
-    let from = p as u64;
-    if step <= from {
+    if step <= p {
         return 0;
     }
-    ((step - from) % WORD_VALUES) as u32
+    ((step - p) % WORD_VALUES) as u32
 }
 
 // The step that comes so many steps after p.
-pub fn step_after(p: u32, steps: u32) -> u64
+pub fn step_after(p: u64, steps: u32) -> u64
+    requires { ⌜ p < 4611686018427387904 ⌝ }
     ensures { λ r. ⌜ r ≡ p + steps ⌝ }
 {
-    p as u64 + steps as u64
+    p + steps as u64
 }
 
 // The outcome that two words of a cell hold.
-pub fn outcome_of(verdict: u32, steps: u32, p: u32) -> Outcome
+pub fn outcome_of(verdict: u32, steps: u32, p: u64) -> Outcome
+    requires { ⌜ p < 4611686018427387904 ⌝ }
     ensures { λ r. ⌜ r ≡ held p verdict steps ⌝ }
 {
     if verdict == 1 {

@@ -63,14 +63,14 @@ module _ (Stands : Invariant) (d : ℕ) (flags report : List ℕ) (s : State) (h
       v .2 .cells-length ∙ ap length lent ∙ chain-cells c
 
   -- Their tick numbers do not end before the last.
-  pub chain-low : {n : ℕ} {s′ : State} {history′ cells′ words : List ℕ} → s .next ≤ 4294967295
-      → Chain Stands d flags report s history cells n s′ history′ cells′ words → s′ .next ≤ 4294967295
+  pub chain-low : {n : ℕ} {s′ : State} {history′ cells′ words : List ℕ} → s .next ≤ 4611686018427387904
+      → Chain Stands d flags report s history cells n s′ history′ cells′ words → s′ .next ≤ 4611686018427387904
   chain-low i none = i
   chain-low i (more {state₁ = s₁} {taken = a} k c below room flag-is own lent report-is e w) =
       let v : Stepped Stands s₁ k (accepted a) = subst (Stepped Stands s₁ k) e w in
       let known = step-admitted (s₁ .body-bytes) (s₁ .opened) (s₁ .next) (length (k .history)) (length (k .cells)) (length (k .report)) (v .0) (v .1) in
       let next : (a .state) .next ≡ suc (s₁ .next) = ap (λ (x : State). x .next) (v .2 .state) in
-      omega (arith, known .tick-low, known .tick-left, next)
+      omega (arith, known .tick-left, next)
 
 module _ (Stands : Invariant) (h L : ℕ) where
   moved : {s s′ : State} {table table′ history history′ : List ℕ} {t t′ : ℕ} {calls : List Call} → s ≡ s′ → table ≡ table′ → history ≡ history′ → t ≡ t′

@@ -9,7 +9,7 @@ use native.Mathlib.Omega.{arith}
 use lib.Dec.{leb, eqb}
 use lib.ListN.{length, getD, take, length-map}
 use lib.Seq.{length-take-le, getD-take}
-use borrow.Author.Tests.{leb-true, eqb-true, eqb-false, not-true, le-leb, eq-eqb, ne-eqb}
+use borrow.Author.Tests.{leb-true, leb-false, eqb-true, not-true, le-leb, eq-eqb, ne-eqb}
 use Rattle.refusal.specs.Answer.{Answer, refused, accepted}
 use Rattle.refusal.proofs.Answers.{same-value}
 use Rattle.refusal.proofs.Bools.{and-true}
@@ -149,7 +149,7 @@ pub record SetAdmitted (sheet : List ℕ) (records : List Running) (history cell
   pub cells-fit : 4 * all-cells figures ≤ cells
   pub records-fit : rule-count sheet ≤ length records
   pub report-fits : 2 * all-delays figures ≤ report
-  pub tick-left : next-tick records ≢ 4294967295
+  pub tick-left : next-tick records < 4611686018427387904
 
 judged : (records : ℕ) (b : Bool) → 1 ≤ records → (eqb records 0 || b) ≡ true → b ≡ true
 judged records b h e = simp (ne-eqb records 0 (λ q. omega arith)) at e
@@ -169,7 +169,7 @@ set-step-admitted sheet records history cells report figures e =
     let a₃ = must-passed (eqb (length records) 0 || eqb history L) 17 _ (a₂ .1) in
     let a₄ = must-passed (leb (4 * all-cells own) cells && leb n (length records)) 18 _ (a₃ .1) in
     let a₅ = must-passed (leb (2 * all-delays own) report) 19 _ (a₄ .1) in
-    let a₆ = must-passed (not (eqb t 4294967295)) 20 _ (a₅ .1) in
+    let a₆ = must-passed (not (leb 4611686018427387904 t)) 20 _ (a₅ .1) in
     let counted = and-true (leb 1 n) (leb n 32) (a₀ .0) in
     let least : 1 ≤ n = leb-true 1 n (counted .0) in
     let there = and-true (leb (4 * all-cells own) cells) (leb n (length records)) (a₄ .0) in
@@ -187,7 +187,7 @@ set-step-admitted sheet records history cells report figures e =
       cells-fit = leb-true (4 * all-cells own) cells (there .0);
       records-fit = enough;
       report-fits = leb-true (2 * all-delays own) report (a₅ .0);
-      tick-left = eqb-false t 4294967295 (not-true (eqb t 4294967295) (a₆ .0));
+      tick-left = leb-false 4611686018427387904 t (not-true (leb 4611686018427387904 t) (a₆ .0));
     })
 
 -- What it says of each rule.

@@ -1,7 +1,7 @@
 -- The records of a set as its opening and its steps leave them: a step or batch that is lent them is judged by its lengths alone, by 17 to 20.
 use Prim.Native.Nat.{ℕ, zero, suc, _+_, _*_, _≤_, _<_}
 use mathlib.Core.Path.{_≡_, refl, sym, ap, subst, _∙_}
-use mathlib.Core.Logic.{_⊎_, inl, inr, _≢_}
+use mathlib.Core.Logic.{_⊎_, inl, inr}
 use mathlib.Core.Bool.{Bool, true, false, not, _&&_, _||_}
 use mathlib.Core.List.{List, [], _∷_, _++_, map}
 use native.Mathlib.Nat.{zero-add, not-suc-le-zero}
@@ -35,7 +35,7 @@ pub record SetFit (fs : List Figures) (L t : ℕ) (k : SetStep) : Type 0 where
   pub cells-fit : 4 * all-cells fs ≤ length (k .cells)
   pub records-fit : length fs ≤ length (k .records)
   pub report-fits : 2 * all-delays fs ≤ length (k .report)
-  pub tick-left : t ≢ 4294967295
+  pub tick-left : t < 4611686018427387904
 
 -- They pass, or one is the first that does not.
 abbrev SetFits : List Figures → ℕ → ℕ → SetStep → Type 0
@@ -45,10 +45,10 @@ set-fits : (fs : List Figures) (L t : ℕ) (k : SetStep) → 1 ≤ length fs →
 unfolding fit-set must
 set-fits fs L t k some =
     go (eqb (length (k .records)) 0) (eqb (length (k .history)) L) (leb (4 * all-cells fs) (length (k .cells))) (leb (length fs) (length (k .records)))
-    (leb (2 * all-delays fs) (length (k .report))) (eqb t 4294967295) refl refl refl refl refl refl
+    (leb (2 * all-delays fs) (length (k .report))) (leb 4611686018427387904 t) refl refl refl refl refl refl
   where
     go : (z a b r c d : Bool) → eqb (length (k .records)) 0 ≡ z → eqb (length (k .history)) L ≡ a → leb (4 * all-cells fs) (length (k .cells)) ≡ b
-        → leb (length fs) (length (k .records)) ≡ r → leb (2 * all-delays fs) (length (k .report)) ≡ c → eqb t 4294967295 ≡ d → SetFits fs L t k
+        → leb (length fs) (length (k .records)) ≡ r → leb (2 * all-delays fs) (length (k .report)) ≡ c → leb 4611686018427387904 t ≡ d → SetFits fs L t k
     go true a b true c d y i j q l m =
         let none : length (k .records) ≡ 0 = eqb-true (length (k .records)) 0 y in
         let there = leb-true (length fs) (length (k .records)) q in
@@ -63,10 +63,10 @@ set-fits fs L t k some =
             cells-fit = leb-true (4 * all-cells fs) (length (k .cells)) j;
             records-fit = leb-true (length fs) (length (k .records)) q;
             report-fits = leb-true (2 * all-delays fs) (length (k .report)) l;
-            tick-left = eqb-false t 4294967295 m;
+            tick-left = leb-false 4611686018427387904 t m;
           },
         )
-    go false true true true true true y i j q l m = inr (20, simp (y, i, j, q, l, m), inr (inr (inr (inr (eqb-true t 4294967295 m)))))
+    go false true true true true true y i j q l m = inr (20, simp (y, i, j, q, l, m), inr (inr (inr (inr (leb-true 4611686018427387904 t m)))))
     go false true true true false d y i j q l m = inr (19, simp (y, i, j, q, l), inr (inr (inr (inl (leb-false (2 * all-delays fs) (length (k .report)) l)))))
     go false true true false c d y i j q l m = inr (18, simp (y, i, j, q), inr (inr (inl (leb-false (length fs) (length (k .records)) q))))
     go false true false r c d y i j q l m = inr (18, simp (y, i, j), inr (inl (leb-false (4 * all-cells fs) (length (k .cells)) j)))
@@ -77,7 +77,7 @@ fit-not-unfit fs L t k f (inl h) = h (f .history-fits)
 fit-not-unfit fs L t k f (inr (inl h)) = omega (arith, f .cells-fit)
 fit-not-unfit fs L t k f (inr (inr (inl h))) = omega (arith, f .records-fit)
 fit-not-unfit fs L t k f (inr (inr (inr (inl h)))) = omega (arith, f .report-fits)
-fit-not-unfit fs L t k f (inr (inr (inr (inr h)))) = f .tick-left h
+fit-not-unfit fs L t k f (inr (inr (inr (inr h)))) = omega (arith, f .tick-left)
 
 -- With fewer records than rules nothing but 17 and 18 comes, whichever figures are asked for.
 fit-few : (fs : List Figures) (n L t H C W R : ℕ) → R < n → fit-set fs n L t H C W R ≡ must (eqb R 0 || eqb H L) 17 (refused 18)
@@ -135,7 +135,6 @@ module _ (Stands : Invariant) (o : SetOpening) (Fs : List Formula) (fs : List Fi
     pub enough : length fs ≤ length records
     pub placed : (i : ℕ) → i < length fs → Placed (o .sheet) L t (all-cells (take i fs)) (getD records i no-rule)
     pub bytes : (i : ℕ) → i < length fs → body-at (o .sheet) (getD records i no-rule) ≡ getD (c .bodies) i []
-    pub low : t ≤ 4294967295
 
   pub needs-at : {records : List Running} {t : ℕ} → Along records t → (i : ℕ) → i < length fs → needs (o .sheet) (getD records i no-rule) ≡ getD fs i no-figures
   needs-at h i b =
@@ -318,11 +317,7 @@ module _ (Stands : Invariant) (o : SetOpening) (Fs : List Formula) (fs : List Fi
               );
           placed = λ i b. subst (Placed (o .sheet) L (suc t) (all-cells (take i fs))) (sym (after-is i b)) (placed-next (live-after i b) (h .placed i b));
           bytes = λ i b. ap (body-at (o .sheet)) (after-is i b) ∙ h .bytes i b;
-          low = below-end (h .low) (v .fit .tick-left);
         }
-      where
-        below-end : {n : ℕ} → n ≤ 4294967295 → n ≢ 4294967295 → suc n ≤ 4294967295
-        below-end {n} i e = omega (arith, e)
 
   pub same-records : {records : List Running} (m : ℕ) (k : SetStep) → Lent records m k → k .records′ ≡ k .records → k .records′ ++ drop m records ≡ records
   same-records {records} m k lends e = rw (e, lends .records-are) (take-append-drop m records)
@@ -342,7 +337,7 @@ module _ (Stands : Invariant) (o : SetOpening) (Fs : List Formula) (fs : List Fi
   batch-number : (t H C R n : ℕ) → fit-set fs (length fs) L t H C 8192 R ≡ refused n → (n ≡ 17) ⊎ ((n ≡ 18) ⊎ (n ≡ 20))
   unfolding fit-set must
   batch-number t H C R n e =
-      go (eqb R 0 || eqb H L) (leb (4 * all-cells fs) C && leb (length fs) R) (leb (2 * all-delays fs) 8192) (eqb t 4294967295) (le-leb (2 * all-delays fs) 8192 few-words) e
+      go (eqb R 0 || eqb H L) (leb (4 * all-cells fs) C && leb (length fs) R) (leb (2 * all-delays fs) 8192) (leb 4611686018427387904 t) (le-leb (2 * all-delays fs) 8192 few-words) e
     where
       go : (a b w d : Bool) → w ≡ true → must {A = List Figures} a 17 (must b 18 (must w 19 (must (not d) 20 (accepted fs)))) ≡ refused n
           → (n ≡ 17) ⊎ ((n ≡ 18) ⊎ (n ≡ 20))
@@ -413,5 +408,4 @@ module _ (Stands : Invariant) (o : SetOpening) (Fs : List Formula) (fs : List Fi
           enough = omega (arith, ap length (w .records-are), length-append given (drop (length given) (o .records)), given-count);
           placed = λ i b. subst (Placed (o .sheet) L 0 (all-cells (take i fs))) (sym (left-at i b ∙ given-at i b)) (opened-placed i b);
           bytes = λ i b. ap (body-at (o .sheet)) (left-at i b ∙ given-at i b) ∙ opened-bytes i b;
-          low = omega arith;
         }

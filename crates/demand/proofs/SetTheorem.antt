@@ -277,8 +277,7 @@ module _ (Stands : Invariant) (o : SetOpening) (Fs : List Formula) (fs : List Fi
                   history-fits = v .fit .history-fits ∙ sym (place .opened-is);
                   cells-fit = omega (arith, r-length (k .cells) (v .fit .cells-fit));
                   report-fits = omega (arith, place .delay-is, length-replicate {A = ℕ} (r .delay + 1) 0);
-                  tick-low = omega (arith, place .next-is, h .low);
-                  tick-left = λ e. v .fit .tick-left (sym (place .next-is) ∙ e);
+                  tick-left = omega (arith, place .next-is, v .fit .tick-left);
                 }),
             own-takes,
           )

@@ -120,7 +120,7 @@ set-batch-of answer sheet records flags history cells report records′ history�
 
 -- The record that stands for none.
 abbrev pub no-rule : Running
-no-rule = record { start = 0; size = 0; first = 0; cells = 0; delay = 0; opened = 0; next = 0; live = 0 }
+no-rule = record { start = 0; size = 0; first = 0; cells = 0; delay = 0; opened = 0; live = 0; next = 0 }
 
 -- Its body in the sheet, the state that it has by itself, and its own cells in the table.
 abbrev pub body-at : List ℕ → Running → List ℕ
@@ -142,8 +142,8 @@ next-rule rule live =
       cells = rule .cells;
       delay = rule .delay;
       opened = rule .opened;
-      next = suc (rule .next);
       live = live;
+      next = suc (rule .next);
     }
 
 -- The running rules among lent records: the first n of a sheet of n rules. Further ones keep their content.
@@ -252,8 +252,8 @@ opened-rule sheet L index first figures =
       cells = figures .cells;
       delay = figures .delay;
       opened = L;
-      next = 0;
       live = 0;
+      next = 0;
     }
 
 -- The records of a set's rules with these figures, from entry `index` and cell `first` on. "No rule's cells are touched by another's": each has its own part of
@@ -297,7 +297,7 @@ fit-set figures n L t history cells report records =
     must (eqb records 0 || eqb history L) 17
     (must (leb (4 * all-cells figures) cells && leb n records) 18
     (must (leb (2 * all-delays figures) report) 19
-    (must (not (eqb t 4294967295)) 20 (accepted figures))))
+    (must (not (leb 4611686018427387904 t)) 20 (accepted figures))))
 
 -- Before them 21: "Records are state to 21". A sheet that is not the opened one is noticed where it has not 1 to 32 rules, or the records' bodies in it do not open
 -- with the records' figures.
@@ -404,7 +404,7 @@ pub record SetSteps (Stands : Invariant) (batch : SetBatch) (figures : List Figu
   pub running-is : counts .running ≡ running-rules (batch .sheet) (batch .records′)
   pub live-sum : counts .live-count ≡ all-live (counts .running)
   pub ended : (length (batch .flags) ≤ counts .taken)
-      ⊎ ((length (batch .report) < length words + 3 * all-delays figures) ⊎ (next-tick (batch .records′) ≡ 4294967295))
+      ⊎ ((length (batch .report) < length words + 3 * all-delays figures) ⊎ (next-tick (batch .records′) ≡ 4611686018427387904))
 
 abbrev pub SetBatchUnchanged : SetBatch → Type 0
 SetBatchUnchanged batch =

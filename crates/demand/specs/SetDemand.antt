@@ -108,7 +108,7 @@ abbrev pub SetUnfit : List Figures → ℕ → ℕ → SetStep → Type 0
 SetUnfit figures L t made =
     (length (made .history) ≢ L)
     ⊎ ((length (made .cells) < 4 * all-cells figures)
-    ⊎ ((length (made .records) < length figures) ⊎ ((length (made .report) < 2 * all-delays figures) ⊎ (t ≡ 4294967295))))
+    ⊎ ((length (made .records) < length figures) ⊎ ((length (made .report) < 2 * all-delays figures) ⊎ (4611686018427387904 ≤ t))))
 
 -- A step, before which t ticks were taken, is refused exactly when it is unfit, with the number, 17 to 20, that `fit-set` gives. It then changes nothing.
 pub record SetRefusal (figures : List Figures) (L t : ℕ) (made : SetStep) : Type 0 where

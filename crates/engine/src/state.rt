@@ -10,7 +10,7 @@ pub struct State {
     pub body: [u8; MAX_BODY],
     pub size: usize,
     pub opened: usize,
-    pub next: u32,
+    pub next: u64,
     pub live: usize,
 }
 
@@ -44,7 +44,7 @@ pub(crate) fn blank() -> State
 }
 
 // The state with another next tick and live count.
-pub(crate) fn moved(mut state: State, next: u32, live: usize) -> State
+pub(crate) fn moved(mut state: State, next: u64, live: usize) -> State
     ensures { λ r. ⌜ r ≡ moved-code state next live ⌝ }
 {
     state.next = next;

@@ -29,7 +29,7 @@ pub fn step(
     flag: u8,
     history: &mut [u8],
     cells: &mut [u32],
-    report: &mut [u32],
+    report: &mut [u64],
 ) -> StepResult
     ensures { λ r. ⌜ StepPromise Stands by-value state (step-of (step-answer (state-of state) (r .answer)) flag (now (history .entry)) (now (cells .entry)) (now (report .entry)) (now (history .exit)) (now (cells .exit)) (now (report .exit))) (r .state) ⌝ }
 {
@@ -63,7 +63,7 @@ pub fn steps(
     flags: &[u8],
     history: &mut [u8],
     cells: &mut [u32],
-    report: &mut [u32],
+    report: &mut [u64],
 ) -> BatchResult
     ensures { λ r. ⌜ BatchPromise Stands by-value state (batch-of (batch-answer (state-of state) (r .answer)) (now (flags .entry)) (now (history .entry)) (now (cells .entry)) (now (report .entry)) (now (history .exit)) (now (cells .exit)) (now (report .exit))) (r .state) ⌝ }
 {
@@ -95,7 +95,7 @@ pub fn steps(
         },
         BatchAnswer::Taken(taken, pairs, live) => BatchResult {
             answer: BatchAnswer::Taken(taken, pairs, live),
-            state: moved(state, tick + taken as u32, live),
+            state: moved(state, tick + taken as u64, live),
         },
     }
 }

@@ -65,7 +65,7 @@ pub extern "C" fn sw_set_step(
     flag: u8,
     history: &mut [u8],
     cells: &mut [u32],
-    report: &mut [u32],
+    report: &mut [u64],
     pairs: &mut usize,
     live: &mut usize,
 ) -> u32
@@ -92,7 +92,7 @@ pub extern "C" fn sw_set_steps(
     flags: &[u8],
     history: &mut [u8],
     cells: &mut [u32],
-    report: &mut [u32],
+    report: &mut [u64],
     taken: &mut usize,
     triples: &mut usize,
     live: &mut usize,

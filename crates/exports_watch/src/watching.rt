@@ -7,16 +7,10 @@ ghost use Rattle.refusal.specs.Answer.{answered, KeptIfRefused};
 use engine::OpenAnswer;
 use instances::BatchAnswer;
 use instances::StepAnswer;
-use refusal::Refusal;
-use rule::LAST_TICK;
 use state_bytes::STATE_BYTES;
 use state_bytes::load;
-use state_bytes::next_tick;
 use state_bytes::store;
 use state_bytes::store_progress;
-
-// The highest next tick that a state can have.
-const LAST_NEXT: usize = LAST_TICK as usize;
 
 // Opens a rule of a sheet over a lent history, which is zeroed, and a lent cell table, which is only measured: refusals 1 to 15, 23, 24,
 // 17, 18.
@@ -48,7 +42,7 @@ pub extern "C" fn sw_step(
     flag: u8,
     history: &mut [u8],
     cells: &mut [u32],
-    report: &mut [u32],
+    report: &mut [u64],
     reported: &mut usize,
     live: &mut usize,
 ) -> u32
@@ -56,11 +50,9 @@ pub extern "C" fn sw_step(
     ensures { λ r. ⌜ KeptIfRefused r (now (reported .entry)) (now (reported .exit)) ⌝ }
     ensures { λ r. ⌜ KeptIfRefused r (now (live .entry)) (now (live .exit)) ⌝ }
 {
-    let tick = next_tick(state);
-    if LAST_NEXT < tick {
-        return refusal::number(Refusal::StateNotOpened);
-    }
-    let stepped = engine::step(load(state, tick as u32), flag, history, cells, report);
+    let before = load(state);
+    let tick = before.next as usize;
+    let stepped = engine::step(before, flag, history, cells, report);
     let answer = stepped.answer;
     match answer {
         StepAnswer::Refused(refusal) => refusal::number(refusal),
@@ -81,7 +73,7 @@ pub extern "C" fn sw_steps(
     flags: &[u8],
     history: &mut [u8],
     cells: &mut [u32],
-    report: &mut [u32],
+    report: &mut [u64],
     taken: &mut usize,
     pairs: &mut usize,
     live: &mut usize,
@@ -91,11 +83,9 @@ pub extern "C" fn sw_steps(
     ensures { λ r. ⌜ KeptIfRefused r (now (pairs .entry)) (now (pairs .exit)) ⌝ }
     ensures { λ r. ⌜ KeptIfRefused r (now (live .entry)) (now (live .exit)) ⌝ }
 {
-    let tick = next_tick(state);
-    if LAST_NEXT < tick {
-        return refusal::number(Refusal::StateNotOpened);
-    }
-    let stepped = engine::steps(load(state, tick as u32), flags, history, cells, report);
+    let before = load(state);
+    let tick = before.next as usize;
+    let stepped = engine::steps(before, flags, history, cells, report);
     let answer = stepped.answer;
     match answer {
         BatchAnswer::Refused(refusal) => refusal::number(refusal),

@@ -31,7 +31,7 @@ pub(crate) struct BatchCounts {
 }
 
 // Puts the step after each of the first `count` ticks, from the last one down.
-fn spread(report: &mut [u32], count: usize, step: u32)
+fn spread(report: &mut [u64], count: usize, step: u64)
     requires { ⌜ 2 * count ≤ length (now report) ⌝ }
     ensures { λ _. ⌜ now (report .exit) ≡ paired step (take count (now (report .entry))) ++ drop (2 * count) (now (report .entry)) ⌝ }
 {
@@ -52,14 +52,14 @@ fn move_pairs(
     history: &mut [u8],
     flag: u8,
     cells: &mut [u32],
-    report: &mut [u32],
+    report: &mut [u64],
     half: usize,
 ) -> Moved
     requires { ⌜ PairsFit (now nodes) figures (length (now history)) t (length (now cells)) (length (now report)) half ⌝ }
     ensures { λ r. ⌜ PairsMoved (now (nodes .entry)) figures t (now (history .entry)) flag (now (cells .entry)) (now (report .entry)) half (r .reported) (r .live) (now (history .exit)) (now (cells .exit)) (now (report .exit)) ⌝ }
 {
     let moved = move_tick(nodes, figures, t, history, flag, cells, &mut report[..half]);
-    spread(report, moved.reported, t as u32);
+    spread(report, moved.reported, t);
     moved
 }
 
@@ -67,12 +67,12 @@ fn move_pairs(
 fn move_flags(
     nodes: &[u32; TABLE_WORDS],
     figures: Figures,
-    tick: u32,
+    tick: u64,
     live: usize,
     flags: &[u8],
     history: &mut [u8],
     cells: &mut [u32],
-    report: &mut [u32],
+    report: &mut [u64],
 ) -> BatchCounts
     requires { ⌜ BatchFit (now nodes) figures (length (now history)) tick (length (now cells)) ⌝ }
     ensures { λ r. ⌜ FlagsTaken (now (nodes .entry)) figures tick live (now (flags .entry)) (now (history .entry)) (now (cells .entry)) (now (report .entry)) (r .taken) (r .pairs) (r .live) (now (history .exit)) (now (cells .exit)) (now (report .exit)) ⌝ }
@@ -91,7 +91,7 @@ fn move_flags(
                 live: still_open,
             };
         }
-        let t = tick as u64 + taken as u64;
+        let t = tick + taken as u64;
         let moved = move_pairs(
             nodes,
             figures,
@@ -117,12 +117,12 @@ fn move_flags(
 pub fn take_batch(
     body: &[u8],
     opened: usize,
-    tick: u32,
+    tick: u64,
     live: usize,
     flags: &[u8],
     history: &mut [u8],
     cells: &mut [u32],
-    report: &mut [u32],
+    report: &mut [u64],
 ) -> BatchAnswer
     ensures { λ r. ⌜ BatchOf (now (body .entry)) opened tick live (now (flags .entry)) (now (history .entry)) (now (cells .entry)) (now (report .entry)) r (now (history .exit)) (now (cells .exit)) (now (report .exit)) ⌝ }
 {

@@ -40,7 +40,7 @@ fn move_instance(
     ensures { λ r. ⌜ InstanceMoved (tree-at left (now (nodes .entry)) 0) (now (history .entry)) flag t p (now (run .entry)) r (now (run .exit)) ⌝ }
 {
     if p != t {
-        let held = load_outcome(run, 0, p as u32);
+        let held = load_outcome(run, 0, p);
         if let Outcome::Decided(_, _) = held {
             return held;
         }
@@ -51,7 +51,7 @@ fn move_instance(
 }
 
 // Writes p into the report where the outcome is false at step t, and answers the next place.
-fn report_if_false(report: &mut [u32], at: usize, outcome: Outcome, t: u64, p: u32) -> usize
+fn report_if_false(report: &mut [u64], at: usize, outcome: Outcome, t: u64, p: u64) -> usize
     requires { ⌜ at < length (now report) ⌝ }
     ensures { λ r. ⌜ (r ≡ at + length (tick-if-false outcome t p)) × (r ≤ at + 1) ⌝ }
     ensures { λ r. ⌜ now (report .exit) ≡ take at (now (report .entry)) ++ (tick-if-false outcome t p ++ drop r (now (report .entry))) ⌝ }
@@ -74,7 +74,7 @@ fn report_if_false(report: &mut [u32], at: usize, outcome: Outcome, t: u64, p: u
 
 // The oldest of the last `count` ticks up to t.
 fn oldest_tick(t: u64, count: u64) -> u64
-    requires { ⌜ t < 4294967296 ⌝ }
+    requires { ⌜ t < 4611686018427387904 ⌝ }
     ensures { λ r. ⌜ r ≡ t + 1 - count ⌝ }
 {
     if t + 1 <= count {
@@ -98,7 +98,7 @@ fn move_ticks(
     table: &mut [u32],
     history: &[u8],
     flag: u8,
-    report: &mut [u32],
+    report: &mut [u64],
     t: u64,
     low: u64,
     count: u64,
@@ -117,7 +117,7 @@ fn move_ticks(
         let at = (slot as usize) * size;
         let end = at + size;
         let outcome = move_instance(nodes, left, &mut table[at..end], history, flag, p, t);
-        reported = report_if_false(report, reported, outcome, t, p as u32);
+        reported = report_if_false(report, reported, outcome, t, p);
         live = live + one_if_open(outcome);
         p = p + 1;
         slot = next_slot(slot, count);
@@ -134,7 +134,7 @@ pub(crate) fn move_rule(
     history: &[u8],
     flag: u8,
     cells: &mut [u32],
-    report: &mut [u32],
+    report: &mut [u64],
 ) -> Moved
     requires { ⌜ TickFit (now nodes) figures (length (now history)) t (length (now cells)) (length (now report)) ⌝ }
     ensures { λ r. ⌜ TickMoved (now (nodes .entry)) figures t (now (history .entry)) flag (now (cells .entry)) (now (report .entry)) (r .reported) (r .live) (set (now (history .entry)) (t % length (now (history .entry))) flag) (now (cells .exit)) (now (report .exit)) ⌝ }
@@ -164,7 +164,7 @@ pub(crate) fn move_tick(
     history: &mut [u8],
     flag: u8,
     cells: &mut [u32],
-    report: &mut [u32],
+    report: &mut [u64],
 ) -> Moved
     requires { ⌜ TickFit (now nodes) figures (length (now history)) t (length (now cells)) (length (now report)) ⌝ }
     ensures { λ r. ⌜ TickMoved (now (nodes .entry)) figures t (now (history .entry)) flag (now (cells .entry)) (now (report .entry)) (r .reported) (r .live) (now (history .exit)) (now (cells .exit)) (now (report .exit)) ⌝ }

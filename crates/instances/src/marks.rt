@@ -9,15 +9,16 @@ use rule::Outcome;
 use rule::Verdict;
 
 // The outcome that the words `index` and `index` + 2 of a cell hold.
-pub(crate) fn load_outcome(cell: &[u32], index: usize, p: u32) -> Outcome
+pub(crate) fn load_outcome(cell: &[u32], index: usize, p: u64) -> Outcome
     requires { ⌜ (4 ≤ length (now cell)) × (index < 2) ⌝ }
+    requires { ⌜ p < 4611686018427387904 ⌝ }
     ensures { λ r. ⌜ r ≡ held p (getD (now (cell .entry)) index 0) (getD (now (cell .entry)) (index + 2) 0) ⌝ }
 {
     outcome_of(cell[index], cell[index + 2], p)
 }
 
 // Writes an outcome into the words `index` and `index` + 2 of a cell.
-pub(crate) fn store_outcome(cell: &mut [u32], index: usize, p: u32, outcome: Outcome)
+pub(crate) fn store_outcome(cell: &mut [u32], index: usize, p: u64, outcome: Outcome)
     requires { ⌜ (4 ≤ length (now cell)) × (index < 2) ⌝ }
     ensures { λ _. ⌜ now (cell .exit) ≡ mark p index outcome (now (cell .entry)) ⌝ }
 {
@@ -40,9 +41,8 @@ pub(crate) fn store_outcome(cell: &mut [u32], index: usize, p: u32, outcome: Out
 }
 
 // The rule's own tick.
-pub(crate) fn own_tick(pos: &[u64; 5]) -> u32
-    requires { ⌜ getD (now pos) 0 0 < 4294967296 ⌝ }
+pub(crate) fn own_tick(pos: &[u64; 5]) -> u64
     ensures { λ r. ⌜ r ≡ getD (now (pos .entry)) 0 0 ⌝ }
 {
-    pos[0] as u32
+    pos[0]
 }

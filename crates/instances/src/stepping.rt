@@ -17,11 +17,11 @@ pub enum StepAnswer {
 pub fn take_tick(
     body: &[u8],
     opened: usize,
-    tick: u32,
+    tick: u64,
     history: &[u8],
     flag: u8,
     cells: &mut [u32],
-    report: &mut [u32],
+    report: &mut [u64],
 ) -> StepAnswer
     ensures { λ r. ⌜ TickOf (now (body .entry)) opened tick flag (now (history .entry)) (now (cells .entry)) (now (report .entry)) r (now (cells .exit)) (now (report .exit)) ⌝ }
 {
@@ -38,7 +38,7 @@ pub fn take_tick(
     match admitted {
         FigureAnswer::Refused(refusal) => StepAnswer::Refused(refusal),
         FigureAnswer::Sized(figures) => {
-            let moved = move_rule(&nodes, figures, tick as u64, history, flag, cells, report);
+            let moved = move_rule(&nodes, figures, tick, history, flag, cells, report);
             StepAnswer::Taken(moved.reported, moved.live)
         }
     }
@@ -48,11 +48,11 @@ pub fn take_tick(
 pub fn take_step(
     body: &[u8],
     opened: usize,
-    tick: u32,
+    tick: u64,
     history: &mut [u8],
     flag: u8,
     cells: &mut [u32],
-    report: &mut [u32],
+    report: &mut [u64],
 ) -> StepAnswer
     ensures { λ r. ⌜ StepOf (now (body .entry)) opened tick flag (now (history .entry)) (now (cells .entry)) (now (report .entry)) r (now (history .exit)) (now (cells .exit)) (now (report .exit)) ⌝ }
 {
@@ -60,6 +60,6 @@ pub fn take_step(
     let StepAnswer::Taken(_, _) = answer else {
         return answer;
     };
-    remember(history, tick as u64, flag);
+    remember(history, tick, flag);
     answer
 }

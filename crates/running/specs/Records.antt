@@ -1,5 +1,6 @@
--- The running rules that lent words hold: eight words to a record, in the order of the struct's fields.
-use Prim.Native.Nat.{ℕ}
+-- The running rules that lent words hold: eight words to a record, in the order of the struct's fields. Delay and opened length share word 4, and the next tick
+-- has the words 6 and 7, the low half and the low word first.
+use Prim.Native.Nat.{ℕ, _+_, _*_, _%_, _/_}
 use mathlib.Core.List.{List, map}
 use lib.ListN.{getD}
 use Rattle.demand.specs.declared.Running.{Running}
@@ -11,10 +12,10 @@ rule-in words =
       size = getD words 1 0;
       first = getD words 2 0;
       cells = getD words 3 0;
-      delay = getD words 4 0;
-      opened = getD words 5 0;
-      next = getD words 6 0;
-      live = getD words 7 0;
+      delay = getD words 4 0 % 65536;
+      opened = getD words 4 0 / 65536;
+      live = getD words 5 0;
+      next = getD words 6 0 + 4294967296 * getD words 7 0;
     }
 
 abbrev pub rules-in : List (List ℕ) → List Running

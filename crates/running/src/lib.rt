@@ -8,6 +8,11 @@ use demand::Running;
 // The words of a record.
 pub const RECORD_WORDS: usize = 8;
 
+// How many numbers a half of a word can hold, and a word: word 4 has two fields, the next tick two words, the low half and the low word first.
+const HALF_VALUES: u32 = 65536;
+
+const WORD_VALUES: u64 = 4294967296;
+
 // The rule of the record at a place; one of no rule past the end.
 pub fn rule_at(records: &[[u32; RECORD_WORDS]], index: usize) -> Running
     ensures { λ r. ⌜ r ≡ getD (rules-in (now (records .entry))) index no-rule ⌝ }
@@ -19,10 +24,10 @@ pub fn rule_at(records: &[[u32; RECORD_WORDS]], index: usize) -> Running
             size: words[1],
             first: words[2],
             cells: words[3],
-            delay: words[4],
-            opened: words[5],
-            next: words[6],
-            live: words[7],
+            delay: (words[4] % HALF_VALUES) as u16,
+            opened: (words[4] / HALF_VALUES) as u16,
+            live: words[5],
+            next: words[6] as u64 + WORD_VALUES * words[7] as u64,
         };
     }
     Running {
@@ -32,8 +37,8 @@ pub fn rule_at(records: &[[u32; RECORD_WORDS]], index: usize) -> Running
         cells: 0,
         delay: 0,
         opened: 0,
-        next: 0,
         live: 0,
+        next: 0,
     }
 }
 
@@ -47,10 +52,10 @@ pub fn store_rule(records: &mut [[u32; RECORD_WORDS]], index: usize, rule: Runni
             rule.size,
             rule.first,
             rule.cells,
-            rule.delay,
-            rule.opened,
-            rule.next,
+            rule.delay as u32 + HALF_VALUES * rule.opened as u32,
             rule.live,
+            (rule.next % WORD_VALUES) as u32,
+            (rule.next / WORD_VALUES) as u32,
         ];
     }
 }

@@ -14,7 +14,7 @@ use crate::MAX_CELLS;
 use demand::Running;
 use figure_limits::FigureAnswer;
 use refusal::Refusal;
-use rule::LAST_TICK;
+use rule::FIRST_UNTAKEN;
 use rule::MAX_HISTORY;
 use running::RECORD_WORDS;
 use running::rule_at;
@@ -110,7 +110,7 @@ struct Lent {
 }
 
 // Whether the history has its opened length, which is not known where no record is lent.
-fn history_fits(opened: u32, history: usize, records: usize) -> bool
+fn history_fits(opened: u16, history: usize, records: usize) -> bool
     ensures { λ r. ⌜ r ≡ (eqb records 0 || eqb history opened) ⌝ }
 {
     if records == 0 {
@@ -136,7 +136,7 @@ fn fit_set(sums: Sums, lead: Running, rules: usize, lent: Lent) -> SetFit
     if lent.report < 2 * sums.pairs {
         return SetFit::Refused(Refusal::ReportTooShort);
     }
-    if lead.next == LAST_TICK {
+    if FIRST_UNTAKEN <= lead.next {
         return SetFit::Refused(Refusal::TicksUsedUp);
     }
     SetFit::Fits(sums.pairs)

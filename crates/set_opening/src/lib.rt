@@ -36,8 +36,8 @@ fn no_rule() -> Running
         cells: 0,
         delay: 0,
         opened: 0,
-        next: 0,
         live: 0,
+        next: 0,
     }
 }
 
@@ -58,10 +58,10 @@ fn opened_rule(sheet: &[u8], index: usize, first: usize, opened: usize) -> Runni
                     size: size as u32,
                     first: first as u32,
                     cells: figures.cells as u32,
-                    delay: figures.delay as u32,
-                    opened: opened as u32,
-                    next: 0,
+                    delay: figures.delay as u16,
+                    opened: opened as u16,
                     live: 0,
+                    next: 0,
                 },
             }
         }

@@ -37,8 +37,8 @@ pub fn record_at(records: &[Running], index: usize) -> Running
         cells: 0,
         delay: 0,
         opened: 0,
-        next: 0,
         live: 0,
+        next: 0,
     }
 }
 
@@ -100,7 +100,7 @@ pub fn step_records(
     flag: u8,
     history: &mut [u8],
     cells: &mut [u32],
-    report: &mut [u32],
+    report: &mut [u64],
 ) -> SetStepAnswer
     ensures { λ r. ⌜ SetStepPromise Stands (set-step-of (set-step-answer r (now (sheet .entry)) (now (records .exit))) (now (sheet .entry)) (now (records .entry)) flag (now (history .entry)) (now (cells .entry)) (now (report .entry)) (now (records .exit)) (now (history .exit)) (now (cells .exit)) (now (report .exit))) ⌝ }
 {

@@ -55,7 +55,7 @@ fn take_timed(
     history: &mut [u8],
     flag: u8,
     cells: &mut [u32],
-    report: &mut [u32],
+    report: &mut [u64],
     most: usize,
 ) -> StepCounts
     requires { ⌜ TimedFit (now sheet) (rules-in (now records)) (length (now history)) (length (now cells)) (length (now report)) most ⌝ }
@@ -75,7 +75,7 @@ fn take_flags(
     flags: &[u8],
     history: &mut [u8],
     cells: &mut [u32],
-    report: &mut [u32],
+    report: &mut [u64],
     most: usize,
 ) -> SetBatchCounts
     requires { ⌜ SetBatchFit (now sheet) (rules-in (now records)) (length (now history)) (length (now cells)) most ⌝ }
@@ -124,7 +124,7 @@ pub fn steps(
     flags: &[u8],
     history: &mut [u8],
     cells: &mut [u32],
-    report: &mut [u32],
+    report: &mut [u64],
 ) -> SetBatchAnswer
     ensures { λ r. ⌜ SetBatchPromise Stands (set-batch-of (set-batch-answer r (now (sheet .entry)) (rules-in (now (records .exit)))) (now (sheet .entry)) (rules-in (now (records .entry))) (now (flags .entry)) (now (history .entry)) (now (cells .entry)) (now (report .entry)) (rules-in (now (records .exit))) (now (history .exit)) (now (cells .exit)) (now (report .exit))) ⌝ }
 {

@@ -6,7 +6,7 @@ ghost use lib.ListN.{length, take, drop};
 ghost use Rattle.demand.specs.SetContract.{numbered, timed};
 
 // Puts the rule before each of the first `count` ticks, from the last one down.
-pub(crate) fn number_ticks(report: &mut [u32], count: usize, rule: u32)
+pub(crate) fn number_ticks(report: &mut [u64], count: usize, rule: u64)
     requires { ⌜ 2 * count ≤ length (now report) ⌝ }
     ensures { λ _. ⌜ now (report .exit) ≡ numbered rule (take count (now (report .entry))) ++ drop (2 * count) (now (report .entry)) ⌝ }
 {
@@ -20,7 +20,7 @@ pub(crate) fn number_ticks(report: &mut [u32], count: usize, rule: u32)
 }
 
 // Puts the step after each of the first `count` pairs, from the last one down.
-pub(crate) fn time_pairs(report: &mut [u32], count: usize, step: u32)
+pub(crate) fn time_pairs(report: &mut [u64], count: usize, step: u64)
     requires { ⌜ 3 * count ≤ length (now report) ⌝ }
     ensures { λ _. ⌜ now (report .exit) ≡ timed step (take (2 * count) (now (report .entry))) ++ drop (3 * count) (now (report .entry)) ⌝ }
 {

@@ -36,11 +36,11 @@ fn counts(answer: StepAnswer) -> StepCounts
 fn take_rule(
     sheet: &[u8],
     rule: Running,
-    index: u32,
+    index: u64,
     history: &[u8],
     flag: u8,
     cells: &mut [u32],
-    report: &mut [u32],
+    report: &mut [u64],
 ) -> StepCounts
     requires { ⌜ RuleFit (now sheet) rule (length (now history)) (length (now cells)) (length (now report)) ⌝ }
     ensures { λ r. ⌜ RuleMoved (now (sheet .entry)) rule index (now (history .entry)) flag (now (cells .entry)) (now (report .entry)) (r .reported) (r .live) (now (cells .exit)) (now (report .exit)) ⌝ }
@@ -81,15 +81,15 @@ fn move_rules(
     history: &[u8],
     flag: u8,
     cells: &mut [u32],
-    report: &mut [u32],
+    report: &mut [u64],
 ) -> StepCounts
     requires { ⌜ SetFits (now sheet) (rules-in (now records)) (length (now history)) (length (now cells)) (length (now report)) ⌝ }
     ensures { λ r. ⌜ SetMoved (now (sheet .entry)) (rules-in (now (records .entry))) (now (history .entry)) flag (now (cells .entry)) (now (report .entry)) (r .reported) (r .live) (rules-in (now (records .exit))) (stored-byte (rules-in (now (records .entry))) (now (history .entry)) flag) (now (cells .exit)) (now (report .exit)) ⌝ }
 {
-    let count = byte_after(sheet, 0, 0) as u32;
+    let count = byte_after(sheet, 0, 0) as u64;
     let mut pairs: usize = 0;
     let mut live: usize = 0;
-    let mut index: u32 = 0;
+    let mut index: u64 = 0;
     while index < count {
         let rule = rule_at(records, index as usize);
         let at = 2 * pairs;
@@ -112,13 +112,13 @@ pub(crate) fn take_flag(
     history: &mut [u8],
     flag: u8,
     cells: &mut [u32],
-    report: &mut [u32],
+    report: &mut [u64],
 ) -> StepCounts
     requires { ⌜ SetFits (now sheet) (rules-in (now records)) (length (now history)) (length (now cells)) (length (now report)) ⌝ }
     ensures { λ r. ⌜ SetMoved (now (sheet .entry)) (rules-in (now (records .entry))) (now (history .entry)) flag (now (cells .entry)) (now (report .entry)) (r .reported) (r .live) (rules-in (now (records .exit))) (now (history .exit)) (now (cells .exit)) (now (report .exit)) ⌝ }
 {
     let lead = rule_at(records, 0);
     let moved = move_rules(sheet, records, history, flag, cells, report);
-    remember(history, lead.next as u64, flag);
+    remember(history, lead.next, flag);
     moved
 }

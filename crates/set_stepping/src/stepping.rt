@@ -22,7 +22,7 @@ pub fn step(
     flag: u8,
     history: &mut [u8],
     cells: &mut [u32],
-    report: &mut [u32],
+    report: &mut [u64],
 ) -> SetStepAnswer
     ensures { λ r. ⌜ SetStepPromise Stands (set-step-of (set-step-answer r (now (sheet .entry)) (rules-in (now (records .exit)))) (now (sheet .entry)) (rules-in (now (records .entry))) flag (now (history .entry)) (now (cells .entry)) (now (report .entry)) (rules-in (now (records .exit))) (now (history .exit)) (now (cells .exit)) (now (report .exit))) ⌝ }
 {

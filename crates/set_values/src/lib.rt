@@ -34,8 +34,8 @@ fn no_rule() -> Running
         cells: 0,
         delay: 0,
         opened: 0,
-        next: 0,
         live: 0,
+        next: 0,
     }
 }
 

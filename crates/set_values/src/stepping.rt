@@ -28,7 +28,7 @@ fn step_by_words(
     flag: u8,
     history: &mut [u8],
     cells: &mut [u32],
-    report: &mut [u32],
+    report: &mut [u64],
 ) -> SteppedSet
     requires { ⌜ length (now words) ≡ min (set .lent) 32 ⌝ }
     ensures { λ r. ⌜ SetStepPromise Stands (set-step-of (set-step-answer (r .answer) (now (sheet .entry)) (held-rules (r .set))) (now (sheet .entry)) (held-rules set) flag (now (history .entry)) (now (cells .entry)) (now (report .entry)) (held-rules (r .set)) (now (history .exit)) (now (cells .exit)) (now (report .exit))) × OthersKept set (r .set) ⌝ }
@@ -49,7 +49,7 @@ pub fn step_set(
     flag: u8,
     history: &mut [u8],
     cells: &mut [u32],
-    report: &mut [u32],
+    report: &mut [u64],
 ) -> SteppedSet
     ensures { λ r. ⌜ SetStepPromise Stands (set-step-of (set-step-answer (r .answer) (now (sheet .entry)) (held-rules (r .set))) (now (sheet .entry)) (held-rules set) flag (now (history .entry)) (now (cells .entry)) (now (report .entry)) (held-rules (r .set)) (now (history .exit)) (now (cells .exit)) (now (report .exit))) × OthersKept set (r .set) ⌝ }
 {

@@ -20,7 +20,7 @@ const NEXT_AT: usize = 528;
 
 const LIVE_AT: usize = 536;
 
-// The next tick that the bytes hold; it may be above every tick that a state of the engine can have.
+// The next tick that the bytes hold.
 pub fn next_tick(state: &[u8; STATE_BYTES]) -> usize
     ensures { λ r. ⌜ r ≡ number-at (now (state .entry)) 528 ⌝ }
     ensures { λ _. ⌜ length (now (state .entry)) ≡ 544 ⌝ }
@@ -37,9 +37,9 @@ fn load_body(state: &[u8], body: &mut [u8])
     bytes::copy(&state[..length], body);
 }
 
-// The engine's state that the bytes hold, with this next tick: a state's is of 32 bits and theirs of 64, so the caller has read it and tested that it fits.
-pub fn load(state: &[u8; STATE_BYTES], next: u32) -> State
-    ensures { λ r. ⌜ r ≡ moved-code (loaded (now (state .entry))) next (number-at (now (state .entry)) 536) ⌝ }
+// The engine's state that the bytes hold.
+pub fn load(state: &[u8; STATE_BYTES]) -> State
+    ensures { λ r. ⌜ r ≡ loaded (now (state .entry)) ⌝ }
 {
     let mut body = [0u8; MAX_BODY];
     load_body(state, &mut body);
@@ -47,7 +47,7 @@ pub fn load(state: &[u8; STATE_BYTES], next: u32) -> State
         body,
         size: number_at(state, SIZE_AT),
         opened: number_at(state, OPENED_AT),
-        next,
+        next: number_at(state, NEXT_AT) as u64,
         live: number_at(state, LIVE_AT),
     }
 }

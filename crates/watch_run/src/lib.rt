@@ -30,7 +30,7 @@ fn cell_table() -> [u32; 16384]
 }
 
 // Room for 2,048 pairs of a tick and its step; one step reports at most 256.
-fn report_words() -> [u32; 4096]
+fn report_words() -> [u64; 4096]
     ensures { λ r. ⌜ 4096 ≡ length r ⌝ }
 {
     [0; 4096]
@@ -42,7 +42,7 @@ fn watch_over(
     figures: Figures,
     history: &mut [u8],
     cells: &mut [u32],
-    report: &mut [u32],
+    report: &mut [u64],
 ) -> bool {
     let opened = engine::open(sheet, 0, history, cells);
     let answer = opened.answer;

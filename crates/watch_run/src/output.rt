@@ -39,16 +39,16 @@ pub(crate) fn print_figures(figures: Figures) -> bool {
 }
 
 // The line of a tick that broke the rule, and of the step that said so.
-pub(crate) fn print_violation(tick: u32, step: u32) -> bool {
+pub(crate) fn print_violation(tick: u64, step: u64) -> bool {
     let mut line = [0u8; 128];
-    let length = watch_lines::violation_line(tick as u64, step as u64, &mut line);
+    let length = watch_lines::violation_line(tick, step, &mut line);
     write_line(&line[..length])
 }
 
 // The last line: how many steps and violations there were, and how many ticks are live.
-pub(crate) fn print_end(ticks: u32, violations: u64, live: usize) -> bool {
+pub(crate) fn print_end(ticks: u64, violations: u64, live: usize) -> bool {
     let mut line = [0u8; 128];
-    let length = watch_lines::end_line(ticks as u64, violations, live as u64, &mut line);
+    let length = watch_lines::end_line(ticks, violations, live as u64, &mut line);
     write_line(&line[..length])
 }
 

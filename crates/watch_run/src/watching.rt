@@ -60,7 +60,7 @@ fn more_by(count: u64, more: u64) -> u64
 }
 
 // Prints the first `count` pairs of a report, each a tick and the step that decided it, and answers whether that was done.
-fn print_pairs(report: &[u32], count: usize) -> bool {
+fn print_pairs(report: &[u64], count: usize) -> bool {
     let mut at: usize = 0;
     let mut left = count;
     while 0 < left {
@@ -85,7 +85,7 @@ fn take_flags(
     flags: &[u8],
     history: &mut [u8],
     cells: &mut [u32],
-    report: &mut [u32],
+    report: &mut [u64],
 ) -> Progress {
     let before = progress.state;
     let violations = progress.violations;
@@ -120,7 +120,7 @@ fn take_chunk(
     chunk: &[u8],
     history: &mut [u8],
     cells: &mut [u32],
-    report: &mut [u32],
+    report: &mut [u64],
 ) -> Progress {
     let mut so_far = progress;
     let mut at: usize = 0;
@@ -147,7 +147,7 @@ fn take_some(
     progress: Progress,
     history: &mut [u8],
     cells: &mut [u32],
-    report: &mut [u32],
+    report: &mut [u64],
 ) -> Progress {
     let mut buf = io::buffer();
     let got = read_some(STDIN_FILENO, &mut buf);
@@ -166,8 +166,8 @@ fn take_some(
 }
 
 // Takes the whole input. A proved loop has to end, so it counts its turns down from a number that no run uses up: each turn but the last takes a
-// tick, and there are fewer than 2^32 of them.
-fn take_all(state: State, history: &mut [u8], cells: &mut [u32], report: &mut [u32]) -> Progress {
+// tick, and there are 2^62 of them.
+fn take_all(state: State, history: &mut [u8], cells: &mut [u32], report: &mut [u64]) -> Progress {
     let mut progress = Progress {
         state,
         violations: 0,
@@ -191,7 +191,7 @@ pub(crate) fn watch_input(
     state: State,
     history: &mut [u8],
     cells: &mut [u32],
-    report: &mut [u32],
+    report: &mut [u64],
 ) -> bool {
     let progress = take_all(state, history, cells, report);
     let end = progress.state;
