@@ -118,7 +118,7 @@ module _ (ns : List ℕ) (f : Figures) (t : ℕ) (history : List ℕ) (flag : �
 -- So far: i flags are taken from tick `tick` on, and their pairs stand at the front of the report.
 pub record Under (ns : List ℕ) (f : Figures) (tick live₀ : ℕ) (flags history₀ cells₀ report₀ history cells report : List ℕ) (i pairs live : ℕ) : Type 0 where
   pub some : i ≤ length flags
-  pub early : tick + i ≤ 4294967295
+  pub early : tick + i ≤ 4611686018427387904
   pub inside : 2 * pairs ≤ length report₀
   pub report-length : length report ≡ length report₀
   pub history-length : length history ≡ length history₀
@@ -128,7 +128,7 @@ pub record Under (ns : List ℕ) (f : Figures) (tick live₀ : ℕ) (flags histo
       → Chain Stands (f .delay) flags report₀ s history₀ cells₀ i (state-at (s .body-bytes) (s .opened) (s .next + i) live) history cells (take (2 * pairs) report)
 
 module _ (ns : List ℕ) (f : Figures) (tick live₀ : ℕ) (flags history₀ cells₀ report₀ : List ℕ) where
-  pub under-start : tick < 4294967296 → Under ns f tick live₀ flags history₀ cells₀ report₀ history₀ cells₀ report₀ 0 0 live₀
+  pub under-start : tick < 4611686018427387904 → Under ns f tick live₀ flags history₀ cells₀ report₀ history₀ cells₀ report₀ 0 0 live₀
   under-start word =
       record {
         some = omega arith;
@@ -149,9 +149,9 @@ module _ (ns : List ℕ) (f : Figures) (tick live₀ : ℕ) (flags history₀ ce
 
     -- A batch that ends here.
     abbrev Over : Type 0
-    Over = (length flags ≤ i) ⊎ ((length report₀ < 2 * pairs + 2 * (f .delay + 1)) ⊎ (tick + i ≡ 4294967295))
+    Over = (length flags ≤ i) ⊎ ((length report₀ < 2 * pairs + 2 * (f .delay + 1)) ⊎ (tick + i ≡ 4611686018427387904))
 
-    over-as : (k x : ℕ) → k ≡ 2 * pairs → x ≡ tick + i → Over → (length flags ≤ i) ⊎ ((length report₀ < k + 2 * (f .delay + 1)) ⊎ (x ≡ 4294967295))
+    over-as : (k x : ℕ) → k ≡ 2 * pairs → x ≡ tick + i → Over → (length flags ≤ i) ⊎ ((length report₀ < k + 2 * (f .delay + 1)) ⊎ (x ≡ 4611686018427387904))
     over-as k x a b (inl o) = inl o
     over-as k x a b (inr (inl o)) = inr (inl (omega arith))
     over-as k x a b (inr (inr o)) = inr (inr (b ∙ o))
@@ -171,14 +171,14 @@ module _ (ns : List ℕ) (f : Figures) (tick live₀ : ℕ) (flags history₀ ce
         }
 
     -- All flags that can be taken are.
-    pub under-all : (n : ℕ) → n ≡ min (length flags) (4294967295 - tick) → n ≤ i → FlagsTaken ns f tick live₀ flags history₀ cells₀ report₀ i pairs live history cells report
+    pub under-all : (n : ℕ) → n ≡ min (length flags) (4611686018427387904 - tick) → n ≤ i → FlagsTaken ns f tick live₀ flags history₀ cells₀ report₀ i pairs live history cells report
     under-all n e h = under-ends (go (by-order (length flags) i))
       where
         go : (length flags ≤ i) ⊎ (i < length flags) → Over
         go (inl a) = inl a
         go (inr a) = let b = u .early in inr (inr (omega arith))
 
-    module _ (room : 2 * pairs + 2 * (f .delay + 1) ≤ length report₀) (below : i < length flags) (timely : tick + i < 4294967295)
+    module _ (room : 2 * pairs + 2 * (f .delay + 1) ≤ length report₀) (below : i < length flags) (timely : tick + i < 4611686018427387904)
         (part : List ℕ) (part-is : part ≡ take (length report - 2 * pairs) (drop (2 * pairs) report)) where
       part-whole : part ≡ drop (2 * pairs) report₀
       part-whole =
@@ -250,8 +250,7 @@ module _ (ns : List ℕ) (f : Figures) (tick live₀ : ℕ) (flags history₀ ce
                 history-fits = u .history-length ∙ sym (at .opened);
                 cells-fit = rw (u .cells-length) (fit .cells-fit);
                 report-fits = rw half-part (omega arith);
-                tick-low = rw (at .next) (omega arith);
-                tick-left = λ e. let x = at .next in omega arith;
+                tick-left = rw (at .next) timely;
               }),
           taking s at,
         )

@@ -211,6 +211,7 @@ module _ (ns : List ℕ) (f : Figures) (L t cells words′ : ℕ) (i : TickFit n
         room = omega arith;
         low = i .low;
         some = omega arith;
+        few = omega (arith, limits F f ns p .short);
         table = omega arith;
         report = i .report-fits;
       })

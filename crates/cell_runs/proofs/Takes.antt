@@ -58,4 +58,4 @@ module _ (b : List ℕ) (L t h c n : ℕ) (a : FigureAnswer) (ns : List ℕ) (ad
         }
 
     pub flags-fit : BatchFit ns f h t c
-    flags-fit = record { state = state-at b L t 0; table-of = table-of 0; cells-fit = known .cells-fit }
+    flags-fit = record { state = state-at b L t 0; table-of = table-of 0; low = known .tick-left; cells-fit = known .cells-fit }

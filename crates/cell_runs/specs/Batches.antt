@@ -1,5 +1,5 @@
 -- What moving the ticks of a batch requires and gives.
-use Prim.Native.Nat.{ℕ, _*_, _≤_}
+use Prim.Native.Nat.{ℕ, _*_, _≤_, _<_}
 use mathlib.Core.Path.{_≡_}
 use mathlib.Core.List.{List, _++_}
 use lib.ListN.{length, take, drop}
@@ -23,6 +23,7 @@ pub record PairsMoved (ns : List ℕ) (figures : Figures) (t : ℕ) (history : L
 pub record BatchFit (ns : List ℕ) (figures : Figures) (L tick cells : ℕ) : Type 0 where
   pub state : State
   pub table-of : TableOf ns figures L tick state
+  pub low : tick < 4611686018427387904
   pub cells-fit : 4 * figures .cells ≤ cells
 
 pub record FlagsTaken (ns : List ℕ) (figures : Figures) (tick live : ℕ) (flags history cells report : List ℕ) (taken pairs live′ : ℕ) (history′ cells′ report′ : List ℕ) : Type 0 where
