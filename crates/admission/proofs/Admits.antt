@@ -49,20 +49,17 @@ module _ (b : List ℕ) (L t h c n : ℕ) (ns : List ℕ) where
   unfolding admit-lengths must
   step-above i z = record { answer = simp (lt-leb L 4096 i); leaves = z }
 
-  module _ (a : FigureAnswer) (low : L ≤ 4096) (word : t < 4294967296) (p : Prepared b a ns) where
-    timely : leb t 4294967295 ≡ true
-    timely = le-leb t 4294967295 (omega arith)
-
+  module _ (a : FigureAnswer) (low : L ≤ 4096) (p : Prepared b a ns) where
     pub step-no-rule : {x : Refusal} → a ≡ Refused x → Admitted b L t h c n (Refused StateNotOpened) ns
     unfolding admit-lengths must and-then as-21
     step-no-rule e =
-        record { answer = simp (le-leb L 4096 low, timely, ← p .answer, e); leaves = subst (Leaves b ns) (ap figures-answer e) (p .leaves) }
+        record { answer = simp (le-leb L 4096 low, ← p .answer, e); leaves = subst (Leaves b ns) (ap figures-answer e) (p .leaves) }
 
     pub step-fits : {f : Figures} (r : FigureAnswer) (last : List ℕ) → a ≡ Sized f → figures-answer r ≡ fit-opened f L t h c n → KeptOrCleared (figures-answer r) ns last
         → Admitted b L t h c n r last
     unfolding admit-lengths must and-then as-21 fit-opened
     step-fits r last e i k =
         record {
-          answer = i ∙ simp (le-leb L 4096 low, timely, ← p .answer, e);
+          answer = i ∙ simp (le-leb L 4096 low, ← p .answer, e);
           leaves = kept-leaves b ns last (figures-answer r) (subst (Leaves b ns) (ap figures-answer e) (p .leaves)) k;
         }

@@ -12,8 +12,8 @@ use figure_limits::clear_if_refused;
 use nodes::TABLE_WORDS;
 use nodes::clear;
 use refusal::Refusal;
-use rule::Figures;
 use rule::FIRST_UNTAKEN;
+use rule::Figures;
 use rule::MAX_HISTORY;
 
 // The bytes that a history can have at most.
@@ -126,13 +126,21 @@ pub fn admit_step(
     }
 }
 
+// How many ticks can be taken from this one on.
+fn ticks_left(tick: u64) -> usize
+    ensures { λ r. ⌜ r ≡ 4611686018427387904 - tick ⌝ }
+{
+    if tick < FIRST_UNTAKEN {
+        (FIRST_UNTAKEN - tick) as usize
+    } else {
+        0
+    }
+}
+
 // How many of `count` flags can be taken from `tick` on before 20: before the tick numbers end.
 pub fn flags_left(count: usize, tick: u64) -> usize
     ensures { λ r. ⌜ r ≡ min count (4611686018427387904 - tick) ⌝ }
 {
-    if FIRST_UNTAKEN <= tick {
-        return 0;
-    }
-    let left = (FIRST_UNTAKEN - tick) as usize;
+    let left = ticks_left(tick);
     if count < left { count } else { left }
 }

@@ -28,12 +28,12 @@ clear-if-refused-requires : tie.Need-clear-if-refused-requires
 clear-if-refused-requires c κs = search needs
 
 returns-2 : tie.Need-returns-2
-returns-2 c = step-no-rule _ _ _ _ _ _ _ _ (c .before .before .before .before .if1 .left) (search needs) (c .before .before .prepare .ensures) (c .enum-told .given .1)
+returns-2 c = step-no-rule _ _ _ _ _ _ _ _ (c .before .before .before .before .if1 .left) (c .before .before .prepare .ensures) (c .enum-told .given .1)
 
 returns-3 : tie.Need-returns-3
 returns-3 c =
     let p = c .before .before .before .before .before .before in
-    step-fits _ _ _ _ _ _ _ _ (p .before .before .if1 .left) (search needs) (p .prepare .ensures) _ _ (c .before .before .before .before .answer .given .1) (c .before .before .fit-state .ensures)
+    step-fits _ _ _ _ _ _ _ _ (p .before .before .if1 .left) (p .prepare .ensures) _ _ (c .before .before .before .before .answer .given .1) (c .before .before .fit-state .ensures)
     (c .clear-if-refused .ensures)
 
 pub admit-step-spec : {M : Type 1} → statement M
