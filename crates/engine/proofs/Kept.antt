@@ -30,12 +30,11 @@ use Rattle.engine.specs.States.{state-of, moved-code, by-value}
 -- No body is no rule: 21, whatever else is brought.
 no-rule : (L t h c n : ℕ) → admit-lengths [] L t h c n ≡ refused 21
 unfolding admit-lengths must and-then as-21 body-figures body whole formula-at formula parts head require
-no-rule L t h c n = go (leb L 4096) (leb t 4294967295)
+no-rule L t h c n = go (leb L 4096)
   where
-    go : (a b : Bool) → must {A = Figures} a 21 (must b 21 (refused 21)) ≡ refused 21
-    go true true = refl
-    go true false = refl
-    go false b = refl
+    go : (a : Bool) → must {A = Figures} a 21 (refused 21) ≡ refused 21
+    go true = refl
+    go false = refl
 
 module _ (s : code.State) where
   -- a size above the room stands for an empty body
@@ -74,10 +73,10 @@ module _ (s : code.State) (flag : ℕ) (history cells report : List ℕ) where
         took : TookStep ((state-of s) .body-bytes) (steps.Taken n live)
         took = owned (steps.Taken n live) e
 
-        pub tick-left : s .next + 1 < 4294967296
+        pub tick-left : s .next + 1 ≤ 4611686018427387904
         tick-left =
             let known = step-admitted ((state-of s) .body-bytes) (s .opened) (s .next) (length history) (length cells) (length report) (took 0 .0) (took 0 .1) in
-            omega (arith, known .tick-low, known .tick-left)
+            omega (arith, known .tick-left)
 
         pub step-taken : (s′ : code.State) → s′ ≡ moved-code s (s .next + 1) live → StepKept (steps.Taken n live) s′ history′ cells′ report′
         unfolding state-of
@@ -112,9 +111,10 @@ module _ (s : code.State) (flags history cells report : List ℕ) where
         batch-took : TookBatch ((state-of s) .body-bytes) (batches.Taken n pairs live)
         batch-took = batch-owned (batches.Taken n pairs live) e
 
-        pub ticks-left : s .next < 4294967296 → s .next + n < 4294967296
-        ticks-left word =
-            let low = chain-low Stands (batch-took .0 .delay) flags report (state-at ((state-of s) .body-bytes) (s .opened) (s .next) (s .live)) history cells (omega arith) (batch-took .2 .chain) in
+        pub ticks-left : s .next + n ≤ 4611686018427387904
+        ticks-left =
+            let known = step-admitted ((state-of s) .body-bytes) (s .opened) (s .next) (length history) (length cells) 256 (batch-took .0) (batch-took .1) in
+            let low = chain-low Stands (batch-took .0 .delay) flags report (state-at ((state-of s) .body-bytes) (s .opened) (s .next) (s .live)) history cells (omega (arith, known .tick-left)) (batch-took .2 .chain) in
             omega (arith, low)
 
         pub batch-taken : (s′ : code.State) → s′ ≡ moved-code s (s .next + n) live → BatchKept (batches.Taken n pairs live) s′ history′ cells′ report′

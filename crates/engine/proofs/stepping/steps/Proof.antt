@@ -34,18 +34,11 @@ enum-known-answer c = search needs
 enum-known-answer-2 : tie.Need-enum-known-answer-2
 enum-known-answer-2 c = search needs
 
-cast-moved : tie.Need-cast-moved
-cast-moved c =
-    let s₀ = c .before .before .before .before .before .before .before .before .before .before .before .before .before .before .before .before .before .before .before .before in
-    let r = c .before .before .before .before .before .before .before .before .before .take-batch in
-    let low = ticks-left (s₀ .args .state) (s₀ .args .flags .now) (s₀ .args .history .now) (s₀ .args .cells .now) (s₀ .args .report .now) (c .before .before .before .before .before .before .before .before .before .before .before .before .before .before .before .if1 .left) (r .result) (r .last .1 .1 .1 .1 .1 .0) (r .last .1 .1 .1 .1 .1 .1 .0) (r .last .1 .1 .1 .1 .1 .1 .1 .0) (r .ensures) (c .before .answer2 .given .1) (search needs) in
-    omega arith
-
 add-moved : tie.Need-add-moved
 add-moved c =
     let s₀ = c .before .before .before .before .before .before .before .before .before .before .before .before .before .before .before .before .before .before .before .before in
     let r = c .before .before .before .before .before .before .before .before .before .take-batch in
-    let low = ticks-left (s₀ .args .state) (s₀ .args .flags .now) (s₀ .args .history .now) (s₀ .args .cells .now) (s₀ .args .report .now) (c .before .before .before .before .before .before .before .before .before .before .before .before .before .before .before .if1 .left) (r .result) (r .last .1 .1 .1 .1 .1 .0) (r .last .1 .1 .1 .1 .1 .1 .0) (r .last .1 .1 .1 .1 .1 .1 .1 .0) (r .ensures) (c .before .answer2 .given .1) (search needs) in
+    let low = ticks-left (s₀ .args .state) (s₀ .args .flags .now) (s₀ .args .history .now) (s₀ .args .cells .now) (s₀ .args .report .now) (c .before .before .before .before .before .before .before .before .before .before .before .before .before .before .before .if1 .left) (r .result) (r .last .1 .1 .1 .1 .1 .0) (r .last .1 .1 .1 .1 .1 .1 .0) (r .last .1 .1 .1 .1 .1 .1 .1 .0) (r .ensures) (c .before .answer2 .given .1) in
     omega arith
 
 moved-requires : tie.Need-moved-requires
@@ -91,7 +84,6 @@ steps-spec =
     take-batch-requires
     enum-known-answer
     enum-known-answer-2
-    cast-moved
     add-moved
     moved-requires
     same-length
