@@ -2,23 +2,16 @@
 -- Assumes nothing.
 use Prim.Native.Nat.{ℕ, suc, _+_, _≤_, _<_}
 use mathlib.Core.Path.{_≡_, refl, sym, ap, subst, _∙_}
-use mathlib.Core.Bool.{Bool, true, false}
 use mathlib.Core.List.{List}
-use native.Mathlib.Numerals.{add-one}
 use native.Mathlib.Omega.{arith}
-use lib.Dec.{leb}
 use lib.ListN.{length}
-use borrow.Author.Tests.{lt-leb}
 use Rattle.refusal.specs.declared.Refusal.{Refusal}
-use Rattle.refusal.specs.declared.Refusal.the-variants.{StateNotOpened}
-use Rattle.refusal.specs.Answer.{Answer, refused, accepted, answered}
+use Rattle.refusal.specs.Answer.{Answer, refused, accepted, answered, or-kept}
 use Rattle.refusal.specs.Numbers.{number-of}
 use Rattle.refusal.proofs.Positive.{positive}
 use Rattle.sheet.specs.Sheet.{body-part, rule-body}
 use Rattle.sheet.proofs.Bodies.{body-size}
-use Rattle.rule.specs.declared.Figures.{Figures}
-use Rattle.demand.specs.Contract.{State, Taken, Counts, opening-of, step-of, batch-of, must, admit-lengths, Opened, Stepped, Batched, OpenPromise, StepPromise, BatchPromise}
-use Rattle.demand.proofs.Lines.{chain-low}
+use Rattle.demand.specs.Contract.{State, Taken, Counts, opening-of, step-of, batch-of, Opened, Stepped, Batched, OpenPromise, StepPromise, BatchPromise}
 use Rattle.instances.specs.declared.stepping.StepAnswer.{StepAnswer}
 use Rattle.instances.specs.declared.stepping.StepAnswer.the-variants as steps
 use Rattle.instances.specs.declared.batch.BatchAnswer.{BatchAnswer}
@@ -79,35 +72,20 @@ module _ (sheet : List ℕ) (number : ℕ) (history cells st : List ℕ) (o : Op
           goes-on = refl;
         }
 
--- ---- the state that the bytes hold
-
-pub held : (st : List ℕ) (s : code.State) (tick : ℕ) → s ≡ moved-code (loaded st) tick (number-at st 536) → tick ≡ number-at st 528 → s ≡ loaded st
-unfolding loaded
-held st s tick e i = e ∙ ap (λ (t : ℕ). moved-code (loaded st) t (number-at st 536)) i
-
--- A next tick above the last one: 21, whatever else is brought.
-late : (st : List ℕ) (h c n : ℕ) → 4294967295 < number-at st 528 → admit-lengths ((state-in st) .body-bytes) ((state-in st) .opened) ((state-in st) .next) h c n ≡ refused 21
-unfolding admit-lengths must state-in state-of loaded
-late st h c n i = simp (lt-leb (number-at st 528) 4294967295 i) (go (leb (number-at st 520) 4096))
-  where
-    go : (b : Bool) → must {A = Figures} b 21 (refused 21) ≡ refused 21
-    go true = refl
-    go false = refl
-
 -- ---- step
 
 module _ (st : List ℕ) (flag : ℕ) (history cells report : List ℕ) where
   abbrev StepKept : Answer Taken → List ℕ → List ℕ → List ℕ → List ℕ → Type 0
   StepKept a st′ history′ cells′ report′ = StepPromise Stands in-bytes st (step-of a flag history cells report history′ cells′ report′) st′
 
-  pub step-late : (n reported live : ℕ) → n ≡ number-of StateNotOpened → 4294967295 < number-at st 528
-      → StepKept (answered n (taken-from (state-in st) reported live)) st history cells report
-  step-late n reported live e i = rw e (record { keeps = (late st (length history) (length cells) (length report) i, (refl, refl, refl)); left = refl; goes-on = refl })
-
   module _ (s : code.State) (is : s ≡ loaded st) (a : StepAnswer) (s′ : code.State) (history′ cells′ report′ : List ℕ)
       (p : StepPromise Stands by-value s (step-of (step-answer (state-of s) a) flag history cells report history′ cells′ report′) s′) where
     abbrev StepFrom : code.State → StepAnswer → Type 0
     StepFrom x y = Stepped Stands (state-of x) (step-of (step-answer (state-of x) y) flag history cells report history′ cells′ report′) (step-answer (state-of x) y)
+
+    -- the state that an answer leaves
+    abbrev StepLeft : StepAnswer → code.State
+    StepLeft y = or-kept (λ (taken : Taken). moved-code s (suc ((state-of s) .next)) (taken .live-count)) (step-answer (state-of s) y) s
 
     kept : (y : StepAnswer) → a ≡ y → StepFrom (loaded st) y
     kept y e = subst (λ (x : code.State). StepFrom x y) is (subst (StepFrom s) e (p .keeps))
@@ -120,11 +98,13 @@ module _ (st : List ℕ) (flag : ℕ) (history cells report : List ℕ) where
         let z = positive x in
         rw (i, z .1) (record { keeps = (q .0 ∙ ap refused (z .1), q .1); left = refl; goes-on = refl })
 
-    pub step-taken : {n live : ℕ} (st′ : List ℕ) (tick : ℕ) → a ≡ steps.Taken n live → tick ≡ number-at st 528 → tick ≤ 4294967295 → live < 18446744073709551616 → length st ≡ 544
-        → st′ ≡ moved-bytes st (tick + 1) live → StepKept (accepted (taken-from (state-in st) n live)) st′ history′ cells′ report′
+    pub step-taken : {n live : ℕ} (st′ : List ℕ) → a ≡ steps.Taken n live → s′ .next < 18446744073709551616 → live < 18446744073709551616 → length st ≡ 544
+        → st′ ≡ moved-bytes st (s′ .next) live → StepKept (accepted (taken-from (state-in st) n live)) st′ history′ cells′ report′
     unfolding state-in state-of loaded
-    step-taken {n} {live} st′ tick e t low fits long w =
-        let j : st′ ≡ moved-bytes st (suc (number-at st 528)) live = w ∙ ap (λ (x : ℕ). moved-bytes st x live) (add-one tick ∙ ap suc t) in
+    step-taken {n} {live} st′ e low fits long w =
+        let went : s′ ≡ moved-code s (suc (s .next)) live = subst (λ (y : StepAnswer). s′ ≡ StepLeft y) e (p .left) in
+        let next : s′ .next ≡ suc (number-at st 528) = ap (λ (x : code.State). x .next) went ∙ ap (λ (x : code.State). suc (x .next)) is in
+        let j : st′ ≡ moved-bytes st (suc (number-at st 528)) live = w ∙ ap (λ (x : ℕ). moved-bytes st x live) next in
         let m = load-moved st (suc (number-at st 528)) live long (omega arith) fits in
         record { keeps = kept (steps.Taken n live) e; left = j; goes-on = ap state-in j ∙ ap state-of m }
 
@@ -134,14 +114,13 @@ module _ (st flags history cells report : List ℕ) where
   abbrev BatchKept : Answer Counts → List ℕ → List ℕ → List ℕ → List ℕ → Type 0
   BatchKept a st′ history′ cells′ report′ = BatchPromise Stands in-bytes st (batch-of a flags history cells report history′ cells′ report′) st′
 
-  pub batch-late : (n taken pairs live : ℕ) → n ≡ number-of StateNotOpened → 4294967295 < number-at st 528
-      → BatchKept (answered n (counts-from (state-in st) taken pairs live)) st history cells report
-  batch-late n taken pairs live e i = rw e (record { keeps = (late st (length history) (length cells) 256 i, (refl, refl, refl)); left = refl; goes-on = refl })
-
   module _ (s : code.State) (is : s ≡ loaded st) (a : BatchAnswer) (s′ : code.State) (history′ cells′ report′ : List ℕ)
       (p : BatchPromise Stands by-value s (batch-of (batch-answer (state-of s) a) flags history cells report history′ cells′ report′) s′) where
     abbrev BatchFrom : code.State → BatchAnswer → Type 0
     BatchFrom x y = Batched Stands (state-of x) (batch-of (batch-answer (state-of x) y) flags history cells report history′ cells′ report′) (batch-answer (state-of x) y)
+
+    abbrev BatchLeft : BatchAnswer → code.State
+    BatchLeft y = or-kept (λ (counts : Counts). moved-code s ((counts .state) .next) ((counts .state) .live-count)) (batch-answer (state-of s) y) s
 
     batch-kept : (y : BatchAnswer) → a ≡ y → BatchFrom (loaded st) y
     batch-kept y e = subst (λ (x : code.State). BatchFrom x y) is (subst (BatchFrom s) e (p .keeps))
@@ -154,17 +133,12 @@ module _ (st flags history cells report : List ℕ) where
         let z = positive x in
         rw (i, z .1) (record { keeps = (q .0 ∙ ap refused (z .1), q .1); left = refl; goes-on = refl })
 
-    module _ {n pairs live : ℕ} (e : a ≡ batches.Taken n pairs live) (low : number-at st 528 ≤ 4294967295) where
-      pub batch-low : number-at st 528 + n ≤ 4294967295
-      unfolding state-of loaded
-      batch-low =
-          let q = batch-kept (batches.Taken n pairs live) e in
-          chain-low Stands (q .0 .delay) flags report (state-of (loaded st)) history cells low (q .2 .chain)
-
-      pub batch-taken : (st′ : List ℕ) (tick : ℕ) → tick ≡ number-at st 528 → live < 18446744073709551616 → length st ≡ 544
-          → st′ ≡ moved-bytes st (tick + n) live → BatchKept (accepted (counts-from (state-in st) n pairs live)) st′ history′ cells′ report′
-      unfolding state-in state-of loaded
-      batch-taken st′ tick t fits long w =
-          let j : st′ ≡ moved-bytes st (number-at st 528 + n) live = w ∙ ap (λ (x : ℕ). moved-bytes st (x + n) live) t in
-          let m = load-moved st (number-at st 528 + n) live long (let h = batch-low in omega arith) fits in
-          record { keeps = batch-kept (batches.Taken n pairs live) e; left = j; goes-on = ap state-in j ∙ ap state-of m }
+    pub batch-taken : {n pairs live : ℕ} (st′ : List ℕ) → a ≡ batches.Taken n pairs live → s′ .next < 18446744073709551616 → live < 18446744073709551616 → length st ≡ 544
+        → st′ ≡ moved-bytes st (s′ .next) live → BatchKept (accepted (counts-from (state-in st) n pairs live)) st′ history′ cells′ report′
+    unfolding state-in state-of loaded
+    batch-taken {n} {pairs} {live} st′ e low fits long w =
+        let went : s′ ≡ moved-code s (s .next + n) live = subst (λ (y : BatchAnswer). s′ ≡ BatchLeft y) e (p .left) in
+        let next : s′ .next ≡ number-at st 528 + n = ap (λ (x : code.State). x .next) went ∙ ap (λ (x : code.State). x .next + n) is in
+        let j : st′ ≡ moved-bytes st (number-at st 528 + n) live = w ∙ ap (λ (x : ℕ). moved-bytes st x live) next in
+        let m = load-moved st (number-at st 528 + n) live long (omega arith) fits in
+        record { keeps = batch-kept (batches.Taken n pairs live) e; left = j; goes-on = ap state-in j ∙ ap state-of m }

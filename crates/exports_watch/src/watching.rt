@@ -50,14 +50,13 @@ pub extern "C" fn sw_step(
     ensures { λ r. ⌜ KeptIfRefused r (now (reported .entry)) (now (reported .exit)) ⌝ }
     ensures { λ r. ⌜ KeptIfRefused r (now (live .entry)) (now (live .exit)) ⌝ }
 {
-    let before = load(state);
-    let tick = before.next as usize;
-    let stepped = engine::step(before, flag, history, cells, report);
+    let stepped = engine::step(load(state), flag, history, cells, report);
     let answer = stepped.answer;
+    let next = stepped.state.next as usize;
     match answer {
         StepAnswer::Refused(refusal) => refusal::number(refusal),
         StepAnswer::Taken(report_count, live_count) => {
-            store_progress(state, tick + 1, live_count);
+            store_progress(state, next, live_count);
             *reported = report_count;
             *live = live_count;
             0
@@ -83,14 +82,13 @@ pub extern "C" fn sw_steps(
     ensures { λ r. ⌜ KeptIfRefused r (now (pairs .entry)) (now (pairs .exit)) ⌝ }
     ensures { λ r. ⌜ KeptIfRefused r (now (live .entry)) (now (live .exit)) ⌝ }
 {
-    let before = load(state);
-    let tick = before.next as usize;
-    let stepped = engine::steps(before, flags, history, cells, report);
+    let stepped = engine::steps(load(state), flags, history, cells, report);
     let answer = stepped.answer;
+    let next = stepped.state.next as usize;
     match answer {
         BatchAnswer::Refused(refusal) => refusal::number(refusal),
         BatchAnswer::Taken(flag_count, pair_count, live_count) => {
-            store_progress(state, tick + flag_count, live_count);
+            store_progress(state, next, live_count);
             *taken = flag_count;
             *pairs = pair_count;
             *live = live_count;

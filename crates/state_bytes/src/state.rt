@@ -2,7 +2,6 @@
 ghost use mathlib.Core.Path.{_≡_};
 ghost use Prim.Native.Nat.{_≤_};
 ghost use lib.ListN.{length, take};
-ghost use Rattle.engine.specs.States.{moved-code};
 ghost use Rattle.state_bytes.specs.Numbers.{number-at};
 ghost use Rattle.state_bytes.specs.States.{loaded, stored, moved-bytes};
 use crate::STATE_BYTES;
@@ -40,6 +39,7 @@ fn load_body(state: &[u8], body: &mut [u8])
 // The engine's state that the bytes hold.
 pub fn load(state: &[u8; STATE_BYTES]) -> State
     ensures { λ r. ⌜ r ≡ loaded (now (state .entry)) ⌝ }
+    ensures { λ _. ⌜ length (now (state .entry)) ≡ 544 ⌝ }
 {
     let mut body = [0u8; MAX_BODY];
     load_body(state, &mut body);
@@ -47,7 +47,7 @@ pub fn load(state: &[u8; STATE_BYTES]) -> State
         body,
         size: number_at(state, SIZE_AT),
         opened: number_at(state, OPENED_AT),
-        next: number_at(state, NEXT_AT) as u64,
+        next: next_tick(state) as u64,
         live: number_at(state, LIVE_AT),
     }
 }

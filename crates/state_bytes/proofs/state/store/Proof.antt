@@ -24,9 +24,6 @@ put-number-requires c κs = search needs
 put-number-requires-2 : tie.Need-put-number-requires-2
 put-number-requires-2 c κs = search needs
 
-cast-put-number : tie.Need-cast-put-number
-cast-put-number c = search needs
-
 put-number-requires-3 : tie.Need-put-number-requires-3
 put-number-requires-3 c κs = search needs
 
@@ -35,11 +32,11 @@ put-number-requires-4 c κs = search needs
 
 returns : tie.Need-returns
 returns c =
-    let s₀ = c .before .before .before .before .before .before .before .before .before .before .before .before .before in
+    let s₀ = c .before .before .before .before .before .before .before .before .before .before .before .before in
     let r : length (s₀ .args .state .body) ≡ 512 = search needs in
     let n : length (now (s₀ .args .bytes)) ≡ 544 = search needs in
-    whole-stored (now (s₀ .args .bytes)) (s₀ .args .state) (c .before .before .before .before .before .before .before .before .before .copy .last .1 .0) (c .before .before .before .before .before .before .before .put-number .last .0) (c .before .before .before .before .before .put-number2 .last .0) (c .before .before .put-number3 .last .0) (c .put-number4 .last .0) n r
-    (c .before .before .before .before .before .before .before .before .before .copy .ensures .1) (c .before .before .before .before .before .before .before .put-number .ensures) (c .before .before .before .before .before .put-number2 .ensures) (c .before .before .put-number3 .ensures) (c .put-number4 .ensures)
+    whole-stored (now (s₀ .args .bytes)) (s₀ .args .state) (c .before .before .before .before .before .before .before .before .copy .last .1 .0) (c .before .before .before .before .before .before .put-number .last .0) (c .before .before .before .before .put-number2 .last .0) (c .before .before .put-number3 .last .0) (c .put-number4 .last .0) n r
+    (c .before .before .before .before .before .before .before .before .copy .ensures .1) (c .before .before .before .before .before .before .put-number .ensures) (c .before .before .before .before .put-number2 .ensures) (c .before .before .put-number3 .ensures) (c .put-number4 .ensures)
 
 pub store-spec : {M : Type 1} → statement M
 store-spec =
@@ -49,7 +46,6 @@ store-spec =
     copy-requires
     put-number-requires
     put-number-requires-2
-    cast-put-number
     put-number-requires-3
     put-number-requires-4
     returns)
