@@ -82,9 +82,9 @@ pub extern "C" fn sw_steps(
     ensures { λ r. ⌜ KeptIfRefused r (now (pairs .entry)) (now (pairs .exit)) ⌝ }
     ensures { λ r. ⌜ KeptIfRefused r (now (live .entry)) (now (live .exit)) ⌝ }
 {
-    let stepped = engine::steps(load(state), flags, history, cells, report);
-    let answer = stepped.answer;
-    let next = stepped.state.next as usize;
+    let batched = engine::steps(load(state), flags, history, cells, report);
+    let answer = batched.answer;
+    let next = batched.state.next as usize;
     match answer {
         BatchAnswer::Refused(refusal) => refusal::number(refusal),
         BatchAnswer::Taken(flag_count, pair_count, live_count) => {
