@@ -30,7 +30,7 @@ use Rattle.ranges.specs.Plans.{first-of, Plans}
 use Rattle.ranges.proofs.Clamping.{clamped-at-same, clamped-same}
 use Rattle.ranges.proofs.Bounds.{range-same}
 use Rattle.cell_runs.specs.Tree.{Tree, range-node, formula-of}
-use Rattle.cells.specs.Cells.{held, CellHolds, since}
+use Rattle.cells.specs.Cells.{held, CellHolds, since, step-after}
 use Rattle.cell_runs.specs.Slots.{slot}
 use Rattle.cells.specs.Heads.{latest-of, leading-of}
 use Rattle.cell_runs.specs.Leading.{Leading, HeadMoved}
@@ -124,14 +124,14 @@ module _ (B₁ B₂ : Bound) (z : ℕ) (F : Tree) (hist : List ℕ) (b : ℕ) (e
 
   -- the head cell that was written
   head-right : (first n leading latest own : ℕ) (end : Outcome) (mid run′ : List ℕ) → Plans (range B₁ B₂ (places e)) t s first n end → own ≡ own-tick (places e) → 0 < length (places e)
-      → t < own-tick (places e) + 4294967296 → n < 4294967296 → s ≤ t → latest ≡ latest-of own s leading (getD run 2 0)
+      → t < own-tick (places e) + 4294967296 → t < 4611686018427387904 → n < 4294967296 → s ≤ t → latest ≡ latest-of own s leading (getD run 2 0)
       → (c : HeadMoved own z n mid leading latest run′) → (flags : ℕ → ℕ)
       → Leading (λ q. out flags t (with-position (places e) q) (max s q) F) first s leading latest
       → ((j : ℕ) → j < n → SlotHolds flags t (places e) s F (first + j) (slot z j (drop 4 mid)))
       → Leading (λ q. out flags t (with-position (places e) q) (max s q) F) first s (getD run′ 0 0) (latest-of (own-tick (places e)) s (getD run′ 0 0) (getD run′ 2 0))
       × ((j : ℕ) → j < getD run′ 0 0 → In (range B₁ B₂ (places e)) (first + j) × (first + j ≤ t))
   unfolding SlotHolds held latest-of
-  head-right first n leading latest own end mid run′ p eo some near small st ec c flags led slots =
+  head-right first n leading latest own end mid run′ p eo some near timely small st ec c flags led slots =
       let few : n ≤ suc t - first = p .few in
       let high : c .leading′ ≤ n = c .moved .high in
       let low : leading ≤ c .leading′ = c .moved .low in
@@ -139,19 +139,19 @@ module _ (B₁ B₂ : Bound) (z : ℕ) (F : Tree) (hist : List ℕ) (b : ℕ) (e
       let w2 : getD run′ 2 0 ≡ since (own-tick (places e)) (c .latest′) = c .latest-word ∙ ap (λ (a : ℕ). since a (c .latest′)) eo in
       let led′ : Leading (λ q. out flags t (with-position (places e) q) (max s q) F) first s (c .leading′) (c .latest′) =
       c .moved .true-so-far (λ q. out flags t (with-position (places e) q) (max s q) F) first s
-      (λ j g h x. slots j h .1 .0 ∙ ap (λ (a : ℕ). cond (eqb a 1) (Decided True (own-tick (with-position (places e) (first + j)) + getD (slot z j (drop 4 mid)) 2 0)) (cond (eqb a 2) (Decided False (own-tick (with-position (places e) (first + j)) + getD (slot z j (drop 4 mid)) 2 0)) Open)) x
-      ∙ ap (λ (a : ℕ). Decided True (a + getD (slot z j (drop 4 mid)) 2 0)) (bind-tick (places e) (first + j) some ∙ sym eo)) led in
+      (λ j g h x. slots j h .1 .0 ∙ ap (λ (a : ℕ). cond (eqb a 1) (Decided True (step-after (own-tick (with-position (places e) (first + j))) (getD (slot z j (drop 4 mid)) 2 0))) (cond (eqb a 2) (Decided False (step-after (own-tick (with-position (places e) (first + j))) (getD (slot z j (drop 4 mid)) 2 0))) Open)) x
+      ∙ ap (λ (a : ℕ). Decided True (step-after a (getD (slot z j (drop 4 mid)) 2 0))) (bind-tick (places e) (first + j) some ∙ sym eo)) led in
       let top : c .latest′ ≤ t = leading-most first s (λ q. out flags t (with-position (places e) q) (max s q) F) t (c .leading′) (c .latest′) st
       (λ j d i x. within (formula-of F) flags (with-position (places e) (first + j)) (max s (first + j)) t d True (omega arith) x) led′ in
       let above : (c .leading′ ≡ 0 → ⊥) → own-tick (places e) ≤ c .latest′ = λ nz. ⊎-elim
       (λ y.
       let e1 : c .leading′ ≡ leading = y .0 in
       let e2 : c .latest′ ≡ latest = y .1 in
-      let e3 : latest ≡ own + getD run 2 0 = ec ∙ simp (ne-eqb leading 0 (λ x. nz (e1 ∙ x))) in
+      let e3 : latest ≡ step-after own (getD run 2 0) = ec ∙ simp (ne-eqb leading 0 (λ x. nz (e1 ∙ x))) in
       omega arith)
-      (λ y. subst (λ (a : ℕ). a ≤ c .latest′) eo y) (c .moved .after-tick) in
+      (λ y. let z : step-after own 0 ≤ c .latest′ = y in omega arith) (c .moved .after-tick) in
       let back : c .latest′ ≡ latest-of (own-tick (places e)) s (getD run′ 0 0) (getD run′ 2 0) =
-      latest-back (own-tick (places e)) s t (c .leading′) (c .latest′) (getD run′ 0 0) (getD run′ 2 0) w0 w2 (λ x. leading-none first s _ (c .leading′) (c .latest′) x led′) above top near in (
+      latest-back (own-tick (places e)) s t (c .leading′) (c .latest′) (getD run′ 0 0) (getD run′ 2 0) w0 w2 (λ x. leading-none first s _ (c .leading′) (c .latest′) x led′) above top near timely in (
         subst (Leading (λ q. out flags t (with-position (places e) q) (max s q) F) first s (getD run′ 0 0)) back
             (subst (λ (l : ℕ). Leading (λ q. out flags t (with-position (places e) q) (max s q) F) first s l (c .latest′)) (sym w0) led′),
         λ j i. (p .inside j (omega arith), omega arith),
@@ -169,13 +169,13 @@ module _ (B₁ B₂ : Bound) (z : ℕ) (F : Tree) (hist : List ℕ) (b : ℕ) (e
 
   -- the positions of the plan are those of the range up to t
   range-of′ : (first n leading latest own : ℕ) (end r o : Outcome) (rest ys mid run′ : List ℕ) → Plans (range B₁ B₂ (places e)) t s first n end
-      → own ≡ own-tick (places e) → 0 < length (places e) → t < own-tick (places e) + 4294967296 → n < 4294967296
+      → own ≡ own-tick (places e) → 0 < length (places e) → t < own-tick (places e) + 4294967296 → t < 4611686018427387904 → n < 4294967296
       → leading ≡ leading-of s t n (getD run 0 0) → latest ≡ latest-of own s leading (getD run 2 0)
       → rest ≡ drop 4 run → drop 4 mid ≡ ys → PositionsWalked F hist b e s t first leading n end z rest r ys
       → HeadMoved own z n mid leading latest run′ → o ≡ both (Decided True latest) r
       → Advanced (range-node B₁ B₂ z F) hist b e s t run o run′
   unfolding outcome RunHolds SlotHolds Reach formula-of
-  range-of′ first n leading latest own end r o rest ys mid run′ p eo some near small el ec er ey walked c eout = record {
+  range-of′ first n leading latest own end r o rest ys mid run′ p eo some near timely small el ec er ey walked c eout = record {
     gives = λ flags H hon reach ready.
         let few : n ≤ suc t - first = p .few in
         let st : s ≤ t = started-by flags ready in
@@ -190,7 +190,7 @@ module _ (B₁ B₂ : Bound) (z : ℕ) (F : Tree) (hist : List ℕ) (b : ℕ) (e
           | yes i ↦ subst (SlotHolds flags t (places e) s F (first + j)) (sym (walked .gives .0 j i ∙ ap (slot z j) er)) (op .1 j i)
           | no i ↦ x .1 .1 j (omega arith) h
         ] in
-        let head = head-right first n leading latest own end mid run′ p eo some near small st ec c flags (op .0) (λ j h. subst (λ (l : List ℕ). SlotHolds flags t (places e) s F (first + j) (slot z j l)) (sym ey) (slots j h)) in
+        let head = head-right first n leading latest own end mid run′ p eo some near timely small st ec c flags (op .0) (λ j h. subst (λ (l : List ℕ). SlotHolds flags t (places e) s F (first + j) (slot z j l)) (sym ey) (slots j h)) in
         let tail : drop 4 run′ ≡ ys = c .slots-kept ∙ ey in (
           eout
               ∙ sym (leading-walk first s (λ q. out flags t (with-position (places e) q) (max s q) F) (λ q. from-less (out flags t (with-position (places e) q) (max s q) F) (omega arith) (from-start (formula-of F) flags t (with-position (places e) q) (max s q))) leading latest r (op .0) (x .1 .0 (p .late)))
@@ -218,13 +218,13 @@ module _ (B₁ B₂ : Bound) (z : ℕ) (F : Tree) (hist : List ℕ) (b : ℕ) (e
 
 module _ {B₁ B₂ : Bound} {z : ℕ} {F : Tree} {hist : List ℕ} {b : ℕ} {e : Variables} {s t : ℕ} {run : List ℕ} where
   pub range-of : (first n leading latest own z′ : ℕ) (end r o : Outcome) (ys mid run′ : List ℕ) → z′ ≡ z → 4 ≤ length run → Plans (range B₁ B₂ (places e)) t s first n end
-      → own ≡ own-tick (places e) → 0 < length (places e) → t < own-tick (places e) + 4294967296 → n < 4294967296
+      → own ≡ own-tick (places e) → 0 < length (places e) → t < own-tick (places e) + 4294967296 → t < 4611686018427387904 → n < 4294967296
       → leading ≡ leading-of s t n (getD run 0 0) → latest ≡ latest-of own s leading (getD run 2 0)
       → PositionsWalked F hist b e s t first leading n end z′ (take (length run - 4) (drop 4 run)) r ys → mid ≡ putMid 4 (length run - 4) run ys
       → HeadMoved own z′ n mid leading latest run′ → o ≡ both (Decided True latest) r
       → Advanced (range-node B₁ B₂ z F) hist b e s t run o run′
-  range-of first n leading latest own z′ end r o ys mid run′ ez room p eo some near small el ec walked ep c eout =
-      range-of′ B₁ B₂ z F hist b e s t run first n leading latest own end r o (take (length run - 4) (drop 4 run)) ys mid run′ p eo some near small el ec
+  range-of first n leading latest own z′ end r o ys mid run′ ez room p eo some near timely small el ec walked ep c eout =
+      range-of′ B₁ B₂ z F hist b e s t run first n leading latest own end r o (take (length run - 4) (drop 4 run)) ys mid run′ p eo some near timely small el ec
       (tail-take run) (ap (drop 4) ep ∙ tail-drop run ys room)
       (subst (λ (i : ℕ). PositionsWalked F hist b e s t first leading n end i (take (length run - 4) (drop 4 run)) r ys) ez walked)
       (subst (λ (i : ℕ). HeadMoved own i n mid leading latest run′) ez c) eout

@@ -15,7 +15,7 @@ use Rattle.rule.specs.declared.Verdict.the-variants.{True, False}
 use Rattle.rule.specs.declared.Outcome.{Outcome}
 use Rattle.rule.specs.declared.Outcome.the-variants.{Decided, Open}
 use Rattle.rule.specs.Started.{From}
-use Rattle.cells.specs.Cells.{since}
+use Rattle.cells.specs.Cells.{since, step-after}
 use Rattle.cells.proofs.Marks.{two-drop, two-first, two-second}
 use Rattle.cell_runs.specs.Slots.{slot}
 use Rattle.cell_runs.specs.Leading.{Leading, MovedOn, HeadMoved, HeadFit}
@@ -29,13 +29,13 @@ module _ (p z n : ℕ) (slots : List ℕ) (leading latest : ℕ) where
   pub moved-none : leading ≤ n → MovedOn p z n slots leading latest leading latest
   moved-none h = record { low = omega arith; high = h; after-tick = inl (refl, refl); true-so-far = λ f first s k x. x }
 
-  pub moved-more : (l m x y : ℕ) → l < n → 4 ≤ z → getD slots (l * z) 0 ≡ 1 → x ≡ p + getD slots (l * z + 2) 0 → y ≡ max m x
+  pub moved-more : (l m x y : ℕ) → l < n → 4 ≤ z → getD slots (l * z) 0 ≡ 1 → x ≡ step-after p (getD slots (l * z + 2) 0) → y ≡ max m x
       → MovedOn p z n slots leading latest l m → MovedOn p z n slots leading latest (l + 1) y
   unfolding Leading
   moved-more l m x y h g e ex ey c =
       let low : leading ≤ l = c .low in
       let e0 : getD (slot z l slots) 0 0 ≡ 1 = slot-word z l 0 slots (omega arith) ∙ ap (λ (i : ℕ). getD slots i 0) (add-zero (l * z)) ∙ e in
-      let e2 : p + getD (slot z l slots) 2 0 ≡ x = ap (λ (i : ℕ). p + i) (slot-word z l 2 slots (omega arith)) ∙ sym ex in
+      let e2 : step-after p (getD (slot z l slots) 2 0) ≡ x = ap (step-after p) (slot-word z l 2 slots (omega arith)) ∙ sym ex in
       record {
         low = omega arith;
         high = omega arith;

@@ -68,6 +68,7 @@ module _ (F : Tree) (hist : List ℕ) (b : ℕ) (e : Variables) (s t k a z : ℕ
         let after : 4 ≤ a = fit .after-cell in
         let cell : k < 2 = fit .cell in
         let near : t < own-tick (places e) + 4294967296 = fit .fit .near in
+        let low : t < 4611686018427387904 = fit .fit .low in
         let put : List ℕ = putMid a (z - a) run ys in
         let dl : length (drop a run) ≡ length run - a = length-drop a run in
         let len : length ys ≡ z - a = ly ∙ length-take-le (z - a) (drop a run) (omega arith) in
@@ -81,6 +82,7 @@ module _ (F : Tree) (hist : List ℕ) (b : ℕ) (e : Variables) (s t k a z : ℕ
               let small : Small (own-tick (places e)) r = record {
                 from = λ v d q. let f : t ≡ d = fresh-now flags (window a z run) r rd (x .0) v d q in omega arith;
                 small = λ v d q. let f : t ≡ d = fresh-now flags (window a z run) r rd (x .0) v d q in omega arith;
+                low = λ v d q. let f : t ≡ d = fresh-now flags (window a z run) r rd (x .0) v d q in omega arith;
               } in
               let kept : r ≡ held (own-tick (places e)) (getD run′ k 0) (getD run′ (k + 2) 0) = rw ep′ (mark-held (own-tick (places e)) k r put (omega arith) small) in
               let tail : window a z run′ ≡ ys = ap (window a z) ep ∙ ap (take (z - a)) (mark-drop p k r put a (omega arith)) ∙ part-window run ys a z start end len in

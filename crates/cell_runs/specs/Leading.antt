@@ -8,7 +8,7 @@ use lib.ListN.{getD, drop}
 use Rattle.rule.specs.declared.Verdict.the-variants.{True}
 use Rattle.rule.specs.declared.Outcome.{Outcome}
 use Rattle.rule.specs.declared.Outcome.the-variants.{Decided}
-use Rattle.cells.specs.Cells.{since}
+use Rattle.cells.specs.Cells.{since, step-after}
 use Rattle.cell_runs.specs.Slots.{slot}
 
 -- The first `count` positions are true, and `latest` is the latest of s and their steps.
@@ -20,9 +20,9 @@ Leading outcomes first s (suc count) latest = (earlier : ℕ) × (step : ℕ) ×
 pub record MovedOn (p size positions : ℕ) (slots : List ℕ) (leading latest leading′ latest′ : ℕ) : Type 0 where
   pub low : leading ≤ leading′
   pub high : leading′ ≤ positions
-  pub after-tick : ((leading′ ≡ leading) × (latest′ ≡ latest)) ⊎ (p ≤ latest′)
+  pub after-tick : ((leading′ ≡ leading) × (latest′ ≡ latest)) ⊎ (step-after p 0 ≤ latest′)
   pub true-so-far : (outcomes : ℕ → Outcome) (first s : ℕ)
-      → ((index : ℕ) → leading ≤ index → index < positions → getD (slot size index slots) 0 0 ≡ 1 → outcomes (first + index) ≡ Decided True (p + getD (slot size index slots) 2 0))
+      → ((index : ℕ) → leading ≤ index → index < positions → getD (slot size index slots) 0 0 ≡ 1 → outcomes (first + index) ≡ Decided True (step-after p (getD (slot size index slots) 2 0)))
       → Leading outcomes first s leading latest → Leading outcomes first s leading′ latest′
 
 -- A range's run whose head was moved on and written.

@@ -7,7 +7,7 @@ use native.Mathlib.Nat.{mod-eq-of-lt}
 use native.Mathlib.Decide.{decLt}
 use borrow.Author.Tests.{le-leb, lt-leb, eq-eqb, ne-eqb}
 use lib.Dec.{eqb, leb}
-use Rattle.cells.specs.Cells.{since}
+use Rattle.cells.specs.Cells.{since, step-after}
 use Rattle.cells.specs.Heads.{latest-of, leading-of}
 
 -- ---- what the words say: one law for each way out of `head_of`
@@ -25,7 +25,7 @@ module _ (p s t n l d : ℕ) where
   unfolding leading-of latest-of
   head-far h g = (simp (ne-eqb t s h, lt-leb l n g), refl)
 
-  pub head-there : (y : ℕ) → y ≡ p + d → (t ≡ s → ⊥) → (l ≡ 0 → ⊥) → l ≤ n → (l ≡ leading-of s t n l) × (y ≡ latest-of p s l d)
+  pub head-there : (y : ℕ) → y ≡ step-after p d → (t ≡ s → ⊥) → (l ≡ 0 → ⊥) → l ≤ n → (l ≡ leading-of s t n l) × (y ≡ latest-of p s l d)
   unfolding leading-of latest-of
   head-there y e h g k = (simp (ne-eqb t s h, le-leb l n k), simp (ne-eqb l 0 g) e)
 
@@ -49,9 +49,9 @@ module _ (s t n w : ℕ) where
       go false = elim (decLt n w) [ yes l ↦ rw (lt-leb w n l) (omega arith) | no l ↦ rw (le-leb w n (omega arith)) (omega arith) ]
 
 -- the latest that was written is the latest
-pub latest-back : (p s t l m w d : ℕ) → w ≡ l → d ≡ since p m → (l ≡ 0 → m ≡ s) → ((l ≡ 0 → ⊥) → p ≤ m) → m ≤ t → t < p + 4294967296 → m ≡ latest-of p s w d
+pub latest-back : (p s t l m w d : ℕ) → w ≡ l → d ≡ since p m → (l ≡ 0 → m ≡ s) → ((l ≡ 0 → ⊥) → p ≤ m) → m ≤ t → t < p + 4294967296 → t < 4611686018427387904 → m ≡ latest-of p s w d
 unfolding latest-of
-latest-back p s t l m w d ew ed h g i j = elim (decLt 0 w) [
+latest-back p s t l m w d ew ed h g i j low = elim (decLt 0 w) [
   | no k ↦ let z : w ≡ 0 = omega arith in simp (eq-eqb w 0 z) (h (sym ew ∙ z))
   | yes k ↦
       let pm : p ≤ m = g (λ z. omega arith) in

@@ -11,12 +11,13 @@ use Rattle.rule.specs.declared.Verdict.{Verdict}
 use Rattle.rule.specs.declared.Verdict.the-variants.{True, False}
 use Rattle.rule.specs.declared.Outcome.{Outcome}
 use Rattle.rule.specs.declared.Outcome.the-variants.{Decided, Open}
-use Rattle.cells.specs.Cells.{held, mark, since}
+use Rattle.cells.specs.Cells.{held, mark, since, step-after}
 
--- the steps that fit a word, counted from p
+-- the steps that fit a word, counted from p, of a tick that steps take
 pub record Small (p : ℕ) (o : Outcome) : Type 0 where
   pub from : (v : Verdict) (d : ℕ) → o ≡ Decided v d → p ≤ d
   pub small : (v : Verdict) (d : ℕ) → o ≡ Decided v d → d < p + 4294967296
+  pub low : (v : Verdict) (d : ℕ) → o ≡ Decided v d → d < 4611686018427387904
 
 -- two words written, the first last
 module _ (l : List ℕ) (k x y : ℕ) where
@@ -53,8 +54,8 @@ mark-other p k Open l n h g = getD-set-other l k n 0 0 h
 mark-other p k (Decided True d) l n h g = two-other l k (since p d) 1 n h g
 mark-other p k (Decided False d) l n h g = two-other l k (since p d) 2 n h g
 
-since-back : (p d : ℕ) → p ≤ d → d < p + 4294967296 → p + since p d ≡ d
-since-back p d h g = let e : (d - p) % 4294967296 ≡ d - p = mod-eq-of-lt (omega arith) in omega arith
+since-back : (p d : ℕ) → p ≤ d → d < p + 4294967296 → d < 4611686018427387904 → step-after p (since p d) ≡ d
+since-back p d h g low = let e : (d - p) % 4294967296 ≡ d - p = mod-eq-of-lt (omega arith) in omega arith
 
 pub mark-held : (p k : ℕ) (o : Outcome) (l : List ℕ) → k + 2 < length l → Small p o
     → o ≡ held p (getD (mark p k o l) k 0) (getD (mark p k o l) (k + 2) 0)
@@ -62,7 +63,7 @@ unfolding mark held
 mark-held p k Open l h f = simp (getD-set-same l k 0 0 (omega arith))
 mark-held p k (Decided True d) l h f =
     simp (two-first l k (since p d) 1 (omega arith), two-second l k (since p d) 1 h)
-    (ap (λ (n : ℕ). Decided True n) (sym (since-back p d (f .from True d refl) (f .small True d refl))))
+    (ap (λ (n : ℕ). Decided True n) (sym (since-back p d (f .from True d refl) (f .small True d refl) (f .low True d refl))))
 mark-held p k (Decided False d) l h f =
     simp (two-first l k (since p d) 2 (omega arith), two-second l k (since p d) 2 h)
-    (ap (λ (n : ℕ). Decided False n) (sym (since-back p d (f .from False d refl) (f .small False d refl))))
+    (ap (λ (n : ℕ). Decided False n) (sym (since-back p d (f .from False d refl) (f .small False d refl) (f .low False d refl))))

@@ -1,5 +1,5 @@
 -- An outcome in two words of a cell.
-use Prim.Native.Nat.{ℕ, _+_, _%_, _-_}
+use Prim.Native.Nat.{ℕ, _+_, _%_, _-_, min}
 use mathlib.Core.Path.{_≡_}
 use mathlib.Core.Bool.{cond}
 use mathlib.Core.List.{List}
@@ -9,9 +9,13 @@ use Rattle.rule.specs.declared.Verdict.the-variants.{True, False}
 use Rattle.rule.specs.declared.Outcome.{Outcome}
 use Rattle.rule.specs.declared.Outcome.the-variants.{Decided, Open}
 
+-- The step that comes so many steps after p. A tick that no step takes counts as the first such one: so the sum fits 64 bits, whatever p is.
+abbrev pub step-after : ℕ → ℕ → ℕ
+step-after p steps = min p 4611686018427387904 + steps
+
 -- The outcome that two words of a cell hold: 1 true, 2 false, else open; and its step, counted from p.
 unfoldable pub held : ℕ → ℕ → ℕ → Outcome
-held p verdict steps = cond (eqb verdict 1) (Decided True (p + steps)) (cond (eqb verdict 2) (Decided False (p + steps)) Open)
+held p verdict steps = cond (eqb verdict 1) (Decided True (step-after p steps)) (cond (eqb verdict 2) (Decided False (step-after p steps)) Open)
 
 -- A word of a cell and the second word after it hold the outcome; where that is open, R.
 abbrev pub CellHolds : ℕ → ℕ → Outcome → Type 0 → List ℕ → Type 0

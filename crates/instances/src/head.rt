@@ -1,6 +1,6 @@
 // The head of a range, loaded from its cell and moved on over its slots: how many leading positions are true, and the latest of their steps.
 ghost use mathlib.Core.Path.{_≡_};
-ghost use Prim.Native.Nat.{_+_, _≤_, _<_};
+ghost use Prim.Native.Nat.{_+_, _≤_};
 ghost use lib.ListN.{length, getD};
 ghost use Rattle.cells.specs.Heads.{leading-of, latest-of};
 ghost use Rattle.cell_runs.specs.Leading.{MovedOn, HeadMoved, HeadFit};
@@ -14,7 +14,6 @@ use cells::step_after;
 // What the head cell says at tick t, of so many positions; none where the range starts now.
 pub(crate) fn load_head(run: &[u32], p: u64, s: u64, t: u64, positions: u64) -> Head
     requires { ⌜ 4 ≤ length (now run) ⌝ }
-    requires { ⌜ p < 4611686018427387904 ⌝ }
     ensures { λ r. ⌜ (r .leading ≡ leading-of s t positions (getD (now (run .entry)) 0 0)) × (r .latest ≡ latest-of p s (r .leading) (getD (now (run .entry)) 2 0)) ⌝ }
 {
     head_of(run[0], run[2], p, s, t, positions)
@@ -29,7 +28,6 @@ fn leading_true(
     p: u64,
     latest: u64,
 ) -> Head
-    requires { ⌜ p < 4611686018427387904 ⌝ }
     requires { ⌜ HeadFit size positions leading (4 + length (now slots)) ⌝ }
     ensures { λ r. ⌜ MovedOn p size positions (now (slots .entry)) leading latest (r .leading) (r .latest) ⌝ }
 {
@@ -61,7 +59,6 @@ pub(crate) fn move_head(
     p: u64,
     latest: u64,
 )
-    requires { ⌜ p < 4611686018427387904 ⌝ }
     requires { ⌜ HeadFit size positions leading (length (now run)) ⌝ }
     ensures { λ _. ⌜ HeadMoved p size positions (now (run .entry)) leading latest (now (run .exit)) ⌝ }
 {

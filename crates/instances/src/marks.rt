@@ -11,7 +11,6 @@ use rule::Verdict;
 // The outcome that the words `index` and `index` + 2 of a cell hold.
 pub(crate) fn load_outcome(cell: &[u32], index: usize, p: u64) -> Outcome
     requires { ⌜ (4 ≤ length (now cell)) × (index < 2) ⌝ }
-    requires { ⌜ p < 4611686018427387904 ⌝ }
     ensures { λ r. ⌜ r ≡ held p (getD (now (cell .entry)) index 0) (getD (now (cell .entry)) (index + 2) 0) ⌝ }
 {
     outcome_of(cell[index], cell[index + 2], p)

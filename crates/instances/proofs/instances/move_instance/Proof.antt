@@ -10,7 +10,7 @@ use Rattle.instances.proofs.instances.move_instance.Tie as tie
 load-outcome-requires : tie.Need-load-outcome-requires
 load-outcome-requires c κs =
     let fits = c .before .before .before .before .pre in
-    ((omega (arith, fits .room), omega arith), omega (arith, fits .low, fits .come))
+    (omega (arith, fits .room), omega arith)
 
 enum-told : tie.Need-enum-told
 enum-told c = search needs
