@@ -576,12 +576,12 @@ advance-not-returns measure c =
     nots-of (s₀ .args .nodes .now) (s₀ .args .left) (s₀ .args .node) (at-skip-nots .result) (at-skip-nots .ensures) (at-advance .result) (at-opposite-if .result) (at-advance .last .1 .1 .1 .0) (at-advance .ensures) (at-opposite-if .ensures)
 
 advance-part-own-tick-requires : (t : ℕ) → advance-part-lts.Need-own-tick-requires (advance-part-claims t) (advance-part-at t) advance-part.Post
-advance-part-own-tick-requires measure c κs = let s₀ = c .before .before in omega (arith, s₀ .pre .1 .fit .past 0, s₀ .pre .1 .fit .low)
+advance-part-own-tick-requires measure c κs = search needs
 
 advance-part-load-outcome-requires : (t : ℕ) → advance-part-lts.Need-load-outcome-requires (advance-part-claims t) (advance-part-at t) advance-part.Post
 advance-part-load-outcome-requires measure c κs =
     let s₀ = c .before .before .before .before .before in
-    (omega (arith, s₀ .pre .1 .after-cell, s₀ .pre .1 .ordered, s₀ .pre .1 .inside), s₀ .pre .1 .cell)
+    ((omega (arith, s₀ .pre .1 .after-cell, s₀ .pre .1 .ordered, s₀ .pre .1 .inside), s₀ .pre .1 .cell), omega (arith, c .before .before .own-tick .ensures, s₀ .pre .1 .fit .past 0, s₀ .pre .1 .fit .low))
 
 advance-part-enum-told : (t : ℕ) → advance-part-lts.Need-enum-told (advance-part-claims t) (advance-part-at t) advance-part.Post
 advance-part-enum-told t c = search needs
@@ -759,12 +759,12 @@ advance-range-plan-up-to-requires : (t : ℕ) → advance-range-lts.Need-plan-up
 advance-range-plan-up-to-requires t c κs = search needs
 
 advance-range-own-tick-requires : (t : ℕ) → advance-range-lts.Need-own-tick-requires (advance-range-claims t) (advance-range-at t) advance-range.Post
-advance-range-own-tick-requires measure c κs = let s₀ = c .before .before .before .before .before .before .before in omega (arith, s₀ .pre .1 .1 .past 0, s₀ .pre .1 .1 .low)
+advance-range-own-tick-requires measure c κs = search needs
 
 advance-range-load-head-requires : (t : ℕ) → advance-range-lts.Need-load-head-requires (advance-range-claims t) (advance-range-at t) advance-range.Post
 advance-range-load-head-requires measure c κs =
     let s₀ = c .before .before .before .before .before .before .before .before .before in
-    fit-head (s₀ .pre .1 .1)
+    (fit-head (s₀ .pre .1 .1), omega (arith, c .before .own-tick .ensures, s₀ .pre .1 .1 .past 0, s₀ .pre .1 .1 .low))
 
 advance-range-add-walk-positions : (t : ℕ) → advance-range-lts.Need-add-walk-positions (advance-range-claims t) (advance-range-at t) advance-range.Post
 advance-range-add-walk-positions measure c =
@@ -820,9 +820,11 @@ advance-range-move-head-requires measure c κs =
     let at-own-tick = c .before .before .before .before .before .before .before .own-tick in
     let at-load-head = c .before .before .before .before .before .load-head in
     let at-walk-positions = c .before .before .before .walk-positions in
-    let plan = plan-here (bound-at nodes (node + 1)) (bound-at nodes (node + 4)) env t s (at-plan-up-to .result .first) (at-plan-up-to .result .count) (at-plan-up-to .result .end) (at-range-at .result) (s₀ .pre .1 .1 .low) (s₀ .pre .1 .1 .past) (s₀ .pre .1 .1 .unbound) (at-range-at .ensures) (at-plan-up-to .ensures) in
-    fit-store (s₀ .pre .1 .1) s (at-plan-up-to .result .first) (at-load-head .result .leading) (at-plan-up-to .result .count) (at-node-word .result) (length (putMid 4 (length run - 4) run (at-walk-positions .last .1 .1 .1 .0))) (at-plan-up-to .result .end)
-    (subst (λ (x : ℕ). x ≤ at-plan-up-to .result .count) (sym (at-load-head .ensures .0)) (leading-least s t (at-plan-up-to .result .count) (getD run 0 0))) (at-node-word .ensures) (same-len-mid 4 (length run - 4) run (at-walk-positions .last .1 .1 .1 .0) (at-walk-positions .kept .1 .1 .1 .0)) plan
+    let plan = plan-here (bound-at nodes (node + 1)) (bound-at nodes (node + 4)) env t s (at-plan-up-to .result .first) (at-plan-up-to .result .count) (at-plan-up-to .result .end) (at-range-at .result) (s₀ .pre .1 .1 .low) (s₀ .pre .1 .1 .past) (s₀ .pre .1 .1 .unbound) (at-range-at .ensures) (at-plan-up-to .ensures) in (
+      omega (arith, at-own-tick .ensures, s₀ .pre .1 .1 .past 0, s₀ .pre .1 .1 .low),
+      fit-store (s₀ .pre .1 .1) s (at-plan-up-to .result .first) (at-load-head .result .leading) (at-plan-up-to .result .count) (at-node-word .result) (length (putMid 4 (length run - 4) run (at-walk-positions .last .1 .1 .1 .0))) (at-plan-up-to .result .end)
+          (subst (λ (x : ℕ). x ≤ at-plan-up-to .result .count) (sym (at-load-head .ensures .0)) (leading-least s t (at-plan-up-to .result .count) (getD run 0 0))) (at-node-word .ensures) (same-len-mid 4 (length run - 4) run (at-walk-positions .last .1 .1 .1 .0) (at-walk-positions .kept .1 .1 .1 .0)) plan,
+    )
 
 advance-range-both-requires : (t : ℕ) → advance-range-lts.Need-both-requires (advance-range-claims t) (advance-range-at t) advance-range.Post
 advance-range-both-requires t c κs = search needs
@@ -854,7 +856,7 @@ advance-range-returns measure c =
     let at-both = c .both in
     let plan = plan-here (bound-at nodes (node + 1)) (bound-at nodes (node + 4)) env t s (at-plan-up-to .result .first) (at-plan-up-to .result .count) (at-plan-up-to .result .end) (at-range-at .result) (s₀ .pre .1 .1 .low) (s₀ .pre .1 .1 .past) (s₀ .pre .1 .1 .unbound) (at-range-at .ensures) (at-plan-up-to .ensures) in
     range-of (at-plan-up-to .result .first) (at-plan-up-to .result .count) (at-load-head .result .leading) (at-load-head .result .latest) (at-own-tick .result) (at-node-word .result) (at-plan-up-to .result .end) (at-walk-positions .result) (at-both .result) (at-walk-positions .last .1 .1 .1 .0) (putMid 4 (length run - 4) run (at-walk-positions .last .1 .1 .1 .0)) (at-move-head .last .0)
-    (at-node-word .ensures) (fit-head (s₀ .pre .1 .1)) plan (at-own-tick .ensures ∙ tick-is env (s₀ .pre .1 .1 .some)) (omega (arith, fit-long (s₀ .pre .1 .1), s₀ .pre .1 .1 .some)) (omega (arith, s₀ .pre .1 .1 .low))
+    (at-node-word .ensures) (fit-head (s₀ .pre .1 .1)) plan (at-own-tick .ensures ∙ tick-is env (s₀ .pre .1 .1 .some)) (omega (arith, fit-long (s₀ .pre .1 .1), s₀ .pre .1 .1 .some)) (s₀ .pre .1 .1 .near)
     (fit-short (s₀ .pre .1 .1) s (at-plan-up-to .result .first) (at-plan-up-to .result .count) (at-plan-up-to .result .end) plan)
     (at-load-head .ensures .0) (at-load-head .ensures .1) (at-walk-positions .ensures) refl (at-move-head .ensures) (at-both .ensures)
 

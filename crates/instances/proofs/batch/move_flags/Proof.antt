@@ -29,7 +29,7 @@ flags-left-requires c κs = search needs
 loop-holds : tie.Need-loop-holds Inv-loop μ-loop
 loop-holds c =
     let s₀ = c .before .before .before .before .before in
-    under-start (s₀ .args .nodes .now) (s₀ .args .figures) (s₀ .args .tick) (s₀ .args .live) (s₀ .args .flags .now) (s₀ .args .history .now) (s₀ .args .cells .now) (s₀ .args .report .now) (search needs)
+    under-start (s₀ .args .nodes .now) (s₀ .args .figures) (s₀ .args .tick) (s₀ .args .live) (s₀ .args .flags .now) (s₀ .args .history .now) (s₀ .args .cells .now) (s₀ .args .report .now) (s₀ .pre .low)
 
 mul-at : tie.Need-mul-at Inv-loop μ-loop
 mul-at c =

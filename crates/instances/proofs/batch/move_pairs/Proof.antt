@@ -23,9 +23,6 @@ move-tick-requires c κs =
     let e = length-take-le (s₀ .args .half) (s₀ .args .report .now) (omega arith) in
     rw e (s₀ .pre .fit)
 
-cast-spread : tie.Need-cast-spread
-cast-spread c = search needs
-
 spread-requires : tie.Need-spread-requires
 spread-requires c κs =
     let s₀ = c .before .before .before .before .before .before .before .before .before .before .before .before .before .before in
@@ -56,7 +53,6 @@ move-pairs-spec =
     slice-relend-prefix-move-tick
     slice-aggregate-move-tick
     move-tick-requires
-    cast-spread
     spread-requires
     same-length
     same-length-2

@@ -21,7 +21,7 @@ part-leading-true-end c = search needs
 leading-true-requires : tie.Need-leading-true-requires
 leading-true-requires c κs =
     let s₀ = c .before .before .before in
-    head-rest (s₀ .args .size) (s₀ .args .positions) (s₀ .args .leading) (s₀ .args .run .now) (s₀ .pre)
+    (s₀ .pre .0, head-rest (s₀ .args .size) (s₀ .args .positions) (s₀ .args .leading) (s₀ .args .run .now) (s₀ .pre .1))
 
 elapsed-requires : tie.Need-elapsed-requires
 elapsed-requires c κs = search needs
@@ -36,7 +36,7 @@ slice-write-run-2 : tie.Need-slice-write-run-2
 slice-write-run-2 c =
     let s₀ = c .before .before .before .before .before .before in
     let l : length (set (s₀ .args .run .now) 2 (c .before .elapsed .result)) ≡ length (s₀ .args .run .now) = length-set (s₀ .args .run .now) 2 (c .before .elapsed .result) in
-    omega (arith, s₀ .pre .room)
+    omega (arith, s₀ .pre .1 .room)
 
 same-length : tie.Need-same-length
 same-length c = search needs
@@ -47,7 +47,7 @@ returns c =
     let run = s₀ .args .run .now in
     let head = c .before .before .leading-true in
     head-moved (s₀ .args .p) (s₀ .args .size) (s₀ .args .positions) run (take (length run - 4) (drop 4 run)) (s₀ .args .leading) (s₀ .args .latest) (head .result .leading) (head .result .latest) (c .before .elapsed .result)
-    (omega (arith, s₀ .pre .room)) (tail-take run) (c .before .elapsed .ensures) (head .ensures)
+    (omega (arith, s₀ .pre .1 .room)) (tail-take run) (c .before .elapsed .ensures) (head .ensures)
 
 pub move-head-spec : {M : Type 1} → statement M
 move-head-spec =

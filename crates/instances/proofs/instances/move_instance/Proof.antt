@@ -7,15 +7,10 @@ use borrow.Author.Needs.{needs}
 use Rattle.instances.proofs.instances.move_instance.Statement.{statement}
 use Rattle.instances.proofs.instances.move_instance.Tie as tie
 
-cast-load-outcome : tie.Need-cast-load-outcome
-cast-load-outcome c =
-    let fits = c .before .before .before .before .pre in
-    omega (arith, fits .low, fits .come)
-
 load-outcome-requires : tie.Need-load-outcome-requires
 load-outcome-requires c κs =
     let fits = c .before .before .before .before .pre in
-    (omega (arith, fits .room), omega arith)
+    ((omega (arith, fits .room), omega arith), omega (arith, fits .low, fits .come))
 
 enum-told : tie.Need-enum-told
 enum-told c = search needs
@@ -50,7 +45,6 @@ pub move-instance-spec : {M : Type 1} → statement M
 move-instance-spec =
     tie.close
     (tie.spec
-    cast-load-outcome
     load-outcome-requires
     enum-told
     same-length

@@ -72,14 +72,10 @@ move-instance-requires c κs =
     record {
       formed = fits .formed;
       room = subst (λ (k : ℕ). 4 + words (at-tick ∷ []) (tree-at (s₀ .args .left) (s₀ .args .nodes .now) 0) ≤ k) (sym long) (fits .room);
-      low = omega (arith, fits .low);
+      low = fits .low;
       come = c .before .loop-test .taken;
+      near = omega (arith, fits .few, now .inv .0 .to-now, s₀ .pre .1);
     }
-
-cast-report-if-false : tie.Need-cast-report-if-false Inv-loop μ-loop
-cast-report-if-false c =
-    let s₀ = c .before .before .before .before .before .before .before .before .before .before in
-    omega (arith, s₀ .pre .0 .low, c .before .before .before .before .before .loop-test .taken)
 
 report-if-false-requires : tie.Need-report-if-false-requires Inv-loop μ-loop
 report-if-false-requires c κs =
@@ -165,7 +161,6 @@ move-ticks-spec =
     part-move-instance-start
     part-move-instance-end
     move-instance-requires
-    cast-report-if-false
     report-if-false-requires
     one-if-open-requires
     add-live

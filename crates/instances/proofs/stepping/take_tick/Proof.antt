@@ -20,7 +20,7 @@ move-rule-requires : tie.Need-move-rule-requires
 move-rule-requires c κs =
     let s₀ = c .before .before .before .before .before .before .before .before .before .before .before .before in
     let step = c .before .before .before .before .before .before .admit-step in
-    tick-fits (s₀ .args .body .now) (s₀ .args .opened) (s₀ .args .tick) (length (s₀ .args .history .now)) (length (s₀ .args .cells .now)) (length (s₀ .args .report .now)) (step .result) (step .last .1 .1 .1 .1 .1 .1 .0) (step .ensures) (c .before .before .before .before .admitted2 .given .0 .0) (c .before .before .before .before .admitted2 .given .1) (search needs)
+    tick-fits (s₀ .args .body .now) (s₀ .args .opened) (s₀ .args .tick) (length (s₀ .args .history .now)) (length (s₀ .args .cells .now)) (length (s₀ .args .report .now)) (step .result) (step .last .1 .1 .1 .1 .1 .1 .0) (step .ensures) (c .before .before .before .before .admitted2 .given .0 .0) (c .before .before .before .before .admitted2 .given .1)
 
 returns : tie.Need-returns
 returns c live =
