@@ -127,7 +127,7 @@ take-rule-requires c κs =
     let count : c .before .before .before .before .before .before .byte-after .result ≡ rule-count (a .sheet .now) = c .before .before .before .before .before .before .byte-after .ensures .0 in
     let more : l .index < rule-count (a .sheet .now) = omega (arith, count, c .before .before .before .before .loop-test .taken) in
     rule-fits (a .sheet .now) (rules-in (a .records .now)) (a .history .now) (a .flag) (a .cells .now) (a .report .now) (s₀ .pre .figures) (s₀ .pre .admitted) (l .index) (l .pairs) (l .live) (rules-in (l .records)) (l .cells) (l .report) u more
-    (c .before .before .rule-at .result) (c .before .before .rule-at .ensures) (let w = c .before .before .rule-at .ok .1 .1 .1 .1 .1 .1 .1 .1 .0 .1 in omega (arith, w)) (length (take (length (l .report) - 2 * l .pairs) (drop (2 * l .pairs) (l .report))))
+    (c .before .before .rule-at .result) (c .before .before .rule-at .ensures) (length (take (length (l .report) - 2 * l .pairs) (drop (2 * l .pairs) (l .report))))
     (ap length (take-all (length (l .report) - 2 * l .pairs) (drop (2 * l .pairs) (l .report)) (omega (arith, length-drop (2 * l .pairs) (l .report)))) ∙ length-drop (2 * l .pairs) (l .report))
 
 cast-store-rule : tie.Need-cast-store-rule Inv-loop μ-loop
@@ -145,7 +145,7 @@ next-rule-requires c κs =
     next-fits (a .sheet .now) (rules-in (a .records .now)) (a .history .now) (a .flag) (a .cells .now) (a .report .now) (s₀ .pre .figures) (s₀ .pre .admitted) (l .index) (l .pairs) (l .live) (rules-in (l .records)) (l .cells) (l .report) u more
     (c .before .before .before .before .before .before .before .before .rule-at .result) (c .before .before .before .before .before .before .before .before .rule-at .ensures) (take (length (l .report) - 2 * l .pairs) (drop (2 * l .pairs) (l .report)))
     (take-all (length (l .report) - 2 * l .pairs) (drop (2 * l .pairs) (l .report)) (omega (arith, length-drop (2 * l .pairs) (l .report))))
-    (m .result .reported) (m .result .live) (m .last .1 .1 .1 .1 .1 .0) (m .last .1 .1 .1 .1 .1 .1 .0) (m .ensures) (let w = c .before .before .before .before .before .before .before .before .rule-at .ok .1 .1 .1 .1 .1 .1 .1 .1 .0 .1 in omega (arith, w))
+    (m .result .reported) (m .result .live) (m .last .1 .1 .1 .1 .1 .0) (m .last .1 .1 .1 .1 .1 .1 .0) (m .ensures)
 
 store-rule-requires : tie.Need-store-rule-requires Inv-loop μ-loop
 store-rule-requires c κs = search needs
