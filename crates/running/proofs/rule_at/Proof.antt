@@ -1,8 +1,9 @@
 -- `running::rule_at` meets its contract. Assumes nothing.
 use mathlib.Core.Path.{sym, ap, _∙_}
 use mathlib.Core.List.{[]}
-use lib.ListN.{List·getD-map, List·getD-eq-default}
+use lib.ListN.{getD, List·getD-map, List·getD-eq-default}
 use Rattle.running.specs.Records.{rule-in}
+use Rattle.running.proofs.Fields.{reads-so}
 use borrow.Author.Needs.{needs}
 use Rattle.running.proofs.rule_at.Statement.{statement}
 use Rattle.running.proofs.rule_at.Tie as tie
@@ -56,9 +57,8 @@ returns : tie.Need-returns
 returns c =
     let s₀ = c .before .before .before .before .before in
     let records = s₀ .args .records .now in
-    rw
-    (c .before .before .low-half .ensures, c .before .high-half .ensures, c .tick-of .ensures)
-    (sym (List·getD-map rule-in records (s₀ .args .index) []))
+    let words = getD records (s₀ .args .index) [] in
+    reads-so words _ _ _ (c .before .before .low-half .ensures) (c .before .high-half .ensures) (c .tick-of .ensures) ∙ sym (List·getD-map rule-in records (s₀ .args .index) [])
 
 returns-2 : tie.Need-returns-2
 returns-2 c =

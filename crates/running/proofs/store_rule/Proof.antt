@@ -5,7 +5,7 @@ use native.Mathlib.Omega.{arith}
 use lib.Seq.{set-out}
 use Rattle.running.specs.Records.{rule-in, rules-in}
 use Rattle.running.proofs.Mapped.{mapped-set}
-use Rattle.running.proofs.Fields.{read-again}
+use Rattle.running.proofs.Fields.{words-of, read-again}
 use borrow.Author.Needs.{needs}
 use Rattle.running.proofs.store_rule.Statement.{statement}
 use Rattle.running.proofs.store_rule.Tie as tie
@@ -41,8 +41,9 @@ returns : tie.Need-returns
 returns c =
     let s₀ = c .before .before .before .before .before in
     let records = s₀ .args .records .now in
-    mapped-set rule-in records (s₀ .args .index) _
-    ∙ ap (set (rules-in records) (s₀ .args .index)) (read-again (s₀ .args .rule) (omega (arith, c .before .before .before .struct-known .given)))
+    let rule = s₀ .args .rule in
+    mapped-set rule-in records (s₀ .args .index) (words-of rule)
+    ∙ ap (set (rules-in records) (s₀ .args .index)) (read-again rule (omega (arith, c .before .before .before .struct-known .given)))
 
 returns-2 : tie.Need-returns-2
 returns-2 c =
