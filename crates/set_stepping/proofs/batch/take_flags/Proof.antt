@@ -303,7 +303,7 @@ returns-2 c figures admitted =
     let next : lead .result .next ≡ next-tick (rules-in (a .records .now)) = ap (λ (r : Running). r .next) (lead .ensures) in
     let count = c .before .before .before .before .before .flags-left .ensures in
     let u = l .inv .1 figures admitted in
-    ends-all (a .sheet .now) (rules-in (a .records .now)) (a .flags .now) (a .history .now) (a .cells .now) (a .report .now) figures (rules-in (l .records)) (l .history) (l .cells) (l .report) (l .taken) (l .triples) (l .live) u (c .before .before .before .before .before .flags-left .result) (count ∙ ap (λ (t : ℕ). min (length (a .flags .now)) (4294967295 - t)) next) (omega (arith, c .loop-test .left))
+    ends-all (a .sheet .now) (rules-in (a .records .now)) (a .flags .now) (a .history .now) (a .cells .now) (a .report .now) figures (rules-in (l .records)) (l .history) (l .cells) (l .report) (l .taken) (l .triples) (l .live) u (c .before .before .before .before .before .flags-left .result) (count ∙ ap (λ (t : ℕ). min (length (a .flags .now)) (4611686018427387904 - t)) next) (omega (arith, c .loop-test .left))
 
 pub take-flags-spec : {M : Type 1} → statement M
 take-flags-spec =
