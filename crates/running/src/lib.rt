@@ -1,4 +1,5 @@
 // The records of a set's running rules as lent words, eight to a record, in the order and layout of the struct `Running`: what C lends.
+ghost use Prim.Native.Nat.{_+_, _*_, _%_, _/_};
 ghost use mathlib.Core.Path.{_≡_};
 ghost use lib.ListN.{getD, set};
 ghost use Rattle.demand.specs.SetContract.{no-rule};
@@ -13,6 +14,27 @@ const HALF_VALUES: u32 = 65536;
 
 const WORD_VALUES: u64 = 4294967296;
 
+// The low half of a word: the delay.
+fn low_half(word: u32) -> u16
+    ensures { λ r. ⌜ r ≡ word % 65536 ⌝ }
+{
+    (word % HALF_VALUES) as u16
+}
+
+// The high half of a word: the history's opened length.
+fn high_half(word: u32) -> u16
+    ensures { λ r. ⌜ r ≡ word / 65536 ⌝ }
+{
+    (word / HALF_VALUES) as u16
+}
+
+// The tick of a low and a high word.
+fn tick_of(low: u32, high: u32) -> u64
+    ensures { λ r. ⌜ r ≡ low + 4294967296 * high ⌝ }
+{
+    low as u64 + WORD_VALUES * high as u64
+}
+
 // The rule of the record at a place; one of no rule past the end.
 pub fn rule_at(records: &[[u32; RECORD_WORDS]], index: usize) -> Running
     ensures { λ r. ⌜ r ≡ getD (rules-in (now (records .entry))) index no-rule ⌝ }
@@ -24,10 +46,10 @@ pub fn rule_at(records: &[[u32; RECORD_WORDS]], index: usize) -> Running
             size: words[1],
             first: words[2],
             cells: words[3],
-            delay: (words[4] % HALF_VALUES) as u16,
-            opened: (words[4] / HALF_VALUES) as u16,
+            delay: low_half(words[4]),
+            opened: high_half(words[4]),
             live: words[5],
-            next: words[6] as u64 + WORD_VALUES * words[7] as u64,
+            next: tick_of(words[6], words[7]),
         };
     }
     Running {

@@ -8,7 +8,7 @@ use native.Mathlib.Nat.{sub-zero, zero-min, min-zero, suc-min-suc}
 use lib.Dec.{leb, eqb}
 use lib.ListN.{length, getD, take, drop}
 use lib.Seq.{take-suc, drop-cons}
-use borrow.Author.Tests.{le-leb, lt-leb, eq-eqb, ne-eqb}
+use borrow.Author.Tests.{le-leb, lt-leb}
 use Rattle.refusal.specs.Answer.{Answer, refused, accepted, and-then}
 use Rattle.sheet.specs.Sheet.{rule-count}
 use Rattle.rule.specs.declared.Figures.{Figures}
@@ -141,13 +141,13 @@ module _ (fs : List Figures) (sums : Sums) (are : SumsAre fs sums) (n L t histor
           enough-words : leb (2 * all-delays fs) report ≡ true
           enough-words = le-leb (2 * all-delays fs) report (rw (are .pairs-are) at h₃)
 
-          pub fit-20 : t ≡ 4294967295 → refused 20 ≡ judged
+          pub fit-20 : 4611686018427387904 ≤ t → refused 20 ≡ judged
           unfolding fit-set must and-then
-          fit-20 h = rw (e, enough-cells, le-leb n records h₂, enough-words, eq-eqb t 4294967295 h)
+          fit-20 h = rw (e, enough-cells, le-leb n records h₂, enough-words, le-leb 4611686018427387904 t h)
 
-          pub fit-all : (t ≡ 4294967295 → ⊥) → accepted (sums .pairs) ≡ judged
+          pub fit-all : t < 4611686018427387904 → accepted (sums .pairs) ≡ judged
           unfolding fit-set must and-then
-          fit-all h = rw (e, enough-cells, le-leb n records h₂, enough-words, ne-eqb t 4294967295 h) (ap accepted (are .pairs-are))
+          fit-all h = rw (e, enough-cells, le-leb n records h₂, enough-words, lt-leb 4611686018427387904 t h) (ap accepted (are .pairs-are))
 
 -- ---- 21 before them, by n rules and the first of m records
 

@@ -147,7 +147,7 @@ module _ (ys : List Running) where
       (must (none || eqb history L) 17
       (must (leb (4 * all-cells (map (needs sheet) rules)) cells && enough) 18
       (must (leb (2 * all-delays (map (needs sheet) rules)) report) 19
-      (must (not (eqb t 4294967295)) 20 (accepted (map (needs sheet) rules)))))))
+      (must (not (leb 4611686018427387904 t)) 20 (accepted (map (needs sheet) rules)))))))
 
   admit-records-cut : (sheet : List ℕ) (history cells report : ℕ) → admit-records sheet (take 32 ys) history cells report ≡ admit-records sheet ys history cells report
   unfolding admit-records fit-set must Looked

@@ -20,7 +20,7 @@ use Rattle.set_stepping.specs.Answers.{set-taken}
 use Rattle.set_stepping.specs.Moves.{RuleFit, RuleMoved, NextFit, SetMoved, stored-byte}
 
 -- A step of one rule with its own figures is admitted.
-own-admits : (bytes : List ℕ) (L t history cells report : ℕ) (figures : Figures) → L ≤ 4096 → t < 4294967295 → body-figures bytes ≡ accepted figures → figures .history ≤ L
+own-admits : (bytes : List ℕ) (L t history cells report : ℕ) (figures : Figures) → L ≤ 4096 → t < 4611686018427387904 → body-figures bytes ≡ accepted figures → figures .history ≤ L
     → history ≡ L → 4 * figures .cells ≤ cells → figures .delay + 1 ≤ report → admit-lengths bytes L t history cells report ≡ accepted figures
 own-admits bytes L t history cells report figures high timely opens low same room words =
     let x = formula-of bytes figures opens in
@@ -34,8 +34,7 @@ own-admits bytes L t history cells report figures high timely opens low same roo
       history-fits = same;
       cells-fit = room;
       report-fits = words;
-      tick-low = omega arith;
-      tick-left = λ e. omega arith;
+      tick-left = timely;
     })
 
 module _ (sheet : List ℕ) (records₀ : List Running) (history : List ℕ) (flag : ℕ) (cells₀ report₀ : List ℕ) where
@@ -87,20 +86,19 @@ module _ (sheet : List ℕ) (records₀ : List Running) (history : List ℕ) (fl
           let e : rule .delay ≡ (getD records₀ index no-rule) .delay = ap (λ (r : Running). r .delay) same-rule in
           omega (arith, e, turn-pairs Stands sheet figures flag history cells₀ report₀ records₀ known u more, few-pairs)
 
-      pub rule-fits : rule .next < 4294967296 → (words : ℕ) → words ≡ length report - 2 * pairs → RuleFit sheet rule (length history) (length cells) words
-      rule-fits word words size =
+      pub rule-fits : (words : ℕ) → words ≡ length report - 2 * pairs → RuleFit sheet rule (length history) (length cells) words
+      rule-fits words size =
           let p = placed in
           let e : rule .delay ≡ (getD records₀ index no-rule) .delay = ap (λ (r : Running). r .delay) same-rule in
           let a : rule .first ≡ (getD records₀ index no-rule) .first = ap (λ (r : Running). r .first) same-rule in
           let b : rule .cells ≡ (getD records₀ index no-rule) .cells = ap (λ (r : Running). r .cells) same-rule in
-          let left = known .tick-left in
           record {
             inside = p .inside;
             cells-are = p .cells-are;
             delay-is = p .delay-is;
             admitted =
                 own-admits (body-at sheet rule) (rule .opened) (rule .next) (length history) (4 * rule .cells) (rule .delay + 1) (needs sheet rule)
-                (omega (arith, p .opened-is, known .opened-high)) (omega (arith, p .next-is)) (p .opens) (p .history-fits) (known .history-fits ∙ sym (p .opened-is))
+                (omega (arith, p .opened-is, known .opened-high)) (omega (arith, p .next-is, known .tick-left)) (p .opens) (p .history-fits) (known .history-fits ∙ sym (p .opened-is))
                 (omega (arith, p .cells-are)) (omega (arith, p .delay-is));
             cells-fit = omega (arith, a, b, turn-fits Stands sheet figures flag history cells₀ report₀ records₀ known u more);
             report-fits = omega (arith, e, turn-room Stands sheet figures flag history cells₀ report₀ records₀ known u more);
@@ -109,11 +107,8 @@ module _ (sheet : List ℕ) (records₀ : List Running) (history : List ℕ) (fl
 
       module _ (part : List ℕ) (part-is : part ≡ drop (2 * pairs) report) (reported live′ : ℕ) (cells′ part′ : List ℕ)
           (moved : RuleMoved sheet rule index history flag cells part reported live′ cells′ part′) where
-        pub next-fits : rule .next < 4294967296 → NextFit rule live′
-        next-fits word =
-            let p = placed in
-            let left = known .tick-left in
-            record { timely = omega (arith, p .next-is); few = omega (arith, moved .few-live, delay-few) }
+        pub next-fits : NextFit rule live′
+        next-fits = record { timely = omega (arith, placed .next-is, known .tick-left); few = omega (arith, moved .few-live, delay-few) }
 
         pub sums-few : (reported ≤ 4096) × (live′ ≤ 4096)
         sums-few = (omega (arith, moved .few, delay-few), omega (arith, moved .few-live, delay-few))

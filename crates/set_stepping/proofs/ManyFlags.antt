@@ -1,7 +1,7 @@
 -- Many flags of a set: the invariant of the loop that takes them, a link of the chain at each turn, and that it ends in what the batch promises.
 use Prim.Native.Nat.{ℕ, zero, suc, _+_, _*_, _-_, _≤_, _<_, min}
 use mathlib.Core.Path.{_≡_, refl, sym, ap, subst, _∙_}
-use mathlib.Core.Logic.{_⊎_, inl, inr, _≢_}
+use mathlib.Core.Logic.{_⊎_, inl, inr}
 use mathlib.Core.List.{List, [], _∷_, _++_, append-assoc}
 use native.Mathlib.Nat.{add-zero}
 use native.Mathlib.Omega.{arith}
@@ -30,7 +30,7 @@ module _ (sheet : List ℕ) (records₀ : List Running) (flags history₀ cells�
   -- So far: so many flags are taken, and their triples stand at the front of the report.
   pub record Under (records : List Running) (history cells report : List ℕ) (taken triples live : ℕ) : Type 0 where
     pub some : taken ≤ length flags
-    pub early : next-tick records₀ + taken ≤ 4294967295
+    pub early : next-tick records₀ + taken ≤ 4611686018427387904
     pub inside : 3 * triples ≤ length report₀
     pub report-length : length report ≡ length report₀
     pub history-length : length history ≡ length history₀
@@ -38,7 +38,7 @@ module _ (sheet : List ℕ) (records₀ : List Running) (flags history₀ cells�
     pub rest : drop (3 * triples) report ≡ drop (3 * triples) report₀
     pub live-is : live ≡ all-live (running-rules sheet records)
     pub next : next-tick records ≡ next-tick records₀ + taken
-    pub known : next-tick records ≢ 4294967295 → SetAdmitted sheet records (length history) (length cells) 8192 figures
+    pub known : next-tick records < 4611686018427387904 → SetAdmitted sheet records (length history) (length cells) 8192 figures
     pub chain : SetChain Stands (all-delays figures) sheet flags report₀ records₀ history₀ cells₀ taken records history cells (take (3 * triples) report)
 
   module _ (admitted : admit-records sheet records₀ (length history₀) (length cells₀) 8192 ≡ accepted figures) where
@@ -48,11 +48,11 @@ module _ (sheet : List ℕ) (records₀ : List Running) (flags history₀ cells�
     pub few : all-delays figures ≤ 4096
     few = few-delays first-known
 
-    pub under-start : (live : ℕ) → next-tick records₀ < 4294967296 → live ≡ all-live (running-rules sheet records₀) → Under records₀ history₀ cells₀ report₀ 0 0 live
-    under-start live word live-is =
+    pub under-start : (live : ℕ) → live ≡ all-live (running-rules sheet records₀) → Under records₀ history₀ cells₀ report₀ 0 0 live
+    under-start live live-is =
         record {
           some = omega arith;
-          early = omega arith;
+          early = omega (arith, first-known .tick-left);
           inside = omega arith;
           report-length = refl;
           history-length = refl;
@@ -70,9 +70,9 @@ module _ (sheet : List ℕ) (records₀ : List Running) (flags history₀ cells�
 
     -- A batch that ends here.
     abbrev Over : Type 0
-    Over = (length flags ≤ taken) ⊎ ((length report₀ < 3 * triples + 3 * all-delays figures) ⊎ (next-tick records ≡ 4294967295))
+    Over = (length flags ≤ taken) ⊎ ((length report₀ < 3 * triples + 3 * all-delays figures) ⊎ (next-tick records ≡ 4611686018427387904))
 
-    over-as : (k : ℕ) → k ≡ 3 * triples → Over → (length flags ≤ taken) ⊎ ((length report₀ < k + 3 * all-delays figures) ⊎ (next-tick records ≡ 4294967295))
+    over-as : (k : ℕ) → k ≡ 3 * triples → Over → (length flags ≤ taken) ⊎ ((length report₀ < k + 3 * all-delays figures) ⊎ (next-tick records ≡ 4611686018427387904))
     over-as k e (inl o) = inl o
     over-as k e (inr (inl o)) = inr (inl (omega arith))
     over-as k e (inr (inr o)) = inr (inr o)
@@ -101,7 +101,7 @@ module _ (sheet : List ℕ) (records₀ : List Running) (flags history₀ cells�
     pub ends-full : length report₀ < 3 * triples + 3 * all-delays figures → Taken
     ends-full h = ends (inr (inl h))
 
-    pub ends-all : (n : ℕ) → n ≡ min (length flags) (4294967295 - next-tick records₀) → n ≤ taken → Taken
+    pub ends-all : (n : ℕ) → n ≡ min (length flags) (4611686018427387904 - next-tick records₀) → n ≤ taken → Taken
     ends-all n e h = ends (go (by-order (length flags) taken))
       where
         go : (length flags ≤ taken) ⊎ (taken < length flags) → Over
@@ -109,10 +109,10 @@ module _ (sheet : List ℕ) (records₀ : List Running) (flags history₀ cells�
         go (inr a) = inr (inr (omega (arith, u .early, u .next)))
 
     -- One flag more.
-    module _ (room : 3 * triples + 3 * all-delays figures ≤ length report₀) (below : taken < length flags) (timely : next-tick records₀ + taken < 4294967295)
+    module _ (room : 3 * triples + 3 * all-delays figures ≤ length report₀) (below : taken < length flags) (timely : next-tick records₀ + taken < 4611686018427387904)
         (few : all-delays figures ≤ 4096) (part : List ℕ) (part-is : part ≡ drop (3 * triples) report) where
-      left : next-tick records ≢ 4294967295
-      left e = let n = u .next in omega arith
+      left : next-tick records < 4611686018427387904
+      left = omega (arith, u .next)
 
       part-whole : part ≡ drop (3 * triples) report₀
       part-whole = part-is ∙ u .rest
@@ -215,7 +215,7 @@ module _ (sheet : List ℕ) (records₀ : List Running) (flags history₀ cells�
                 next = omega (arith, next, tick);
                 known = λ more-left.
                     subst (λ (H : ℕ). SetAdmitted sheet records′ H (length cells′) 8192 figures) (sym history-kept)
-                    (subst (λ (C : ℕ). SetAdmitted sheet records′ (length history) C 8192 figures) (sym cells-kept) (still (λ e. more-left (next ∙ e)) 8192 (omega arith)));
+                    (subst (λ (C : ℕ). SetAdmitted sheet records′ (length history) C 8192 figures) (sym cells-kept) (still (omega (arith, next, more-left)) 8192 (omega arith)));
                 chain =
                     subst (λ (l : List ℕ). SetChain Stands (all-delays figures) sheet flags report₀ records₀ history₀ cells₀ (suc taken) records′ history′ cells′ l) (sym front) linked;
               }

@@ -1,7 +1,6 @@
 -- After a step the records are still those of running rules: the next step of the set is admitted too, while tick numbers last.
 use Prim.Native.Nat.{ℕ, suc, _+_, _*_, _≤_, _<_}
 use mathlib.Core.Path.{_≡_, refl, sym, ap, subst, _∙_}
-use mathlib.Core.Logic.{_≢_}
 use mathlib.Core.Bool.{true}
 use mathlib.Core.List.{List, [], _∷_, _++_, map}
 use native.Mathlib.Nat.{zero-add}
@@ -9,7 +8,7 @@ use native.Mathlib.Omega.{arith}
 use lib.Dec.{leb, eqb}
 use lib.ListN.{length, getD, take, drop, length-map, length-append, length-drop, List·getD-map, List·getD-append}
 use lib.Seq.{take-at, getD-take, length-take-le, ext-getD}
-use borrow.Author.Tests.{le-leb, eq-eqb, ne-eqb}
+use borrow.Author.Tests.{le-leb, lt-leb, eq-eqb, ne-eqb}
 use Rattle.refusal.specs.Answer.{accepted}
 use Rattle.sheet.specs.Sheet.{rule-count}
 use Rattle.rule.specs.declared.Figures.{Figures}
@@ -39,7 +38,7 @@ admits sheet records history cells report figures known words enough =
       le-leb (4 * all-cells figures) cells (known .cells-fit),
       le-leb n (length records) (known .records-fit),
       le-leb (2 * all-delays figures) words enough,
-      ne-eqb (next-tick records) 4294967295 (known .tick-left),
+      lt-leb 4611686018427387904 (next-tick records) (known .tick-left),
     )
 
 module _ (Stands : Invariant) (made : SetStep) (figures : List Figures) (taken : SetTaken) (history cells report : ℕ)
@@ -111,7 +110,7 @@ module _ (Stands : Invariant) (made : SetStep) (figures : List Figures) (taken :
       (placed-next live (rule-placed known i below)))
 
   -- So it is admitted whatever report of at least so many words the next step is lent.
-  pub next-known : suc (next-tick (made .records)) ≢ 4294967295 → (words : ℕ) → 2 * all-delays figures ≤ words → SetAdmitted sheet (made .records′) history cells words figures
+  pub next-known : suc (next-tick (made .records)) < 4611686018427387904 → (words : ℕ) → 2 * all-delays figures ≤ words → SetAdmitted sheet (made .records′) history cells words figures
   next-known left words enough =
       record {
         least = known .least;
@@ -126,5 +125,5 @@ module _ (Stands : Invariant) (made : SetStep) (figures : List Figures) (taken :
         cells-fit = known .cells-fit;
         records-fit = omega (arith, records-long, known .records-fit);
         report-fits = enough;
-        tick-left = λ e. left (sym next-is ∙ e);
+        tick-left = omega (arith, next-is);
       }

@@ -59,7 +59,7 @@ stored-byte records history flag = set history (next-tick records % opened-lengt
 
 -- The next tick and the live count fit their words.
 pub record NextFit (rule : Running) (live : ℕ) : Type 0 where
-  pub timely : rule .next < 4294967295
+  pub timely : rule .next < 4611686018427387904
   pub few : live ≤ 4096
 
 -- The counts of a rule's step; none where it was refused.

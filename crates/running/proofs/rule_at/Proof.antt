@@ -1,11 +1,15 @@
 -- `running::rule_at` meets its contract. Assumes nothing.
 use mathlib.Core.Path.{sym, ap, _∙_}
 use mathlib.Core.List.{[]}
-use lib.ListN.{List·getD-map, List·getD-eq-default}
+use lib.ListN.{getD, List·getD-map, List·getD-eq-default}
 use Rattle.running.specs.Records.{rule-in}
+use Rattle.running.proofs.Fields.{reads-so}
 use borrow.Author.Needs.{needs}
 use Rattle.running.proofs.rule_at.Statement.{statement}
 use Rattle.running.proofs.rule_at.Tie as tie
+use Rattle.running.proofs.high_half.Reads as high-half-reads
+use Rattle.running.proofs.low_half.Reads as low-half-reads
+use Rattle.running.proofs.tick_of.Reads as tick-of-reads
 
 mul-words : tie.Need-mul-words
 mul-words c = search needs
@@ -25,20 +29,36 @@ array-read-t17 c = search needs
 array-read-t20 : tie.Need-array-read-t20
 array-read-t20 c = search needs
 
-array-read-t23 : tie.Need-array-read-t23
-array-read-t23 c = search needs
+array-read-low-half : tie.Need-array-read-low-half
+array-read-low-half c = search needs
 
-array-read-t26 : tie.Need-array-read-t26
-array-read-t26 c = search needs
+low-half-requires : tie.Need-low-half-requires
+low-half-requires c κs = search needs
 
-array-read-t29 : tie.Need-array-read-t29
-array-read-t29 c = search needs
+array-read-high-half : tie.Need-array-read-high-half
+array-read-high-half c = search needs
 
-array-read-t32 : tie.Need-array-read-t32
-array-read-t32 c = search needs
+high-half-requires : tie.Need-high-half-requires
+high-half-requires c κs = search needs
+
+array-read-t31 : tie.Need-array-read-t31
+array-read-t31 c = search needs
+
+array-read-tick-of : tie.Need-array-read-tick-of
+array-read-tick-of c = search needs
+
+array-read-tick-of-2 : tie.Need-array-read-tick-of-2
+array-read-tick-of-2 c = search needs
+
+tick-of-requires : tie.Need-tick-of-requires
+tick-of-requires c κs = search needs
 
 returns : tie.Need-returns
-returns c = sym (List·getD-map rule-in (c .before .before .args .records .now) (c .before .before .args .index) [])
+returns c =
+    let s₀ = c .before .before .before .before .before in
+    let records = s₀ .args .records .now in
+    let words = getD records (s₀ .args .index) [] in
+    reads-so words _ _ _ (c .before .before .low-half .ensures) (c .before .high-half .ensures) (c .tick-of .ensures) ∙ sym (List·getD-map rule-in records (s₀ .args .index) [])
 
 returns-2 : tie.Need-returns-2
 returns-2 c =
@@ -56,9 +76,13 @@ rule-at-spec =
     array-read-t14
     array-read-t17
     array-read-t20
-    array-read-t23
-    array-read-t26
-    array-read-t29
-    array-read-t32
+    array-read-low-half
+    low-half-requires
+    array-read-high-half
+    high-half-requires
+    array-read-t31
+    array-read-tick-of
+    array-read-tick-of-2
+    tick-of-requires
     returns
     returns-2)

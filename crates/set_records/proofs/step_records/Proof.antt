@@ -25,7 +25,7 @@ use sound.WpLaws.{FmC, fmOf, WpFn-mono}
 use denote.RattleType.{owns}
 use denote.Laws.{Is, shows}
 use denote.Plain.{Nothing, nothing-lawful, uint-vals, uint-tells, uint-makes}
-use denote.Builtin.{u8, u32}
+use denote.Builtin.{u8, u32, u64}
 use denote.Ref.{RefT}
 use denote.Signature.{plain}
 use denote.Slice.{sliceVal, MutSlice, ShrSlice, Room, finally, slice-vals, mut-slice-tells, shr-slice-tells, shr-slice-copy}
@@ -77,7 +77,7 @@ use Rattle.set_records.proofs.step_records.Statement as stated
 use Rattle.set_records.proofs.step_records.Code as code
 
 abbrev stayed : Stays (F.ended .signature .params) (F.ended .kept)
-stayed = (stay-none-slice (0 ∷ []) tt (plain (λ _. u8)) yes, (gave-slice (1 ∷ []) tt (plain (λ _. T.the-row)), (stay-none (λ _. u8) yes, (gave-slice (2 ∷ []) tt (plain (λ _. u8)), (gave-slice (3 ∷ []) tt (plain (λ _. u32)), (gave-slice (4 ∷ []) tt (plain (λ _. u32)), tt))))))
+stayed = (stay-none-slice (0 ∷ []) tt (plain (λ _. u8)) yes, (gave-slice (1 ∷ []) tt (plain (λ _. T.the-row)), (stay-none (λ _. u8) yes, (gave-slice (2 ∷ []) tt (plain (λ _. u8)), (gave-slice (3 ∷ []) tt (plain (λ _. u32)), (gave-slice (4 ∷ []) tt (plain (λ _. u64)), tt))))))
 
 -- the machine values of what the by-value function answers and of the answer in it; and that answer and set are such
 abbrev mach-result : SteppedSet → Val
@@ -108,7 +108,7 @@ module _ {M : Type 1} (𝓤 : URA M) (H : Heap 𝓤) (A : Atoms 𝓤) (mem : Mem
 
 module _ {M : Type 1} (𝓤 : URA M) (H : Heap 𝓤) (A : Atoms 𝓤) (W : Given 𝓤 H A) (mem : Memory → SProp 𝓤) (run : Routine → Fun 𝓤) (κ₀ κ₁ κ₂ κ₃ κ₄ : Lft) (q₀ q₁ q₂ q₃ q₄ : Share)
     (b₀ o₀ : ℕ) (γ₀ : GName) (sh : List ℕ) (b₁ o₁ : ℕ) (γ₁ : GName) (ys : List Running) (flag : ℕ) (b₂ o₂ : ℕ) (γ₂ : GName) (hs : List ℕ) (b₃ o₃ : ℕ) (γ₃ : GName) (cs : List ℕ) (b₄ o₄ : ℕ) (γ₄ : GName) (ws : List ℕ)
-    (room₀ : Room u8 (length sh)) (room₁ : Room T.the-row (length ys)) (gf : flag < 2 ^ 8) (room₂ : Room u8 (length hs)) (room₃ : Room u32 (length cs)) (room₄ : Room u32 (length ws)) where
+    (room₀ : Room u8 (length sh)) (room₁ : Room T.the-row (length ys)) (gf : flag < 2 ^ 8) (room₂ : Room u8 (length hs)) (room₃ : Room u32 (length cs)) (room₄ : Room u64 (length ws)) where
   abbrev x₀ : RefT (List ℕ)
   x₀ = record { ptr = (b₀, o₀); name = γ₀; now = sh }
 
@@ -152,7 +152,7 @@ module _ {M : Type 1} (𝓤 : URA M) (H : Heap 𝓤) (A : Atoms 𝓤) (W : Given
   v₄ = sliceVal (b₄, o₄) (length ws)
 
   abbrev Own₄ : Fml
-  Own₄ = MutSlice (named 4) κ₄ u32 .own x₄ (v₄ ∷ [])
+  Own₄ = MutSlice (named 4) κ₄ u64 .own x₄ (v₄ ∷ [])
 
   abbrev at : Vals F.signature (κ₀, (κ₁, (κ₂, (κ₃, (κ₄, tt)))))
   at = (v₀ ∷ [], (v₁ ∷ [], (vint w8 flag ∷ [], (v₂ ∷ [], (v₃ ∷ [], (v₄ ∷ [], tt))))))
@@ -206,9 +206,9 @@ module _ {M : Type 1} (𝓤 : URA M) (H : Heap 𝓤) (A : Atoms 𝓤) (W : Given
       move ! (1 ∷ 0 ∷ []) $ join ! $ frame ! $ done !
 
   exits : (a : SetStepAnswer) (zs : List Running) (hs′ cs′ ws′ : List ℕ) → Is E.the-row a (mach-answer a ∷ []) → length zs ≡ length ys → length hs′ ≡ length hs → length cs′ ≡ length cs → length ws′ ≡ length ws → Said a zs hs′ cs′ ws′
-      → ent 𝓤 (⋆ 𝓤 H A ((‵ (flft κ₁ q₁) ⊛ ‵ ftrue) ∷ (‵ (flft κ₀ q₀) ⊛ ‵ (flft κ₂ q₂) ⊛ ‵ (flft κ₃ q₃) ⊛ ‵ (flft κ₄ q₄) ⊛ ‵ ftrue) ∷ ‵ (finally T.the-row γ₁ zs) ∷ ‵ (finally u8 γ₂ hs′) ∷ ‵ (finally u32 γ₃ cs′) ∷ ‵ (finally u32 γ₄ ws′) ∷ ‵ Own₀ ∷ [])) (Post (mach-answer a))
+      → ent 𝓤 (⋆ 𝓤 H A ((‵ (flft κ₁ q₁) ⊛ ‵ ftrue) ∷ (‵ (flft κ₀ q₀) ⊛ ‵ (flft κ₂ q₂) ⊛ ‵ (flft κ₃ q₃) ⊛ ‵ (flft κ₄ q₄) ⊛ ‵ ftrue) ∷ ‵ (finally T.the-row γ₁ zs) ∷ ‵ (finally u8 γ₂ hs′) ∷ ‵ (finally u32 γ₃ cs′) ∷ ‵ (finally u64 γ₄ ws′) ∷ ‵ Own₀ ∷ [])) (Post (mach-answer a))
   exits a zs hs′ cs′ ws′ ia l₁ l₂ l₃ l₄ said =
-      qed W ((‵ (flft κ₁ q₁) ⊛ ‵ ftrue) ∷ (‵ (flft κ₀ q₀) ⊛ ‵ (flft κ₂ q₂) ⊛ ‵ (flft κ₃ q₃) ⊛ ‵ (flft κ₄ q₄) ⊛ ‵ ftrue) ∷ ‵ (finally T.the-row γ₁ zs) ∷ ‵ (finally u8 γ₂ hs′) ∷ ‵ (finally u32 γ₃ cs′) ∷ ‵ (finally u32 γ₄ ws′) ∷ ‵ Own₀ ∷ []) ∵
+      qed W ((‵ (flft κ₁ q₁) ⊛ ‵ ftrue) ∷ (‵ (flft κ₀ q₀) ⊛ ‵ (flft κ₂ q₂) ⊛ ‵ (flft κ₃ q₃) ⊛ ‵ (flft κ₄ q₄) ⊛ ‵ ftrue) ∷ ‵ (finally T.the-row γ₁ zs) ∷ ‵ (finally u8 γ₂ hs′) ∷ ‵ (finally u32 γ₃ cs′) ∷ ‵ (finally u64 γ₄ ws′) ∷ ‵ Own₀ ∷ []) ∵
       suffices ! _ (ends-at 𝓤 H A F.ended stayed (F.clauses 𝓤 H A mem run) W bound (mach-answer a) a (tt, (zs, (tt, (hs′, (cs′, (ws′, tt)))))) (tt, (l₁, (tt, (l₂, (l₃, (l₄, tt))))))) $ says ! said $
       split ! $ move ! (2 ∷ []) $ split ! $ move ! (2 ∷ 1 ∷ []) $ join ! $ move ! (1 ∷ 0 ∷ []) $ join ! $ frame ! $ move ! (4 ∷ 0 ∷ []) $ fjoin ! $ move ! (3 ∷ 0 ∷ []) $ fjoin ! $ move ! (2 ∷ 0 ∷ []) $ fjoin ! $ owned ! u8 (Is u8) (uint-makes 𝓤 H A W w8) flag _ (refl, gf) $ fjoin ! $ move ! (1 ∷ 0 ∷ []) $ fjoin ! $ move ! (1 ∷ 0 ∷ []) $ fjoin ! $ frame ! $
       owned ! E.the-row (Is E.the-row) ((EL.makes E.the-type E′.the-plain) 𝓤 H A) a _ ia $ done !
@@ -216,7 +216,7 @@ module _ {M : Type 1} (𝓤 : URA M) (H : Heap 𝓤) (A : Atoms 𝓤) (W : Given
   module _ (C : Calls 𝓤 H) (Λ : Loops 𝓤 H) (fm : FmC 𝓤 H (W .laws) C) (known-loads : Triple 𝓤 (C #loads) (Loads 𝓤 H A mem run)) (known-core : Triple 𝓤 (C #core) (Core 𝓤 H A mem run)) (known-saves : Triple 𝓤 (C #saves) (Saves 𝓤 H A mem run)) where
     walk : ent 𝓤 (onEntry 𝓤 H A F.signature (κ₀, (κ₁, (κ₂, (κ₃, (κ₄, tt))))) (q₀, (q₁, (q₂, (q₃, (q₄, tt))))) (x₀, (x₁ γ₁, (flag, (x₂, (x₃, (x₄, tt)))))) at) (WpFn 𝓤 H C Λ code.function (v₀ ∷ v₁ ∷ vint w8 flag ∷ v₂ ∷ v₃ ∷ v₄ ∷ []) Post)
     walk =
-        qed W ((‵ (flft κ₀ q₀) ⊛ ‵ (flft κ₁ q₁) ⊛ ‵ (flft κ₂ q₂) ⊛ ‵ (flft κ₃ q₃) ⊛ ‵ (flft κ₄ q₄) ⊛ ‵ ftrue) ∷ ‵ (owns (ShrSlice (named 0) κ₀ u8 ∷ MutSlice (named 1) κ₁ T.the-row ∷ u8 ∷ MutSlice (named 2) κ₂ u8 ∷ MutSlice (named 3) κ₃ u32 ∷ MutSlice (named 4) κ₄ u32 ∷ []) (x₀, (x₁ γ₁, (flag, (x₂, (x₃, (x₄, tt)))))) at) ∷ []) ∵ enter ! C Λ code.function (v₀ ∷ v₁ ∷ vint w8 flag ∷ v₂ ∷ v₃ ∷ v₄ ∷ []) _ $
+        qed W ((‵ (flft κ₀ q₀) ⊛ ‵ (flft κ₁ q₁) ⊛ ‵ (flft κ₂ q₂) ⊛ ‵ (flft κ₃ q₃) ⊛ ‵ (flft κ₄ q₄) ⊛ ‵ ftrue) ∷ ‵ (owns (ShrSlice (named 0) κ₀ u8 ∷ MutSlice (named 1) κ₁ T.the-row ∷ u8 ∷ MutSlice (named 2) κ₂ u8 ∷ MutSlice (named 3) κ₃ u32 ∷ MutSlice (named 4) κ₄ u64 ∷ []) (x₀, (x₁ γ₁, (flag, (x₂, (x₃, (x₄, tt)))))) at) ∷ []) ∵ enter ! C Λ code.function (v₀ ∷ v₁ ∷ vint w8 flag ∷ v₂ ∷ v₃ ∷ v₄ ∷ []) _ $
         alloc1 ! (λ l₀. alloc1 ! (λ l₁. alloc1 ! (λ l₂. alloc1 ! (λ l₃. alloc1 ! (λ l₄. alloc1 ! (λ l₅. alloc1 ! (λ l₆. alloc1 ! (λ l₇. alloc1 ! (λ l₈. alloc1 ! (λ l₉. alloc1 ! (λ l₁₀. alloc1 ! (λ l₁₁. alloc1 ! (λ l₁₂. alloc1 ! (λ l₁₃. alloc1 ! (λ l₁₄. alloc1 ! (λ l₁₅. alloc1 ! (λ l₁₆. alloc1 ! (λ l₁₇. alloc1 ! (λ l₁₈. alloc1 ! (λ l₁₉. alloc0 ! $ params1 ! $
         pass1 ! (init ! 36 refl (tt, (tt, (record { fits = room₀ .0 }, tt)))) $ pass1 ! (init ! 34 refl (tt, (tt, (record { fits = room₁ .0 }, tt)))) $ pass1 ! (init ! 32 refl (tt, record { fits = gf })) $ pass1 ! (init ! 30 refl (tt, (tt, (record { fits = room₂ .0 }, tt)))) $ pass1 ! (init ! 28 refl (tt, (tt, (record { fits = room₃ .0 }, tt)))) $ pass1 ! (init ! 26 refl (tt, (tt, (record { fits = room₄ .0 }, tt)))) $ pass0 ! $
         move ! (40 ∷ 41 ∷ []) $ split ! $ move ! (1 ∷ []) $ split ! $ move ! (1 ∷ []) $ split ! $ move ! (1 ∷ []) $ split ! $ move ! (1 ∷ []) $ split ! $ move ! (6 ∷ []) $ fsplit ! $ move ! (1 ∷ []) $ fsplit ! $ move ! (1 ∷ []) $ fsplit ! $ move ! (1 ∷ []) $ fsplit ! $ move ! (1 ∷ []) $ fsplit ! $ move ! (1 ∷ []) $ fsplit ! $ keep ! (11 ∷ 5 ∷ 12 ∷ 10 ∷ 9 ∷ 7 ∷ 6 ∷ 3 ∷ 2 ∷ 0 ∷ 13 ∷ 14 ∷ 15 ∷ 16 ∷ 17 ∷ 18 ∷ 19 ∷ 20 ∷ 21 ∷ 22 ∷ 23 ∷ 24 ∷ 25 ∷ 26 ∷ 27 ∷ 28 ∷ 29 ∷ 30 ∷ 31 ∷ 32 ∷ 33 ∷ 34 ∷ 35 ∷ 36 ∷ 37 ∷ 38 ∷ 39 ∷ 40 ∷ 41 ∷ 42 ∷ 43 ∷ 44 ∷ 45 ∷ 46 ∷ 47 ∷ 48 ∷ 49 ∷ 50 ∷ 51 ∷ 52 ∷ []) $ move ! (6 ∷ []) $ use1 W (‵ Own₀ ⊛ ‵ Own₀) (shr-slice-copy 𝓤 H A W (named 0) κ₀ u8 .twice x₀ (v₀ ∷ [])) $ split ! $ move ! (2 ∷ 3 ∷ []) $
@@ -269,14 +269,14 @@ module _ {M : Type 1} (𝓤 : URA M) (H : Heap 𝓤) (A : Atoms 𝓤) (W : Given
     (known-loads : Triple 𝓤 (𝓣 .C #loads) (Loads 𝓤 H A mem run)) (known-core : Triple 𝓤 (𝓣 .C #core) (Core 𝓤 H A mem run)) (known-saves : Triple 𝓤 (𝓣 .C #saves) (Saves 𝓤 H A mem run)) where
   walks : Walks 𝓤 H A F.ended stayed (WpFn 𝓤 H (𝓣 .C) (𝓣 .Λ) code.function) (F.clauses 𝓤 H A mem run)
   walks = walked 𝓤 H A F.ended stayed (F.clauses 𝓤 H A mem run) (WpFn 𝓤 H (𝓣 .C) (𝓣 .Λ) code.function) (λ κs. (slice-vals, (slice-vals, (uint-vals w8, (slice-vals, (slice-vals, (slice-vals, tt)))))))
-      (λ κs. (shr-slice-tells (named 0) (κs .0) u8, (mut-slice-tells (named 1) (κs .1 .0) T.the-row, (uint-tells w8, (mut-slice-tells (named 2) (κs .1 .1 .0) u8, (mut-slice-tells (named 3) (κs .1 .1 .1 .0) u32, (mut-slice-tells (named 4) (κs .1 .1 .1 .1 .0) u32, tt)))))))
+      (λ κs. (shr-slice-tells (named 0) (κs .0) u8, (mut-slice-tells (named 1) (κs .1 .0) T.the-row, (uint-tells w8, (mut-slice-tells (named 2) (κs .1 .1 .0) u8, (mut-slice-tells (named 3) (κs .1 .1 .1 .0) u32, (mut-slice-tells (named 4) (κs .1 .1 .1 .1 .0) u64, tt)))))))
       (λ κs qs bounds a g are. via 𝓤 _ (fst∗ 𝓤 _ (emp 𝓤)) (walk 𝓤 H A W mem run (κs .0) (κs .1 .0) (κs .1 .1 .0) (κs .1 .1 .1 .0) (κs .1 .1 .1 .1 .0) (qs .0) (qs .1 .0) (qs .1 .1 .0) (qs .1 .1 .1 .0) (qs .1 .1 .1 .1 .0)
       (a .0 .ptr .0) (a .0 .ptr .1) (a .0 .name) (a .0 .now) (a .1 .0 .ptr .0) (a .1 .0 .ptr .1) (a .1 .0 .name) (a .1 .0 .now) (a .1 .1 .0) (a .1 .1 .1 .0 .ptr .0) (a .1 .1 .1 .0 .ptr .1) (a .1 .1 .1 .0 .name) (a .1 .1 .1 .0 .now) (a .1 .1 .1 .1 .0 .ptr .0) (a .1 .1 .1 .1 .0 .ptr .1) (a .1 .1 .1 .1 .0 .name) (a .1 .1 .1 .1 .0 .now) (a .1 .1 .1 .1 .1 .0 .ptr .0) (a .1 .1 .1 .1 .1 .0 .ptr .1) (a .1 .1 .1 .1 .1 .0 .name) (a .1 .1 .1 .1 .1 .0 .now)
       (are .0 .0 .1) (are .1 .0 .0 .1) (are .1 .1 .0 .1) (are .1 .1 .1 .0 .0 .1) (are .1 .1 .1 .1 .0 .0 .1) (are .1 .1 .1 .1 .1 .0 .0 .1) (𝓣 .C) (𝓣 .Λ) (fmOf 𝓤 H (W .laws) 𝓣) known-loads known-core known-saves))
 
   meets : Meets 𝓤 H A F.signature (WpFn 𝓤 H (𝓣 .C) (𝓣 .Λ) code.function) (F.spec 𝓤 H A mem run)
   meets =
-      walk-meets 𝓤 H A F.ended stayed W (goes-none-slice 𝓤 H A W 5 (0 ∷ []) tt (plain (λ _. u8)) yes, (goes-gave-slice 𝓤 H A W 5 1 tt (plain (λ _. T.the-row)), (goes-none 𝓤 H A W 5 (λ _. u8) yes (λ κs x f. refl), (goes-gave-slice 𝓤 H A W 5 2 tt (plain (λ _. u8)), (goes-gave-slice 𝓤 H A W 5 3 tt (plain (λ _. u32)), (goes-gave-slice 𝓤 H A W 5 4 tt (plain (λ _. u32)), tt))))))
+      walk-meets 𝓤 H A F.ended stayed W (goes-none-slice 𝓤 H A W 5 (0 ∷ []) tt (plain (λ _. u8)) yes, (goes-gave-slice 𝓤 H A W 5 1 tt (plain (λ _. T.the-row)), (goes-none 𝓤 H A W 5 (λ _. u8) yes (λ κs x f. refl), (goes-gave-slice 𝓤 H A W 5 2 tt (plain (λ _. u8)), (goes-gave-slice 𝓤 H A W 5 3 tt (plain (λ _. u32)), (goes-gave-slice 𝓤 H A W 5 4 tt (plain (λ _. u64)), tt))))))
       (F.clauses 𝓤 H A mem run) (WpFn 𝓤 H (𝓣 .C) (𝓣 .Λ) code.function) (WpFn-mono 𝓤 H (W .laws) 𝓣 code.function) walks
 
 pub step-records-spec : {M : Type 1} → stated.statement M

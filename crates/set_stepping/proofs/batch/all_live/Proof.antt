@@ -30,8 +30,7 @@ cast-live c = search needs
 add-live : tie.Need-add-live Inv-loop μ-loop
 add-live c =
     let l = c .before .before .before .loop in
-    let word = c .before .rule-at .ok .1 .1 .1 .1 .1 .1 .1 .1 .1 .0 .1 in
-    omega (arith, word, l .inv .1 .0, l .inv .0, c .before .before .loop-test .taken, c .before .before .before .before .pre)
+    omega (arith, l .inv .1 .0, l .inv .0, c .before .before .loop-test .taken, c .before .before .before .before .pre)
 
 add-index : tie.Need-add-index Inv-loop μ-loop
 add-index c = omega (arith, c .before .before .loop-test .taken, c .before .before .before .before .pre)
@@ -43,12 +42,11 @@ loop-again : tie.Need-loop-again Inv-loop μ-loop
 loop-again c =
     let l = c .before .before .before .loop in
     let read = c .before .rule-at in
-    let word = read .ok .1 .1 .1 .1 .1 .1 .1 .1 .1 .0 .1 in
     let a = c .before .before .before .before .args in
     rw (add-one (l .index)) (
       omega (arith, c .before .before .loop-test .taken),
       (
-        omega (arith, word, l .inv .1 .0),
+        omega (arith, l .inv .1 .0),
         omega (arith, l .inv .1 .1, live-next (rules-in (a .records .now)) (l .index), ap (λ (r : Running). r .live) (read .ensures)),
       ),
     )

@@ -42,12 +42,9 @@ all-live-requires c κs = omega (arith, c .byte-after .ensures .1)
 loop-holds : tie.Need-loop-holds Inv-loop μ-loop
 loop-holds c =
     let a = c .before .before .before .before .before .before .before .before .before .before .before .args in
-    let lead = c .before .before .before .before .rule-at in
-    let word = lead .ok .1 .1 .1 .1 .1 .1 .1 .1 .0 .1 in
-    let next : lead .result .next ≡ next-tick (rules-in (a .records .now)) = ap (λ (r : Running). r .next) (lead .ensures) in
     let all : c .all-live .result ≡ all-live (running-rules (a .sheet .now) (rules-in (a .records .now))) =
     c .all-live .ensures ∙ ap (λ (n : ℕ). all-live (take n (rules-in (a .records .now)))) (c .before .byte-after .ensures .0) in
-    (refl, λ figures admitted. under-start (a .sheet .now) (rules-in (a .records .now)) (a .flags .now) (a .history .now) (a .cells .now) (a .report .now) figures admitted (c .all-live .result) (omega (arith, word, next)) all)
+    (refl, λ figures admitted. under-start (a .sheet .now) (rules-in (a .records .now)) (a .flags .now) (a .history .now) (a .cells .now) (a .report .now) figures admitted (c .all-live .result) all)
 
 mul-at : tie.Need-mul-at Inv-loop μ-loop
 mul-at c =
@@ -306,7 +303,7 @@ returns-2 c figures admitted =
     let next : lead .result .next ≡ next-tick (rules-in (a .records .now)) = ap (λ (r : Running). r .next) (lead .ensures) in
     let count = c .before .before .before .before .before .flags-left .ensures in
     let u = l .inv .1 figures admitted in
-    ends-all (a .sheet .now) (rules-in (a .records .now)) (a .flags .now) (a .history .now) (a .cells .now) (a .report .now) figures (rules-in (l .records)) (l .history) (l .cells) (l .report) (l .taken) (l .triples) (l .live) u (c .before .before .before .before .before .flags-left .result) (count ∙ ap (λ (t : ℕ). min (length (a .flags .now)) (4294967295 - t)) next) (omega (arith, c .loop-test .left))
+    ends-all (a .sheet .now) (rules-in (a .records .now)) (a .flags .now) (a .history .now) (a .cells .now) (a .report .now) figures (rules-in (l .records)) (l .history) (l .cells) (l .report) (l .taken) (l .triples) (l .live) u (c .before .before .before .before .before .flags-left .result) (count ∙ ap (λ (t : ℕ). min (length (a .flags .now)) (4611686018427387904 - t)) next) (omega (arith, c .loop-test .left))
 
 pub take-flags-spec : {M : Type 1} → statement M
 take-flags-spec =

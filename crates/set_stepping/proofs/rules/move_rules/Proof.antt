@@ -26,16 +26,10 @@ abbrev μ-loop : tie.MeasureT-loop
 byte-after-requires : tie.Need-byte-after-requires Inv-loop μ-loop
 byte-after-requires c κs = search needs
 
-cast-count : tie.Need-cast-count Inv-loop μ-loop
-cast-count c = search needs
-
 loop-holds : tie.Need-loop-holds Inv-loop μ-loop
 loop-holds c =
     let a = c .before .before .before .before .before .args in
     (omega arith, (refl, (refl, (refl, none-so-far (a .sheet .now) (rules-in (a .records .now)) (a .history .now) (a .flag) (a .cells .now) (a .report .now)))))
-
-cast-rule-at : tie.Need-cast-rule-at Inv-loop μ-loop
-cast-rule-at c = search needs
 
 rule-at-requires : tie.Need-rule-at-requires Inv-loop μ-loop
 rule-at-requires c κs = search needs
@@ -127,11 +121,8 @@ take-rule-requires c κs =
     let count : c .before .before .before .before .before .before .byte-after .result ≡ rule-count (a .sheet .now) = c .before .before .before .before .before .before .byte-after .ensures .0 in
     let more : l .index < rule-count (a .sheet .now) = omega (arith, count, c .before .before .before .before .loop-test .taken) in
     rule-fits (a .sheet .now) (rules-in (a .records .now)) (a .history .now) (a .flag) (a .cells .now) (a .report .now) (s₀ .pre .figures) (s₀ .pre .admitted) (l .index) (l .pairs) (l .live) (rules-in (l .records)) (l .cells) (l .report) u more
-    (c .before .before .rule-at .result) (c .before .before .rule-at .ensures) (let w = c .before .before .rule-at .ok .1 .1 .1 .1 .1 .1 .1 .1 .0 .1 in omega (arith, w)) (length (take (length (l .report) - 2 * l .pairs) (drop (2 * l .pairs) (l .report))))
+    (c .before .before .rule-at .result) (c .before .before .rule-at .ensures) (length (take (length (l .report) - 2 * l .pairs) (drop (2 * l .pairs) (l .report))))
     (ap length (take-all (length (l .report) - 2 * l .pairs) (drop (2 * l .pairs) (l .report)) (omega (arith, length-drop (2 * l .pairs) (l .report)))) ∙ length-drop (2 * l .pairs) (l .report))
-
-cast-store-rule : tie.Need-cast-store-rule Inv-loop μ-loop
-cast-store-rule c = search needs
 
 next-rule-requires : tie.Need-next-rule-requires Inv-loop μ-loop
 next-rule-requires c κs =
@@ -145,7 +136,7 @@ next-rule-requires c κs =
     next-fits (a .sheet .now) (rules-in (a .records .now)) (a .history .now) (a .flag) (a .cells .now) (a .report .now) (s₀ .pre .figures) (s₀ .pre .admitted) (l .index) (l .pairs) (l .live) (rules-in (l .records)) (l .cells) (l .report) u more
     (c .before .before .before .before .before .before .before .before .rule-at .result) (c .before .before .before .before .before .before .before .before .rule-at .ensures) (take (length (l .report) - 2 * l .pairs) (drop (2 * l .pairs) (l .report)))
     (take-all (length (l .report) - 2 * l .pairs) (drop (2 * l .pairs) (l .report)) (omega (arith, length-drop (2 * l .pairs) (l .report))))
-    (m .result .reported) (m .result .live) (m .last .1 .1 .1 .1 .1 .0) (m .last .1 .1 .1 .1 .1 .1 .0) (m .ensures) (let w = c .before .before .before .before .before .before .before .before .rule-at .ok .1 .1 .1 .1 .1 .1 .1 .1 .0 .1 in omega (arith, w))
+    (m .result .reported) (m .result .live) (m .last .1 .1 .1 .1 .1 .0) (m .last .1 .1 .1 .1 .1 .1 .0) (m .ensures)
 
 store-rule-requires : tie.Need-store-rule-requires Inv-loop μ-loop
 store-rule-requires c κs = search needs
@@ -260,9 +251,7 @@ move-rules-spec =
     Inv-loop
     μ-loop
     byte-after-requires
-    cast-count
     loop-holds
-    cast-rule-at
     rule-at-requires
     mul-at
     mul-take-rule
@@ -270,7 +259,6 @@ move-rules-spec =
     part-take-rule-start
     part-take-rule-end
     take-rule-requires
-    cast-store-rule
     next-rule-requires
     store-rule-requires
     add-pairs

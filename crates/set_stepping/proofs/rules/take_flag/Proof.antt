@@ -15,9 +15,6 @@ rule-at-requires c κs = search needs
 move-rules-requires : tie.Need-move-rules-requires
 move-rules-requires c κs = search needs
 
-cast-remember : tie.Need-cast-remember
-cast-remember c = search needs
-
 remember-requires : tie.Need-remember-requires
 remember-requires c κs = search needs
 
@@ -35,10 +32,10 @@ same-length-4 c = search needs
 
 returns : tie.Need-returns
 returns c =
-    let s₀ = c .before .before .before .before .before .before .before .before .before .before .before .before .before .before .before .before .before .before .before .before .before in
+    let s₀ = c .before .before .before .before .before .before .before .before .before .before .before .before .before .before .before .before .before .before .before .before in
     let a = s₀ .args in
-    let moved = c .before .before .before .before .before .before .before .before .before .before .move-rules in
-    let lead = c .before .before .before .before .before .before .before .before .before .before .before .before .before .before .before .rule-at in
+    let moved = c .before .before .before .before .before .before .before .before .before .move-rules in
+    let lead = c .before .before .before .before .before .before .before .before .before .before .before .before .before .before .rule-at in
     history-stored (a .sheet .now) (rules-in (a .records .now)) (a .history .now) (a .flag) (a .cells .now) (a .report .now) (lead .result) (lead .ensures) _ _ _ _ _ (c .before .before .remember .last .0) (c .before .before .remember .ensures) (moved .ensures)
 
 pub take-flag-spec : {M : Type 1} → statement M
@@ -47,7 +44,6 @@ take-flag-spec =
     (tie.spec
     rule-at-requires
     move-rules-requires
-    cast-remember
     remember-requires
     same-length
     same-length-2

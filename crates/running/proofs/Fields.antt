@@ -1,0 +1,42 @@
+-- The fields of a rule in the words of a record: two share a word, and one has two words. A rule that is stored and read again is the same.
+use Prim.Native.Nat.{ℕ, _+_, _*_, _%_, _/_, _<_}
+use native.Mathlib.Omega.{arith}
+use mathlib.Core.Path.{_≡_, refl}
+use mathlib.Core.List.{List, [], _∷_}
+use lib.ListN.{getD}
+use Rattle.demand.specs.declared.Running.{Running}
+use Rattle.running.specs.Records.{rule-in}
+
+-- What is stored.
+abbrev pub words-of : Running → List ℕ
+words-of rule = rule .start ∷ rule .size ∷ rule .first ∷ rule .cells ∷ (rule .delay + 65536 * rule .opened) ∷ rule .live ∷ (rule .next % 4294967296) ∷ (rule .next / 4294967296) ∷ []
+
+low-half : (d o : ℕ) → d < 65536 → (d + 65536 * o) % 65536 ≡ d
+low-half d o low = omega (arith, low)
+
+high-half : (d o : ℕ) → d < 65536 → (d + 65536 * o) / 65536 ≡ o
+high-half d o low = omega (arith, low)
+
+both-words : (t : ℕ) → t % 4294967296 + 4294967296 * (t / 4294967296) ≡ t
+both-words t = omega arith
+
+pub read-again : (rule : Running) → rule .delay < 65536 → rule-in (words-of rule) ≡ rule
+read-again rule low = rw (low-half (rule .delay) (rule .opened) low, high-half (rule .delay) (rule .opened) low, both-words (rule .next)) refl
+
+-- What is read, with the three fields that are not a word each.
+abbrev pub rule-with : List ℕ → ℕ → ℕ → ℕ → Running
+rule-with words delay opened next =
+    record {
+      start = getD words 0 0;
+      size = getD words 1 0;
+      first = getD words 2 0;
+      cells = getD words 3 0;
+      delay = delay;
+      opened = opened;
+      live = getD words 5 0;
+      next = next;
+    }
+
+pub reads-so : (words : List ℕ) (delay opened next : ℕ) → delay ≡ getD words 4 0 % 65536 → opened ≡ getD words 4 0 / 65536 → next ≡ getD words 6 0 + 4294967296 * getD words 7 0
+    → rule-with words delay opened next ≡ rule-in words
+reads-so words delay opened next d o n = rw (d, o, n) refl
