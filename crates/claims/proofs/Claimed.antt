@@ -24,6 +24,8 @@ use Rattle.calendar.proofs.Said as said
 use Rattle.demand.proofs.SetAlone as alone
 use Rattle.cell_runs.specs.Moves.{Stands}
 use Rattle.state_bytes.specs.States.{in-bytes}
+use Rattle.ranges.proofs.Clamping.{clamped-same}
+use Rattle.running.proofs.Fields.{read-again, stored-again}
 use Rattle.state_bytes.proofs.States.{load-stored, load-moved, moved-own, store-loaded}
 use Rattle.claims.specs.Claims.{Claims}
 
@@ -41,6 +43,9 @@ claimed =
       bytes-kept = moved-own;
       state-back = load-stored;
       bytes-back = store-loaded;
+      sums-exact = λ B₁ B₂ pos low. ap (range B₁ B₂) (clamped-same pos low);
+      rule-back = read-again;
+      words-back = stored-again;
       for-all = forall-said;
       not-before = progress.started;
       not-after = progress.within;

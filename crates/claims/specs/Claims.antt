@@ -34,6 +34,7 @@ use Rattle.marked_cases.specs.Runs.{ExampleRun, Recorded}
 use Rattle.notation.specs.Notation.{Rule, Reads}
 use Rattle.notation.specs.Bodies.{named-body, checked, fitted, body-of-text, Misspelt, Unbound}
 use Rattle.notation.specs.Printing.{text-of-body}
+use Rattle.demand.specs.declared.Running.{Running}
 use Rattle.demand.specs.Contract.{fresh-state}
 use Rattle.demand.specs.Demand.{Demanded}
 use Rattle.demand.specs.SetDemand.{SetDemanded, AsAlone}
@@ -46,6 +47,8 @@ use Rattle.engine.specs.States.{state-of, fresh-code, moved-code, by-value}
 use Rattle.state_bytes.specs.Numbers.{number-at}
 use Rattle.exports_questions.specs.Ticks.{NoneTold}
 use Rattle.state_bytes.specs.States.{loaded, stored, Storable, moved-bytes, in-bytes}
+use Rattle.running.specs.Records.{rule-in, words-of}
+use Rattle.ranges.specs.Clamped.{clamped}
 
 pub record Claims : Type 0 where
   -- ---- watching a stream
@@ -71,6 +74,11 @@ pub record Claims : Type 0 where
   -- A state is stored as bytes that load as that state, and bytes that were loaded are stored as they were.
   pub state-back : (state : code.State) → Storable state → loaded (stored state) ≡ state
   pub bytes-back : (bytes : List ℕ) → Bytes bytes → length bytes ≡ 544 → stored (loaded bytes) ≡ bytes
+  -- At positions of ticks that steps take, up to 2^62, the bound sums that the code works out in signed 64 bits are those of the meaning.
+  pub sums-exact : (B₁ B₂ : Bound) (pos : List ℕ) → ((variable : ℕ) → getD pos variable 0 ≤ 4611686018427387904) → range B₁ B₂ (clamped pos) ≡ range B₁ B₂ pos
+  -- A running rule of a set is stored as a record's words that read as that rule, and words that were read are stored as they were.
+  pub rule-back : (rule : Running) → rule .delay < 65536 → rule-in (words-of rule) ≡ rule
+  pub words-back : (words : List ℕ) → length words ≡ 8 → getD words 6 0 < 4294967296 → words-of (rule-in words) ≡ words
   -- ---- what a rule means: the outcome over the ticks 0..t of a formula started at step s
 
   -- For all is 01's sentence.

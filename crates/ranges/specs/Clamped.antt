@@ -2,8 +2,8 @@
 use Prim.Native.Nat.{ℕ, min}
 use mathlib.Core.List.{List, [], _∷_}
 
--- A position or a tick, clamped to 2^62, so that its sum with an offset is exact in 64 bits. No stream reaches that far: proofs/Clamping.antt shows
--- that nothing changes up to there.
+-- A position or a tick, clamped to 2^62, so that its sum with an offset is exact in signed 64 bits. No step takes that tick: proofs/Clamping.antt shows that
+-- nothing changes up to there.
 abbrev pub clamped-at : ℕ → ℕ
 clamped-at q = min q 4611686018427387904
 

@@ -1,15 +1,12 @@
--- The fields of a rule in the words of a record: two share a word, and one has two words. A rule that is stored and read again is the same.
+-- The fields of a rule in the words of a record: two share a word, and one has two words. A rule that is stored and read again is the same, and so are words that are
+-- read and stored again.
 use Prim.Native.Nat.{ℕ, _+_, _*_, _%_, _/_, _<_}
 use native.Mathlib.Omega.{arith}
 use mathlib.Core.Path.{_≡_, refl}
 use mathlib.Core.List.{List, [], _∷_}
-use lib.ListN.{getD}
+use lib.ListN.{length, getD}
 use Rattle.demand.specs.declared.Running.{Running}
-use Rattle.running.specs.Records.{rule-in}
-
--- What is stored.
-abbrev pub words-of : Running → List ℕ
-words-of rule = rule .start ∷ rule .size ∷ rule .first ∷ rule .cells ∷ (rule .delay + 65536 * rule .opened) ∷ rule .live ∷ (rule .next % 4294967296) ∷ (rule .next / 4294967296) ∷ []
+use Rattle.running.specs.Records.{rule-in, words-of}
 
 low-half : (d o : ℕ) → d < 65536 → (d + 65536 * o) % 65536 ≡ d
 low-half d o low = omega (arith, low)
@@ -22,6 +19,27 @@ both-words t = omega arith
 
 pub read-again : (rule : Running) → rule .delay < 65536 → rule-in (words-of rule) ≡ rule
 read-again rule low = rw (low-half (rule .delay) (rule .opened) low, high-half (rule .delay) (rule .opened) low, both-words (rule .next)) refl
+
+both-halves : (w : ℕ) → w % 65536 + 65536 * (w / 65536) ≡ w
+both-halves w = omega arith
+
+low-word : (l h : ℕ) → l < 4294967296 → (l + 4294967296 * h) % 4294967296 ≡ l
+low-word l h low = omega (arith, low)
+
+high-word : (l h : ℕ) → l < 4294967296 → (l + 4294967296 * h) / 4294967296 ≡ h
+high-word l h low = omega (arith, low)
+
+pub stored-again : (words : List ℕ) → length words ≡ 8 → getD words 6 0 < 4294967296 → words-of (rule-in words) ≡ words
+stored-again (a ∷ b ∷ c ∷ d ∷ e ∷ f ∷ g ∷ h ∷ []) n low = rw (both-halves e, low-word g h low, high-word g h low) refl
+stored-again [] n low = absurd (omega arith)
+stored-again (a ∷ []) n low = absurd (omega arith)
+stored-again (a ∷ b ∷ []) n low = absurd (omega arith)
+stored-again (a ∷ b ∷ c ∷ []) n low = absurd (omega arith)
+stored-again (a ∷ b ∷ c ∷ d ∷ []) n low = absurd (omega arith)
+stored-again (a ∷ b ∷ c ∷ d ∷ e ∷ []) n low = absurd (omega arith)
+stored-again (a ∷ b ∷ c ∷ d ∷ e ∷ f ∷ []) n low = absurd (omega arith)
+stored-again (a ∷ b ∷ c ∷ d ∷ e ∷ f ∷ g ∷ []) n low = absurd (omega arith)
+stored-again (a ∷ b ∷ c ∷ d ∷ e ∷ f ∷ g ∷ h ∷ i ∷ rest) n low = absurd (omega arith)
 
 -- What is read, with the three fields that are not a word each.
 abbrev pub rule-with : List ℕ → ℕ → ℕ → ℕ → Running

@@ -3,9 +3,9 @@ use mathlib.Core.Path.{sym, ap, _∙_}
 use lib.ListN.{length-map, set}
 use native.Mathlib.Omega.{arith}
 use lib.Seq.{set-out}
-use Rattle.running.specs.Records.{rule-in, rules-in}
+use Rattle.running.specs.Records.{rule-in, words-of, rules-in}
 use Rattle.running.proofs.Mapped.{mapped-set}
-use Rattle.running.proofs.Fields.{words-of, read-again}
+use Rattle.running.proofs.Fields.{read-again}
 use borrow.Author.Needs.{needs}
 use Rattle.running.proofs.store_rule.Statement.{statement}
 use Rattle.running.proofs.store_rule.Tie as tie
