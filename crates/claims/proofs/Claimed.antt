@@ -1,4 +1,5 @@
 -- The library's claims hold. Assumes nothing.
+use mathlib.Core.Path.{ap}
 use Rattle.sheet_writer.proofs.RoundTrip as sheets
 use Rattle.rule.proofs.Every.{forall-said}
 use Rattle.rule.proofs.Progress as progress
@@ -24,6 +25,7 @@ use Rattle.calendar.proofs.Said as said
 use Rattle.demand.proofs.SetAlone as alone
 use Rattle.cell_runs.specs.Moves.{Stands}
 use Rattle.state_bytes.specs.States.{in-bytes}
+use Rattle.rule.specs.Meaning.{range}
 use Rattle.ranges.proofs.Clamping.{clamped-same}
 use Rattle.running.proofs.Fields.{read-again, stored-again}
 use Rattle.state_bytes.proofs.States.{load-stored, load-moved, moved-own, store-loaded}
