@@ -25,7 +25,8 @@ use Rattle.rule.proofs.Horizon.{from-less, from-start}
 use Rattle.rule.proofs.Every.{seen-in, seen-out}
 use Rattle.rule.proofs.Window.{walk-same}
 use Rattle.rule.proofs.Progress.{clash, stays, within, fresh}
-use Rattle.ranges.specs.Clamped as ranges
+use Rattle.rule.specs.Ticks.{clamped-at}
+use Rattle.ranges.specs.Clamped.{clamped}
 use Rattle.ranges.specs.Plans.{first-of, Plans}
 use Rattle.ranges.proofs.Clamping.{clamped-at-same, clamped-same}
 use Rattle.ranges.proofs.Bounds.{range-same}
@@ -241,10 +242,10 @@ bound-alone ps n h v = elim (decLt v n) [
 ]
 
 pub plan-here : (B₁ B₂ : Bound) (e : Variables) (t s first n : ℕ) (end : Outcome) (r : Range) → t < 4611686018427387904 → ((v : ℕ) → getD (e .pos) v 0 ≤ t)
-    → ((v : ℕ) → e .known ≤ v → getD (e .pos) v 0 ≡ 0) → r ≡ range B₁ B₂ (ranges.clamped (e .pos)) → Plans r (ranges.clamped-at t) s first n end
+    → ((v : ℕ) → e .known ≤ v → getD (e .pos) v 0 ≡ 0) → r ≡ range B₁ B₂ (clamped (e .pos)) → Plans r (clamped-at t) s first n end
     → Plans (range B₁ B₂ (places e)) t s first n end
 plan-here B₁ B₂ e t s first n end r low past unbound er p =
-    let same : ranges.clamped (e .pos) ≡ e .pos = clamped-same (e .pos) (λ v. omega (arith, past v)) in
+    let same : clamped (e .pos) ≡ e .pos = clamped-same (e .pos) (λ v. omega (arith, past v)) in
     let eq : r ≡ range B₁ B₂ (places e) = er ∙ ap (range B₁ B₂) same ∙ range-same B₁ B₂ (e .pos) (places e) (bound-alone (e .pos) (e .known) unbound) in
-    let now : ranges.clamped-at t ≡ t = clamped-at-same (omega arith) in
+    let now : clamped-at t ≡ t = clamped-at-same (omega arith) in
     subst (λ (x : Range). Plans x t s first n end) eq (subst (λ (u : ℕ). Plans r u s first n end) now p)

@@ -1,17 +1,18 @@
 -- An outcome in two words of a cell.
-use Prim.Native.Nat.{ℕ, _+_, _%_, _-_, min}
+use Prim.Native.Nat.{ℕ, _+_, _%_, _-_}
 use mathlib.Core.Path.{_≡_}
 use mathlib.Core.Bool.{cond}
 use mathlib.Core.List.{List}
 use lib.ListN.{getD, set}
 use lib.Dec.{eqb}
+use Rattle.rule.specs.Ticks.{clamped-at}
 use Rattle.rule.specs.declared.Verdict.the-variants.{True, False}
 use Rattle.rule.specs.declared.Outcome.{Outcome}
 use Rattle.rule.specs.declared.Outcome.the-variants.{Decided, Open}
 
--- The step that comes so many steps after p. A tick that no step takes counts as the first such one: so the sum fits 64 bits, whatever p is.
+-- The step that comes so many steps after p. The sum fits 64 bits, whatever p is.
 abbrev pub step-after : ℕ → ℕ → ℕ
-step-after p steps = min p 4611686018427387904 + steps
+step-after p steps = clamped-at p + steps
 
 -- The outcome that two words of a cell hold: 1 true, 2 false, else open; and its step, counted from p.
 unfoldable pub held : ℕ → ℕ → ℕ → Outcome

@@ -74,9 +74,9 @@ pub record Claims : Type 0 where
   -- A state is stored as bytes that load as that state, and bytes that were loaded are stored as they were.
   pub state-back : (state : code.State) → Storable state → loaded (stored state) ≡ state
   pub bytes-back : (bytes : List ℕ) → Bytes bytes → length bytes ≡ 544 → stored (loaded bytes) ≡ bytes
-  -- At positions of ticks that steps take, up to 2^62, the bound sums that the code works out in signed 64 bits are those of the meaning.
+  -- At positions up to 2^62, which no step takes, the positions that the code works out by sums in signed 64 bits (`ranges::range_at`) are those of the meaning.
   pub sums-exact : (B₁ B₂ : Bound) (pos : List ℕ) → ((variable : ℕ) → getD pos variable 0 ≤ 4611686018427387904) → range B₁ B₂ (clamped pos) ≡ range B₁ B₂ pos
-  -- A running rule of a set is stored as a record's words that read as that rule, and words that were read are stored as they were.
+  -- The eight words of a set's record tell its rule, and the rule the words: what is said of the rules in lent records is said of each word.
   pub rule-back : (rule : Running) → rule .delay < 65536 → rule-in (words-of rule) ≡ rule
   pub words-back : (words : List ℕ) → length words ≡ 8 → getD words 6 0 < 4294967296 → words-of (rule-in words) ≡ words
   -- ---- what a rule means: the outcome over the ticks 0..t of a formula started at step s

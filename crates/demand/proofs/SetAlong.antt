@@ -66,7 +66,7 @@ set-fits fs L t k some =
             tick-left = leb-false 4611686018427387904 t m;
           },
         )
-    go false true true true true true y i j q l m = inr (20, simp (y, i, j, q, l, m), inr (inr (inr (inr (leb-true 4611686018427387904 t m)))))
+    go false true true true true true y i j q l m = inr (20, simp (y, i, j, q, l, m), inr (inr (inr (inr (omega (arith, leb-true 4611686018427387904 t m))))))
     go false true true true false d y i j q l m = inr (19, simp (y, i, j, q, l), inr (inr (inr (inl (leb-false (2 * all-delays fs) (length (k .report)) l)))))
     go false true true false c d y i j q l m = inr (18, simp (y, i, j, q), inr (inr (inl (leb-false (length fs) (length (k .records)) q))))
     go false true false r c d y i j q l m = inr (18, simp (y, i, j), inr (inl (leb-false (4 * all-cells fs) (length (k .cells)) j)))

@@ -48,7 +48,7 @@ pub extern "C" fn sw_calendar_step(
     let tick = next_tick(state);
     let number = exports_watch::sw_step(state, flag, history, cells, report, reported, live);
     if number == 0 {
-        calendar_marks::mark(words, tick as u64, flag);
+        calendar_marks::mark(words, tick, flag);
     }
     number
 }
@@ -75,7 +75,7 @@ pub extern "C" fn sw_calendar_steps(
     let number = exports_watch::sw_steps(state, flags, history, cells, report, taken, pairs, live);
     if number == 0 {
         let count = *taken;
-        calendar_marks::fill(words, tick as u64, &flags[..count]);
+        calendar_marks::fill(words, tick, &flags[..count]);
     }
     number
 }

@@ -52,7 +52,7 @@ pub extern "C" fn sw_step(
 {
     let stepped = engine::step(load(state), flag, history, cells, report);
     let answer = stepped.answer;
-    let next = stepped.state.next as usize;
+    let next = stepped.state.next;
     match answer {
         StepAnswer::Refused(refusal) => refusal::number(refusal),
         StepAnswer::Taken(report_count, live_count) => {
@@ -84,7 +84,7 @@ pub extern "C" fn sw_steps(
 {
     let batched = engine::steps(load(state), flags, history, cells, report);
     let answer = batched.answer;
-    let next = batched.state.next as usize;
+    let next = batched.state.next;
     match answer {
         BatchAnswer::Refused(refusal) => refusal::number(refusal),
         BatchAnswer::Taken(flag_count, pair_count, live_count) => {

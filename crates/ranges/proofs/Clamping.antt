@@ -4,7 +4,8 @@ use mathlib.Core.Path.{_≡_, refl, ap₂}
 use mathlib.Core.List.{List, [], _∷_}
 use native.Mathlib.Omega.{arith}
 use lib.ListN.{getD}
-use Rattle.ranges.specs.Clamped.{clamped-at, clamped}
+use Rattle.rule.specs.Ticks.{clamped-at}
+use Rattle.ranges.specs.Clamped.{clamped}
 
 pub clamped-at-same : {t : ℕ} → t ≤ 4611686018427387904 → clamped-at t ≡ t
 clamped-at-same h = omega arith

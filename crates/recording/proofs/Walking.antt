@@ -19,7 +19,8 @@ use Rattle.rule.proofs.Every.{seen-in, seen-out, walk-next}
 use Rattle.rule.proofs.Alike.{unnamed-walk}
 use Rattle.rule.proofs.Horizon.{from-less, from-seen, from-start}
 use Rattle.nodes.specs.Table.{bound-at, formula-in}
-use Rattle.ranges.specs.Clamped.{clamped, clamped-at}
+use Rattle.rule.specs.Ticks.{clamped-at}
+use Rattle.ranges.specs.Clamped.{clamped}
 use Rattle.ranges.specs.Plans.{Plans}
 use Rattle.ranges.proofs.Clamping.{clamped-at-same, getD-clamped}
 use Rattle.ranges.proofs.Bounds.{range-same}

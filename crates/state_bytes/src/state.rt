@@ -20,11 +20,11 @@ const NEXT_AT: usize = 528;
 const LIVE_AT: usize = 536;
 
 // The next tick that the bytes hold.
-pub fn next_tick(state: &[u8; STATE_BYTES]) -> usize
+pub fn next_tick(state: &[u8; STATE_BYTES]) -> u64
     ensures { λ r. ⌜ r ≡ number-at (now (state .entry)) 528 ⌝ }
     ensures { λ _. ⌜ length (now (state .entry)) ≡ 544 ⌝ }
 {
-    number_at(state, NEXT_AT)
+    number_at(state, NEXT_AT) as u64
 }
 
 // Fills `body` with the first bytes.
@@ -47,7 +47,7 @@ pub fn load(state: &[u8; STATE_BYTES]) -> State
         body,
         size: number_at(state, SIZE_AT),
         opened: number_at(state, OPENED_AT),
-        next: next_tick(state) as u64,
+        next: next_tick(state),
         live: number_at(state, LIVE_AT),
     }
 }
@@ -65,9 +65,9 @@ pub fn store(bytes: &mut [u8; STATE_BYTES], state: State)
 }
 
 // Stores another next tick and live count.
-pub fn store_progress(state: &mut [u8; STATE_BYTES], next: usize, live: usize)
+pub fn store_progress(state: &mut [u8; STATE_BYTES], next: u64, live: usize)
     ensures { λ _. ⌜ now (state .exit) ≡ moved-bytes (now (state .entry)) next live ⌝ }
 {
-    put_number(state, NEXT_AT, next);
+    put_number(state, NEXT_AT, next as usize);
     put_number(state, LIVE_AT, live);
 }
