@@ -28,12 +28,12 @@ returns-3 c = simp (eq-eqb _ _ (c .before .before .if1 .left), le-leb _ _ (c .be
 returns-4 : tie.Need-returns-4
 unfolding fit-lengths must
 returns-4 c =
-    simp (eq-eqb _ _ (c .before .before .before .if1 .left), le-leb _ _ (c .before .before .if2 .left), le-leb _ _ (c .before .if3 .left), le-leb 4611686018427387904 _ (omega (arith, c .if4 .taken)))
+    simp (eq-eqb _ _ (c .before .before .before .if1 .left), le-leb _ _ (c .before .before .if2 .left), le-leb _ _ (c .before .if3 .left), le-leb 4611686018427387904 (c .before .before .before .before .args .tick) (omega (arith, c .if4 .taken)))
 
 returns-5 : tie.Need-returns-5
 unfolding fit-lengths must
 returns-5 c =
-    simp (eq-eqb _ _ (c .before .before .before .if1 .left), le-leb _ _ (c .before .before .if2 .left), le-leb _ _ (c .before .if3 .left), lt-leb 4611686018427387904 _ (omega (arith, c .if4 .left)))
+    simp (eq-eqb _ _ (c .before .before .before .if1 .left), le-leb _ _ (c .before .before .if2 .left), le-leb _ _ (c .before .if3 .left), lt-leb 4611686018427387904 (c .before .before .before .before .args .tick) (omega (arith, c .if4 .left)))
 
 pub fit-step-spec : {M : Type 1} → statement M
 fit-step-spec =
