@@ -140,7 +140,7 @@ static size_t sheet_size;
 static uint8_t state[SW_STATE_BYTES];
 static uint8_t history[SW_MAX_HISTORY];
 static uint32_t cells[SW_MAX_CELL_WORDS];
-static uint32_t report[SW_MAX_SET_BATCH_REPORT];
+static uint64_t report[SW_MAX_SET_BATCH_REPORT];
 static const uint8_t flags[FLAGS] = { 0xFF, 0xFF, 0x00, 0xFF };
 static size_t numbers[4];
 static uint64_t figures[3];

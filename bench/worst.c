@@ -15,7 +15,7 @@ static uint8_t sheet[MAX_SHEET];
 static uint8_t state[SW_STATE_BYTES];
 static uint8_t history[SW_MAX_HISTORY];
 static uint32_t cells[SW_MAX_CELL_WORDS];
-static uint32_t report[SW_MAX_REPORT];
+static uint64_t report[SW_MAX_REPORT];
 
 /* ---- the rules: ranges of `width` positions up to the tick, joined by "then" so
  * that they share their cells; each over `nots` nots over a part of `flags` flags,

@@ -61,12 +61,17 @@
 extern "C" {
 #endif
 
-/* ---- Version ---- */
+/* ---- Version ----
+ *
+ * Since 0.8.0 ticks have 64 bits. Compile a program anew that was compiled with the header of
+ * 0.7.0: report arrays are of uint64_t, no longer of uint32_t, and the fields of sw_running have
+ * other types and places in its 32 bytes. CHANGELOG.md says what becomes of states, cells and
+ * records that were stored. */
 
 #define SW_VERSION_MAJOR 0
-#define SW_VERSION_MINOR 7
+#define SW_VERSION_MINOR 8
 #define SW_VERSION_PATCH 0
-#define SW_VERSION "0.7.0"
+#define SW_VERSION "0.8.0"
 
 /* ---- Refusals: the sentence that sw_sentence writes, and what to do ---- */
 
@@ -154,8 +159,9 @@ extern "C" {
 #define SW_REPORT_TOO_SHORT 19
 
 /* "tick numbers are used up"
- * Tick 4,294,967,295 is not taken (13 years at ten a second). Open the rule or the set
- * anew. */
+ * The last tick that is taken is 4,611,686,018,427,387,903, which is 2^62 - 1; this comes for
+ * every next tick above it. At 200 ticks a second there are ticks for over 700 million years,
+ * so a stream that began at tick 0 does not meet it. Open the rule or the set anew. */
 #define SW_TICKS_USED_UP 20
 
 /* "state and cells were not left by one opening and its steps"
@@ -213,15 +219,15 @@ extern "C" {
 #define SW_MAX_DELAY 255
 #define SW_MAX_CELLS 4096
 
-/* Words of a cell, and of a cell table; report words for sw_step (a tick each), and for
- * sw_steps (a pair each). */
+/* Words of a cell, and of a cell table, which have 32 bits each; report words for sw_step (a
+ * tick each), and for sw_steps (a pair each), which have 64. */
 #define SW_CELL_WORDS 4
 #define SW_MAX_CELL_WORDS 16384
 #define SW_MAX_REPORT 256
 #define SW_MAX_BATCH_REPORT 512
 
-/* The same of a set, whose rules have at most SW_MAX_CELLS cells together: report words for
- * sw_set_step (a pair each), and for sw_set_steps (a triple each). */
+/* The same of a set, whose rules have at most SW_MAX_CELLS cells together: report words, of 64
+ * bits, for sw_set_step (a pair each), and for sw_set_steps (a triple each). */
 #define SW_MAX_SET_REPORT 8192
 #define SW_MAX_SET_BATCH_REPORT 12288
 
@@ -240,8 +246,8 @@ extern "C" {
  *
  * Every call looks at the state anew. It answers SW_STATE_NOT_OPENED where no opening
  * gives such a state: the opened length is above 4096, the body's size is above 512 or it
- * does not open, its history figure is above the opened length, or the next tick is above
- * 4,294,967,295.
+ * does not open, or its history figure is above the opened length. A next tick from
+ * 4,611,686,018,427,387,904 on is no such case: it gets SW_TICKS_USED_UP, after all else.
  * Any other state or cell table that was not left by one opening and its steps is not
  * noticed. A step on it still ends and writes only what a step may: one history byte, the
  * needed cells, the report's first delay + 1 words, and next tick and live count in the
@@ -257,10 +263,10 @@ typedef struct {
     uint32_t size;   /* .. and how many bytes */
     uint32_t first;  /* its own part of the cell table: how many cells are before it, .. */
     uint32_t cells;  /* .. and how many it has, of SW_CELL_WORDS words each */
-    uint32_t delay;  /* its delay in ticks */
-    uint32_t opened; /* the opened history's length, the same in all records */
-    uint32_t next;   /* the next tick, the same in all records */
+    uint16_t delay;  /* its delay in ticks */
+    uint16_t opened; /* the opened history's length, the same in all records */
     uint32_t live;   /* its live count: how many of its ticks are still open */
+    uint64_t next;   /* the next tick, the same in all records */
 } sw_running;
 
 /* Every step looks at sheet and records anew. It answers SW_STATE_NOT_OPENED where no
@@ -275,11 +281,12 @@ typedef struct {
  *   length or next tick is not that of the first record;
  * - these records have more than 4096 cells together.
  *
- * Further records are not looked at. Any other sheet, records or cell table that were not
- * left by one opening and its steps are not noticed. A step on them still ends and writes
- * only what a step may: one history byte, the needed cells, the report's first 2 * (sum of
- * all delay + 1) words, and next tick and live count of the first n records. But what it
- * reports means nothing. */
+ * A next tick from 4,611,686,018,427,387,904 on is no such case where all of them have it: it
+ * gets SW_TICKS_USED_UP, after all else. Further records are not looked at. Any other sheet,
+ * records or cell table that were not left by one opening and its steps are not noticed. A step
+ * on them still ends and writes only what a step may: one history byte, the needed cells, the
+ * report's first 2 * (sum of all delay + 1) words, and next tick and live count of the first n
+ * records. But what it reports means nothing. */
 
 /* A calendar: words that keep at which ticks each flag was up. Eight words keep a run of 64
  * ticks. Run r of flag k is word 8r + k, and its bit worth 2^i is 1 where the flag was up at
@@ -409,7 +416,7 @@ uint32_t sw_open(const uint8_t *sheet, size_t sheet_len, size_t rule,
 uint32_t sw_step(uint8_t state[SW_STATE_BYTES], uint8_t flag,
                  uint8_t *history, size_t history_len,
                  uint32_t *cells, size_t cells_len,
-                 uint32_t *report, size_t report_len,
+                 uint64_t *report, size_t report_len,
                  size_t *reported, size_t *live);
 
 /* Takes flag bytes one after another, each as sw_step does, and writes a pair of words,
@@ -447,7 +454,7 @@ uint32_t sw_steps(uint8_t state[SW_STATE_BYTES],
                   const uint8_t *flags, size_t flags_len,
                   uint8_t *history, size_t history_len,
                   uint32_t *cells, size_t cells_len,
-                  uint32_t *report, size_t report_len,
+                  uint64_t *report, size_t report_len,
                   size_t *taken, size_t *pairs, size_t *live);
 
 /* What all rules of a sheet need together: how many rules there are, and so records; the
@@ -495,7 +502,7 @@ uint32_t sw_set_step(const uint8_t *sheet, size_t sheet_len,
                      sw_running *records, size_t records_len, uint8_t flag,
                      uint8_t *history, size_t history_len,
                      uint32_t *cells, size_t cells_len,
-                     uint32_t *report, size_t report_len,
+                     uint64_t *report, size_t report_len,
                      size_t *pairs, size_t *live);
 
 /* Takes flag bytes one after another, each as sw_set_step does, and writes a triple of
@@ -521,7 +528,7 @@ uint32_t sw_set_steps(const uint8_t *sheet, size_t sheet_len,
                       const uint8_t *flags, size_t flags_len,
                       uint8_t *history, size_t history_len,
                       uint32_t *cells, size_t cells_len,
-                      uint32_t *report, size_t report_len,
+                      uint64_t *report, size_t report_len,
                       size_t *taken, size_t *triples, size_t *live);
 
 /* Opens a rule as sw_open does, with the words of a calendar, of which there may be any
@@ -544,7 +551,7 @@ uint32_t sw_calendar_open(const uint8_t *sheet, size_t sheet_len, size_t rule,
 uint32_t sw_calendar_step(uint8_t state[SW_STATE_BYTES], uint8_t flag,
                           uint8_t *history, size_t history_len,
                           uint32_t *cells, size_t cells_len,
-                          uint32_t *report, size_t report_len,
+                          uint64_t *report, size_t report_len,
                           uint64_t *words, size_t words_len,
                           size_t *reported, size_t *live);
 
@@ -557,7 +564,7 @@ uint32_t sw_calendar_steps(uint8_t state[SW_STATE_BYTES],
                            const uint8_t *flags, size_t flags_len,
                            uint8_t *history, size_t history_len,
                            uint32_t *cells, size_t cells_len,
-                           uint32_t *report, size_t report_len,
+                           uint64_t *report, size_t report_len,
                            uint64_t *words, size_t words_len,
                            size_t *taken, size_t *pairs, size_t *live);
 

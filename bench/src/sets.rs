@@ -93,7 +93,7 @@ impl Set {
 }
 
 fn add(tallies: &mut [Tally], Triple { rule, tick, step }: Triple) {
-    tallies[rule as usize].add(u64::from(tick), u64::from(step));
+    tallies[rule as usize].add(tick, step);
 }
 
 /// A set, a call for each flag byte.

@@ -17,7 +17,7 @@ pub struct Tally {
 impl Tally {
     pub fn add(&mut self, tick: u64, step: u64) {
         self.violations += 1;
-        self.fold(tick << 32 | step);
+        self.fold(tick.rotate_left(32) ^ step);
     }
 
     fn fold(&mut self, number: u64) {
@@ -86,7 +86,7 @@ impl Way for Single {
         let Library { watch, tally } = &mut self.0;
         for &flag in flags {
             for pair in watch.step(flag).expect("ticks are left").pairs() {
-                tally.add(pair.tick as u64, pair.step as u64);
+                tally.add(pair.tick, pair.step);
             }
         }
     }
@@ -106,7 +106,7 @@ pub struct Batch(pub Library);
 impl Way for Batch {
     fn take(&mut self, flags: &[u8]) {
         let Library { watch, tally } = &mut self.0;
-        let add = |pair: Pair| tally.add(pair.tick as u64, pair.step as u64);
+        let add = |pair: Pair| tally.add(pair.tick, pair.step);
         watch.steps(flags, add).expect("ticks are left");
     }
 

@@ -20,7 +20,7 @@ static size_t sheet_len;
 static uint8_t state[SW_STATE_BYTES];
 static uint8_t history[SW_MAX_HISTORY];
 static uint32_t cells[SW_MAX_CELL_WORDS];
-static uint32_t report[SW_MAX_REPORT];
+static uint64_t report[SW_MAX_REPORT];
 static uint64_t words[WORDS];
 
 static int refused(uint32_t number)

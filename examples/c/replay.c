@@ -16,7 +16,7 @@ static uint8_t sheet[SW_MAX_SHEET + 1];
 static uint8_t history[SW_MAX_HISTORY];
 static uint32_t cells[SW_MAX_CELL_WORDS];
 static uint8_t state[SW_STATE_BYTES];
-static uint32_t report[SW_MAX_BATCH_REPORT];
+static uint64_t report[SW_MAX_BATCH_REPORT];
 static size_t history_len;
 
 static uint64_t steps, violations;
@@ -66,7 +66,7 @@ static uint32_t take(const uint8_t *flags, size_t count)
         if (number != SW_OK)
             return number;
         for (size_t i = 0; i < pairs; i++)
-            printf("violation %" PRIu32 " at %" PRIu32 "\n", report[2 * i], report[2 * i + 1]);
+            printf("violation %" PRIu64 " at %" PRIu64 "\n", report[2 * i], report[2 * i + 1]);
         done += taken;
         steps += taken;
         violations += pairs;

@@ -18,7 +18,7 @@ static sw_running records[SW_MAX_RULES];
 static uint8_t history[SW_MAX_HISTORY];
 static size_t history_len;
 static uint32_t cells[SW_MAX_CELL_WORDS];
-static uint32_t report[SW_MAX_SET_BATCH_REPORT];
+static uint64_t report[SW_MAX_SET_BATCH_REPORT];
 
 static uint64_t steps, violations;
 static size_t live;
@@ -78,8 +78,8 @@ static uint32_t take(const uint8_t *flags, size_t count)
                                        &taken, &triples, &live);
         if (number != SW_OK)
             return number;
-        for (const uint32_t *word = report; word < report + 3 * triples; word += 3)
-            printf("violation %" PRIu32 " %" PRIu32 " at %" PRIu32 "\n", word[0], word[1], word[2]);
+        for (const uint64_t *word = report; word < report + 3 * triples; word += 3)
+            printf("violation %" PRIu64 " %" PRIu64 " at %" PRIu64 "\n", word[0], word[1], word[2]);
         done += taken;
         steps += taken;
         violations += triples;

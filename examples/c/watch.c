@@ -15,7 +15,7 @@ static uint8_t body[SW_MAX_BODY];
 static uint8_t sheet[SW_MAX_SHEET];
 static uint8_t history[SW_MAX_HISTORY];
 static uint32_t cells[SW_MAX_CELL_WORDS];
-static uint32_t report[SW_MAX_REPORT];
+static uint64_t report[SW_MAX_REPORT];
 static uint8_t state[SW_STATE_BYTES];
 
 static int refused(uint32_t number)
@@ -60,7 +60,7 @@ int main(void)
         if (number != SW_OK)
             return refused(number);
         for (size_t i = 0; i < reported; i++)
-            printf("violation %" PRIu32 " at %zu\n", report[i], t);
+            printf("violation %" PRIu64 " at %zu\n", report[i], t);
         violations += reported;
     }
     printf("end %zu steps %zu violations %zu live\n", sizeof flags, violations, live);

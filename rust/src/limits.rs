@@ -52,12 +52,13 @@ pub const MAX_REPORT: usize = MAX_DELAY + 1;
 /// of a set have at most `MAX_CELLS`.
 pub const MAX_SET_REPORT: usize = MAX_CELLS;
 
-/// How many ticks a rule can take: 0 to 4,294,967,294. The next one is refusal 20.
+/// How many ticks a rule can take: 0 to 4,611,686,018,427,387,903. The next one, and each after
+/// it, is refusal 20. At 200 ticks a second they last for over 700 million years.
 ///
 /// ```
-/// assert_eq!(station_watch::MAX_TICKS, 4_294_967_295);
+/// assert_eq!(station_watch::MAX_TICKS, 4_611_686_018_427_387_904);
 /// ```
-pub const MAX_TICKS: u64 = u32::MAX as u64;
+pub const MAX_TICKS: u64 = 1 << 62;
 
 /// The bytes of a state.
 pub const STATE_BYTES: usize = 544;

@@ -12,9 +12,9 @@
 #[repr(C)]
 pub struct Pair {
     /// The tick at which the rule is false.
-    pub tick: u32,
+    pub tick: u64,
     /// The step that decided it.
-    pub step: u32,
+    pub step: u64,
 }
 
 /// A violation of one of a set's rules, as a step reports it: the rule's number, and a
@@ -29,9 +29,9 @@ pub struct Pair {
 #[repr(C)]
 pub struct RuleTick {
     /// The number of the rule in its sheet, from 0 on.
-    pub rule: u32,
+    pub rule: u64,
     /// The tick at which the rule is false.
-    pub tick: u32,
+    pub tick: u64,
 }
 
 /// A violation of one of a set's rules, as a batch reports it: the rule's number, a tick
@@ -48,21 +48,21 @@ pub struct RuleTick {
 #[repr(C)]
 pub struct Triple {
     /// The number of the rule in its sheet, from 0 on.
-    pub rule: u32,
+    pub rule: u64,
     /// The tick at which the rule is false.
-    pub tick: u32,
+    pub tick: u64,
     /// The step that decided it.
-    pub step: u32,
+    pub step: u64,
 }
 
 /// What a report is made of.
 ///
 /// # Safety
 ///
-/// It is so many words end to end and aligned as they are, as the library writes them,
+/// It is so many words of 64 bits end to end and aligned as they are, as the library writes them,
 /// and any words make one.
 pub(crate) unsafe trait Entry: Sized {
-    const WORDS: usize = size_of::<Self>() / size_of::<u32>();
+    const WORDS: usize = size_of::<Self>() / size_of::<u64>();
 }
 
 // SAFETY: two words each, and three, with `repr(C)`.
@@ -72,17 +72,17 @@ unsafe impl Entry for Triple {}
 
 /// Whether an entry is so many words and nothing else, aligned as they are.
 const fn is_words<E: Entry>(words: usize) -> bool {
-    size_of::<E>() == words * size_of::<u32>() && align_of::<E>() == align_of::<u32>()
+    size_of::<E>() == words * size_of::<u64>() && align_of::<E>() == align_of::<u64>()
 }
 
 const _: () = assert!(is_words::<Pair>(2) && is_words::<RuleTick>(2) && is_words::<Triple>(3));
 
 /// A report as the words that it is made of.
-pub(crate) fn as_words<E: Entry>(report: &mut [E]) -> &mut [u32] {
+pub(crate) fn as_words<E: Entry>(report: &mut [E]) -> &mut [u64] {
     let count = E::WORDS * report.len();
     // SAFETY: an entry is words end to end, so these are the same bytes, borrowed as
     // before; any words make an entry.
-    unsafe { core::slice::from_raw_parts_mut(report.as_mut_ptr().cast::<u32>(), count) }
+    unsafe { core::slice::from_raw_parts_mut(report.as_mut_ptr().cast::<u64>(), count) }
 }
 
 /// A step that was taken.
@@ -101,10 +101,10 @@ pub(crate) fn as_words<E: Entry>(report: &mut [E]) -> &mut [u32] {
 #[non_exhaustive]
 pub struct Step<'r> {
     /// Its number: the tick that it took.
-    pub step: u32,
+    pub step: u64,
     /// The ticks whose outcome is false at this step, ascending: the first words of
     /// the report.
-    pub ticks: &'r [u32],
+    pub ticks: &'r [u64],
     /// How many ticks are still open.
     pub live: usize,
 }
@@ -171,7 +171,7 @@ pub struct Steps<'r> {
 #[non_exhaustive]
 pub struct SetStep<'r> {
     /// Its number: the tick that it took.
-    pub step: u32,
+    pub step: u64,
     /// A pair for each violation, ascending by rule and then by tick: the first pairs of
     /// the report.
     pub pairs: &'r [RuleTick],

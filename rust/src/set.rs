@@ -33,17 +33,17 @@ pub struct Running {
     /// The cells of its own part, of four words each.
     pub cells: u32,
     /// Its delay in ticks.
-    pub delay: u32,
+    pub delay: u16,
     /// The length of the opened history, the same in all records of a set.
-    pub opened: u32,
-    /// The tick that the next step takes, the same in all records of a set.
-    pub next: u32,
+    pub opened: u16,
     /// How many of its ticks are still open.
     pub live: u32,
+    /// The tick that the next step takes, the same in all records of a set.
+    pub next: u64,
 }
 
-// Eight words end to end, as in C.
-const _: () = assert!(size_of::<Running>() == 32 && align_of::<Running>() == align_of::<u32>());
+// Eight numbers end to end in 32 bytes, as in C.
+const _: () = assert!(size_of::<Running>() == 32 && align_of::<Running>() == align_of::<u64>());
 
 /// What all rules of a sheet need together.
 ///

@@ -90,9 +90,9 @@ impl State {
         flag: u8,
         history: &mut [u8],
         cells: &mut [u32],
-        report: &'r mut [u32],
+        report: &'r mut [u64],
     ) -> Result<Step<'r>, Refusal> {
-        let step = self.next_tick() as u32; // a tick above 32 bits is refused: 21
+        let step = self.next_tick();
         let (mut reported, mut live) = (0, 0);
         // SAFETY: pointers and lengths of slices, an array of a state's size, and two
         // numbers of this frame; all are written, and each is borrowed alone.
@@ -223,10 +223,10 @@ impl State {
         flag: u8,
         history: &mut [u8],
         cells: &mut [u32],
-        report: &'r mut [u32],
+        report: &'r mut [u64],
         words: &mut [u64],
     ) -> Result<Step<'r>, Refusal> {
-        let step = self.next_tick() as u32; // a tick above 32 bits is refused: 21
+        let step = self.next_tick();
         let (mut reported, mut live) = (0, 0);
         // SAFETY: pointers and lengths of slices, an array of a state's size, and two
         // numbers of this frame; all are written, and each is borrowed alone.

@@ -161,7 +161,7 @@ impl WatchSet {
     /// # Ok::<(), Refusal>(())
     /// ```
     pub fn next_tick(&self) -> u64 {
-        self.records.first().map_or(0, |record| u64::from(record.next))
+        self.records.first().map_or(0, |record| record.next)
     }
 
     /// How many ticks are still open, the sum over all rules.

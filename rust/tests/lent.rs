@@ -10,7 +10,7 @@ use station_watch::*;
 struct Lent {
     history: Vec<u8>,
     cells: Vec<u32>,
-    words: Vec<u32>,
+    words: Vec<u64>,
     pairs: Vec<Pair>,
 }
 
@@ -224,6 +224,6 @@ fn limits() {
     assert_eq!((MAX_HISTORY, MAX_DELAY, MAX_CELLS), (4_096, 255, 4_096));
     assert_eq!((CELL_WORDS, MAX_CELL_WORDS, MAX_REPORT), (4, 16_384, 256));
     assert_eq!(MAX_SET_REPORT, 4_096);
-    assert_eq!((MAX_RECORDING, MAX_TICKS, MAX_TEXT), (65_535, 4_294_967_295, 4_096));
-    assert_eq!((STATE_BYTES, MAX_SENTENCE, VERSION), (544, 128, "0.7.0"));
+    assert_eq!((MAX_RECORDING, MAX_TICKS, MAX_TEXT), (65_535, 4_611_686_018_427_387_904, 4_096));
+    assert_eq!((STATE_BYTES, MAX_SENTENCE, VERSION), (544, 128, "0.8.0"));
 }

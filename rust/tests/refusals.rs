@@ -162,10 +162,13 @@ fn of_a_step() {
     assert_eq!(refused(&mut state, &mut [], &mut cells, 3), Refusal::HistoryLength);
     assert_eq!(refused(&mut state, &mut history, &mut [0; 83], 3), Refusal::CellTableTooShort);
     assert_eq!(refused(&mut state, &mut history, &mut cells, 2), Refusal::ReportTooShort);
-    let mut last = *state.as_bytes();
-    last[528..536].copy_from_slice(&MAX_TICKS.to_le_bytes());
-    let mut last = State::from_bytes(last);
-    assert_eq!(refused(&mut last, &mut history, &mut cells, 3), Refusal::TicksUsedUp);
+    for tick in [MAX_TICKS, MAX_TICKS + 1, 1 << 63, u64::MAX] {
+        let mut last = *state.as_bytes();
+        last[528..536].copy_from_slice(&tick.to_le_bytes());
+        let mut last = State::from_bytes(last);
+        assert_eq!(refused(&mut last, &mut history, &mut cells, 2), Refusal::ReportTooShort);
+        assert_eq!(refused(&mut last, &mut history, &mut cells, 3), Refusal::TicksUsedUp);
+    }
     let mut none = State::from_bytes([0; STATE_BYTES]);
     assert_eq!(refused(&mut none, &mut [], &mut [], 0), Refusal::StateNotOpened);
 }
@@ -233,13 +236,15 @@ fn of_the_step_of_a_set() {
     assert_eq!(step(0, 9, 88, 0), Err(Refusal::CellTableTooShort));
     assert_eq!(step(2, 1, 88, 3), Err(Refusal::ReportTooShort));
     assert_eq!(step(2, 1, 88, 4), Ok(0));
-    records.iter_mut().for_each(|record| record.next = MAX_TICKS as u32);
-    let mut last = |pairs: usize| {
-        let report = &mut [RuleTick::default(); 4][..pairs];
-        set_step(&sheet, &mut records, 1, &mut history, &mut cells, report).unwrap_err()
-    };
-    assert_eq!(last(3), Refusal::ReportTooShort);
-    assert_eq!(last(4), Refusal::TicksUsedUp);
+    for tick in [MAX_TICKS, MAX_TICKS + 1, 1 << 63, u64::MAX] {
+        records.iter_mut().for_each(|record| record.next = tick);
+        let mut last = |pairs: usize| {
+            let report = &mut [RuleTick::default(); 4][..pairs];
+            set_step(&sheet, &mut records, 1, &mut history, &mut cells, report).unwrap_err()
+        };
+        assert_eq!(last(3), Refusal::ReportTooShort);
+        assert_eq!(last(4), Refusal::TicksUsedUp);
+    }
 }
 
 #[test]
@@ -255,7 +260,7 @@ fn of_a_batch_of_a_set() {
     assert_eq!(steps(&sheet, &mut [], 0, &[]), Err(Refusal::HistoryLength));
     assert_eq!(steps(&sheet, &mut history, 87, &[1]), Err(Refusal::CellTableTooShort));
     assert_eq!(steps(&sheet, &mut history, 88, &[1]), Ok(0)); // never 19
-    records.iter_mut().for_each(|record| record.next = MAX_TICKS as u32);
+    records.iter_mut().for_each(|record| record.next = MAX_TICKS);
     let answer = set_steps(&sheet, &mut records, &[], &mut history, &mut cells, &mut []);
     assert_eq!(answer, Err(Refusal::TicksUsedUp));
 }
@@ -288,7 +293,7 @@ fn of_records_that_no_opening_gives() {
         }
     }
     // Opened lengths that no opening gives, in all records.
-    for length in [0, 4_097, u32::MAX] {
+    for length in [0, 4_097, u16::MAX] {
         let records = opened.map(|record| Running { opened: length, ..record });
         assert_eq!(answer(&sheet, &records), Some(Refusal::StateNotOpened), "{records:?}");
     }

@@ -139,7 +139,7 @@ struct Alone {
     state: State,
     history: Vec<u8>,
     cells: Vec<u32>,
-    report: Vec<u32>,
+    report: Vec<u64>,
 }
 
 impl Alone {
@@ -167,7 +167,7 @@ fn each_rule_as_by_itself() {
         let (mut due, mut live) = (Vec::new(), 0);
         for (rule, one) in alone.iter_mut().enumerate() {
             let step = one.step(flag);
-            due.extend(step.ticks.iter().map(|&tick| RuleTick { rule: rule as u32, tick }));
+            due.extend(step.ticks.iter().map(|&tick| RuleTick { rule: rule as u64, tick }));
             live += step.live;
             count[rule] += step.ticks.len();
         }
@@ -177,7 +177,7 @@ fn each_rule_as_by_itself() {
             assert_eq!(lent.own_cells(rule), one.cells);
             assert_eq!(lent.history, one.history);
             let record = lent.records[rule];
-            let numbers = (u64::from(record.next), u64::from(record.live));
+            let numbers = (record.next, u64::from(record.live));
             assert_eq!(numbers, (one.state.next_tick(), one.state.live()));
         }
     }

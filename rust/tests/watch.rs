@@ -65,7 +65,7 @@ fn many_ticks_of_one_step() {
     for _ in 0..20 {
         watch.step(1).unwrap();
     }
-    assert_eq!(watch.step(0).unwrap().ticks, (0..=20).collect::<Vec<u32>>());
+    assert_eq!(watch.step(0).unwrap().ticks, (0..=20).collect::<Vec<u64>>());
 }
 
 /// Some rules: the example, a flag, the largest delay, X..X+62, "A then B", "A beside B".
@@ -207,7 +207,7 @@ fn ticks_used_up() {
         bytes[528..536].copy_from_slice(&(MAX_TICKS - left).to_le_bytes());
         Watch::from_parts(State::from_bytes(bytes), vec![], vec![0; 4])
     };
-    let tick = MAX_TICKS as u32 - 2;
+    let tick = MAX_TICKS - 2;
     let mut watch = near(2).unwrap();
     let mut pairs = Vec::new();
     let answer = watch.steps(&[0, 1, 0, 0], |pair| pairs.push(pair));
@@ -221,6 +221,44 @@ fn ticks_used_up() {
     assert_eq!(watch.step(0).unwrap().ticks, [tick + 1]);
     assert_eq!(watch.step(0), Err(Refusal::TicksUsedUp));
     assert_eq!(near(0).unwrap_err(), Refusal::TicksUsedUp);
+}
+
+/// A watch that is `shift` ticks ahead of another, with its history and its cells, which count
+/// steps from their own tick: they stand for it where the shift is a multiple of delay + 1 and
+/// of the history's length.
+fn ahead(watch: &Watch, shift: u64) -> Watch {
+    let needs = watch.figures();
+    let (state, history, cells) = watch.parts();
+    assert!(shift % needs.report_len() as u64 == 0 && shift % needs.history.max(1) as u64 == 0);
+    let mut bytes = *state.as_bytes();
+    bytes[528..536].copy_from_slice(&(state.next_tick() + shift).to_le_bytes());
+    Watch::from_parts(State::from_bytes(bytes), history.to_vec(), cells.to_vec()).unwrap()
+}
+
+/// The rules across tick 2^32, and near the last tick: what they report some ticks after 0, with
+/// ticks and steps that much higher.
+#[test]
+fn as_from_tick_0() {
+    let flags = stream(3_000);
+    for body in rules() {
+        let mut low = open(&body);
+        all_pairs(&mut low, &flags[..1_000]);
+        let round = low.figures().report_len() as u64 * low.figures().history.max(1) as u64;
+        for middle in [1 << 32, MAX_TICKS - 1_000] {
+            let shift = (middle - 2_000) / round * round;
+            let (mut low, mut high) = (low.clone(), ahead(&low, shift));
+            let due = all_pairs(&mut low, &flags[1_000..]);
+            assert!(due[0].step + shift < middle && due[due.len() - 1].tick + shift > middle);
+            let due: Vec<Pair> = due
+                .iter()
+                .map(|pair| Pair { tick: pair.tick + shift, step: pair.step + shift })
+                .collect();
+            assert_eq!(all_pairs(&mut high, &flags[1_000..]), due);
+            assert_eq!((high.next_tick(), high.live()), (low.next_tick() + shift, low.live()));
+            let (low, high) = (low.parts(), high.parts());
+            assert_eq!((high.1, high.2), (low.1, low.2));
+        }
+    }
 }
 
 #[test]

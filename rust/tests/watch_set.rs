@@ -172,12 +172,12 @@ fn a_copy_goes_on_by_itself() {
 /// comes 20 for ever.
 #[test]
 fn ticks_used_up() {
-    let near = |left: u32| {
+    let near = |left: u64| {
         let (sheet, mut records, history, cells) = stored(&open(&[&FLAG, &FLAG]));
-        records.iter_mut().for_each(|record| record.next = MAX_TICKS as u32 - left);
+        records.iter_mut().for_each(|record| record.next = MAX_TICKS - left);
         WatchSet::from_parts(sheet, records, history, cells)
     };
-    let tick = MAX_TICKS as u32 - 2;
+    let tick = MAX_TICKS - 2;
     let mut set = near(2).unwrap();
     let mut triples = Vec::new();
     let answer = set.steps(&[0, 1, 0, 0], |triple| triples.push(triple));

@@ -282,12 +282,19 @@ static void lending(void)
     SAME(SW_OK, step_with(1, EXAMPLE_WORDS, 3));
 
     set_number(528, UINT32_MAX);
-    SAME(SW_TICKS_USED_UP, step_with(1, EXAMPLE_WORDS, 3));
-    set_number(528, (uint64_t)UINT32_MAX + 1);
-    SAME(SW_STATE_NOT_OPENED, step_with(1, EXAMPLE_WORDS, 3));
-    set_number(528, UINT32_MAX - 1);
     SAME(SW_OK, step_with(1, EXAMPLE_WORDS, 3));
+    SAME(SW_OK, step_with(1, EXAMPLE_WORDS, 3));
+    SAME((uint64_t)UINT32_MAX + 2, number_at(528));
+    set_number(528, FIRST_UNTAKEN - 1);
+    SAME(SW_OK, step_with(1, EXAMPLE_WORDS, 3));
+    SAME(FIRST_UNTAKEN, number_at(528));
     SAME(SW_TICKS_USED_UP, step_with(1, EXAMPLE_WORDS, 3));
+    SAME(SW_REPORT_TOO_SHORT, step_with(1, EXAMPLE_WORDS, 2));
+    set_number(528, FIRST_UNTAKEN + 1);
+    SAME(SW_TICKS_USED_UP, step_with(1, EXAMPLE_WORDS, 3));
+    set_number(528, UINT64_MAX);
+    SAME(SW_TICKS_USED_UP, step_with(1, EXAMPLE_WORDS, 3));
+    SAME(UINT64_MAX, number_at(528));
 
     set_number(520, SW_MAX_HISTORY + 1);
     SAME(SW_STATE_NOT_OPENED, step_with(1, EXAMPLE_WORDS, 3));
@@ -316,7 +323,7 @@ static void dishonest(void)
     memset(report, 0xDD, sizeof report);
     SAME(SW_OK, sw_step(state, 1, history, 4, cells, SW_MAX_CELL_WORDS, report, SW_MAX_REPORT, &reported, &live));
     SAME(1, reported <= 3);
-    SAME(0xDDDDDDDD, report[3]);
+    SAME(UINT64_C(0xDDDDDDDDDDDDDDDD), report[3]);
     SAME(UINT32_MAX, cells[EXAMPLE_WORDS]);
     SAME(0xEE, history[1]);
     SAME(1, history[2]);
@@ -328,7 +335,7 @@ static void dishonest(void)
 
 static size_t violations;
 
-static void violation(uint32_t tick, uint32_t step)
+static void violation(uint64_t tick, uint64_t step)
 {
     SAME(violations, tick);
     SAME(violations + SW_MAX_DELAY, step);
@@ -376,12 +383,54 @@ static void batches(void)
     SAME(0, taken);
 
     /* After the last tick a batch ends, and the next one is refused. */
-    set_number(528, UINT32_MAX - 1);
+    set_number(528, FIRST_UNTAKEN - 1);
     SAME(SW_OK, sw_steps(state, down, 2, history, 0, cells, AHEAD_WORDS, report, SW_MAX_BATCH_REPORT, &taken, &pairs, &live));
     SAME(1, taken);
+    SAME(FIRST_UNTAKEN, number_at(528));
     SAME(SW_TICKS_USED_UP, sw_steps(state, down, 2, history, 0, cells, AHEAD_WORDS, report, SW_MAX_BATCH_REPORT, &taken, &pairs, &live));
     memset(state, 0, sizeof state);
     SAME(SW_STATE_NOT_OPENED, sw_steps(state, down, 2, history, 0, cells, AHEAD_WORDS, report, SW_MAX_BATCH_REPORT, &taken, &pairs, &live));
+}
+
+/* ---- High ticks ---- */
+
+/* How far the example's first four steps are put ahead: multiples of delay + 1, so that the
+ * ticks find their cells. With the second the violation of tick 5 is that of tick 2^32 - 2, at
+ * step 2^32; with the third the last of the ten flags is the last tick that is taken. */
+static const uint64_t shifts[] = {0, UINT64_C(4294967296) - 7, FIRST_UNTAKEN - 10};
+
+/* The scope document's flags: four from tick 0 on, and the others that much later. */
+static void high_ticks(uint64_t shift)
+{
+    size_t taken, pairs, live, reported, seen = 0;
+    write_one(example, sizeof example);
+    for (int in_batch = 0; in_batch < 2; in_batch++) {
+        SAME(0, shift % 3);
+        SAME(SW_OK, open_with(1, EXAMPLE_WORDS));
+        SAME(SW_OK, sw_steps(state, flags, 4, history, 1, cells, EXAMPLE_WORDS, report, SW_MAX_BATCH_REPORT, &taken, &pairs, &live));
+        SAME(4, taken);
+        SAME(0, pairs);
+        set_number(528, 4 + shift);
+        for (size_t t = 4; !in_batch && t < sizeof flags; t++) {
+            SAME(SW_OK, sw_step(state, flags[t], history, 1, cells, EXAMPLE_WORDS, report, 3, &reported, &live));
+            SAME(t == 7, reported);
+            if (reported == 1)
+                SAME(5 + shift, report[0]);
+            seen += reported;
+        }
+        if (in_batch) {
+            SAME(SW_OK, sw_steps(state, flags + 4, sizeof flags - 4, history, 1, cells, EXAMPLE_WORDS, report,
+                                 SW_MAX_BATCH_REPORT, &taken, &pairs, &live));
+            SAME(sizeof flags - 4, taken);
+            SAME(1, pairs);
+            SAME(5 + shift, report[0]);
+            SAME(7 + shift, report[1]);
+        }
+        SAME(sizeof flags + shift, number_at(528));
+        SAME(0, live);
+    }
+    SAME(1, seen);
+    SAME(sizeof flags + shift == FIRST_UNTAKEN ? SW_TICKS_USED_UP : SW_OK, step_with(1, EXAMPLE_WORDS, 3));
 }
 
 /* ---- 27, 17 to 21: sets of rules ---- */
@@ -393,7 +442,7 @@ static const uint8_t flag[] = {1, 0, 0};
 enum { SET_CELLS = 1 + EXAMPLE_CELLS + AHEAD_CELLS, SET_WORDS = SW_CELL_WORDS * SET_CELLS, SET_PAIRS = 1 + 3 + 256 };
 
 static sw_running records[4];
-static uint32_t set_report[SW_MAX_SET_BATCH_REPORT];
+static uint64_t set_report[SW_MAX_SET_BATCH_REPORT];
 
 /* The sheet of three rules; of two, where the last is empty. */
 static void write_three(const uint8_t *first, size_t first_len, const uint8_t *second, size_t second_len,
@@ -464,9 +513,10 @@ static void set_record(void)
     SAME(8, offsetof(sw_running, first));
     SAME(12, offsetof(sw_running, cells));
     SAME(16, offsetof(sw_running, delay));
-    SAME(20, offsetof(sw_running, opened));
+    SAME(18, offsetof(sw_running, opened));
+    SAME(20, offsetof(sw_running, live));
     SAME(24, offsetof(sw_running, next));
-    SAME(28, offsetof(sw_running, live));
+    SAME(8, offsetof(struct { char before; sw_running record; }, record));
 }
 
 static void set_opening(void)
@@ -509,9 +559,18 @@ static void set_stepping(void)
     SAME(1, records[0].next);
 
     for (int i = 0; i < 3; i++)
-        records[i].next = UINT32_MAX - 1;
+        records[i].next = UINT32_MAX;
     SAME(SW_OK, set_step_with(3, 1, SET_WORDS, SW_MAX_SET_REPORT));
+    SAME((uint64_t)UINT32_MAX + 1, records[2].next);
+    for (int i = 0; i < 3; i++)
+        records[i].next = FIRST_UNTAKEN - 1;
+    SAME(SW_OK, set_step_with(3, 1, SET_WORDS, SW_MAX_SET_REPORT));
+    SAME(FIRST_UNTAKEN, records[2].next);
     SAME(SW_TICKS_USED_UP, set_step_with(3, 1, SET_WORDS, SW_MAX_SET_REPORT));
+    for (int i = 0; i < 3; i++)
+        records[i].next = UINT64_MAX;
+    SAME(SW_TICKS_USED_UP, set_step_with(3, 1, SET_WORDS, SW_MAX_SET_REPORT));
+    SAME(UINT64_MAX, records[2].next);
     records[1].next--;
     SAME(SW_STATE_NOT_OPENED, set_step_with(3, 1, SET_WORDS, SW_MAX_SET_REPORT));
     SAME(SW_OK, set_open_with(3, 1, SET_WORDS));
@@ -554,7 +613,7 @@ static void set_of_nothing(void)
  * in a batch. */
 static void set_reports(void)
 {
-    static const uint32_t due[][3] = {{0, 0, 0}, {0, 3, 3}, {1, 5, 7}, {0, 8, 8}, {0, 9, 9}};
+    static const uint64_t due[][3] = {{0, 0, 0}, {0, 3, 3}, {1, 5, 7}, {0, 8, 8}, {0, 9, 9}};
     size_t taken = 87, triples = 88, live = 89, pairs, seen = 0;
     write_three(flag, sizeof flag, example, sizeof example, flag, 0);
     SAME(SW_OK, set_open_with(2, 1, SW_MAX_CELL_WORDS));
@@ -568,7 +627,7 @@ static void set_reports(void)
             SAME(due[seen][1], set_report[2 * i + 1]);
             SAME(due[seen][2], t);
         }
-        SAME(0xDDDDDDDD, set_report[2 * pairs]);
+        SAME(UINT64_C(0xDDDDDDDDDDDDDDDD), set_report[2 * pairs]);
     }
     SAME(5, seen);
     SAME(0, live);
@@ -590,6 +649,48 @@ static void set_reports(void)
     SAME(sizeof flags, taken);
 }
 
+/* The same two rules: four flags from tick 0 on, and the others so much later, by single steps
+ * and in a batch. */
+static void set_high_ticks(uint64_t shift)
+{
+    static const uint64_t due[][3] = {{1, 5, 7}, {0, 8, 8}, {0, 9, 9}};
+    size_t taken, triples, live, pairs, seen = 0;
+    write_three(flag, sizeof flag, example, sizeof example, flag, 0);
+    for (int in_batch = 0; in_batch < 2; in_batch++) {
+        SAME(SW_OK, set_open_with(2, 1, SW_MAX_CELL_WORDS));
+        SAME(SW_OK, sw_set_steps(sheet, sheet_len, records, 2, flags, 4, history, 1, cells, SW_MAX_CELL_WORDS, set_report,
+                                 SW_MAX_SET_BATCH_REPORT, &taken, &triples, &live));
+        SAME(4, taken);
+        records[0].next += shift;
+        records[1].next += shift;
+        for (size_t t = 4; !in_batch && t < sizeof flags; t++) {
+            SAME(SW_OK, sw_set_step(sheet, sheet_len, records, 2, flags[t], history, 1, cells, SW_MAX_CELL_WORDS, set_report, 8,
+                                    &pairs, &live));
+            for (size_t i = 0; i < pairs; i++, seen++) {
+                SAME(due[seen][0], set_report[2 * i]);
+                SAME(due[seen][1] + shift, set_report[2 * i + 1]);
+                SAME(due[seen][2], t);
+            }
+        }
+        if (in_batch) {
+            SAME(SW_OK, sw_set_steps(sheet, sheet_len, records, 2, flags + 4, sizeof flags - 4, history, 1, cells,
+                                     SW_MAX_CELL_WORDS, set_report, SW_MAX_SET_BATCH_REPORT, &taken, &triples, &live));
+            SAME(sizeof flags - 4, taken);
+            SAME(3, triples);
+            for (size_t i = 0; i < 3; i++) {
+                SAME(due[i][0], set_report[3 * i]);
+                SAME(due[i][1] + shift, set_report[3 * i + 1]);
+                SAME(due[i][2] + shift, set_report[3 * i + 2]);
+            }
+        }
+        SAME(0, live);
+        SAME(sizeof flags + shift, records[0].next);
+        SAME(sizeof flags + shift, records[1].next);
+    }
+    SAME(3, seen);
+    SAME(sizeof flags + shift == FIRST_UNTAKEN ? SW_TICKS_USED_UP : SW_OK, set_step_with(2, 1, SW_MAX_CELL_WORDS, 8));
+}
+
 /* A dishonest table that is not caught: a step ends and writes only what a step may. */
 static void set_dishonest(void)
 {
@@ -605,7 +706,7 @@ static void set_dishonest(void)
     SAME(SW_OK, sw_set_step(sheet, sheet_len, records, 3, 1, history, 4, cells, SW_MAX_CELL_WORDS, set_report,
                             SW_MAX_SET_REPORT, &pairs, &live));
     SAME(1, pairs <= 4);
-    SAME(0xDDDDDDDD, set_report[8]);
+    SAME(UINT64_C(0xDDDDDDDDDDDDDDDD), set_report[8]);
     SAME(UINT32_MAX, cells[SW_CELL_WORDS * (1 + EXAMPLE_CELLS)]);
     SAME(0xEE, history[1]);
     SAME(1, history[2]);
@@ -657,12 +758,16 @@ int main(void)
     lending();
     dishonest();
     batches();
+    for (size_t i = 0; i < sizeof shifts / sizeof shifts[0]; i++)
+        high_ticks(shifts[i]);
     set_figures();
     set_record();
     set_opening();
     set_stepping();
     set_of_nothing();
     set_reports();
+    for (size_t i = 0; i < sizeof shifts / sizeof shifts[0]; i++)
+        set_high_ticks(shifts[i]);
     set_dishonest();
     sentences();
     version();

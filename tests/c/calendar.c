@@ -287,17 +287,21 @@ static void stepping(void)
     up_at(0, 0xFF);
     WORDS_AS_DUE();
 
-    /* Ticks past the words are taken, and not kept; the last of all too. */
+    /* Ticks past the words are taken, and not kept; those above 32 bits and the last of all too. */
     set_number(528, KEPT - 1);
     SAME(SW_OK, step_with(1, EXAMPLE_WORDS, 3));
     up_at(KEPT - 1, 0xFF);
     WORDS_AS_DUE();
     SAME(SW_OK, step_with(1, EXAMPLE_WORDS, 3));
-    set_number(528, UINT32_MAX - 1);
+    set_number(528, UINT32_MAX);
+    SAME(SW_OK, step_with(1, EXAMPLE_WORDS, 3));
+    SAME(SW_OK, step_with(1, EXAMPLE_WORDS, 3));
+    SAME((uint64_t)UINT32_MAX + 2, number_at(528));
+    set_number(528, FIRST_UNTAKEN - 1);
     SAME(SW_OK, step_with(1, EXAMPLE_WORDS, 3));
     SAME(SW_TICKS_USED_UP, step_with(1, EXAMPLE_WORDS, 3));
-    set_number(528, (uint64_t)UINT32_MAX + 1);
-    SAME(SW_STATE_NOT_OPENED, step_with(1, EXAMPLE_WORDS, 3));
+    set_number(528, UINT64_MAX);
+    SAME(SW_TICKS_USED_UP, step_with(1, EXAMPLE_WORDS, 3));
     memset(state, 0, sizeof state);
     SAME(SW_STATE_NOT_OPENED, step_with(1, EXAMPLE_WORDS, 3));
     WORDS_AS_DUE();
@@ -377,9 +381,10 @@ static void refused_batches(void)
     WORDS_AS_DUE();
 
     /* After the last tick a batch ends, and the next one is refused. */
-    set_number(528, UINT32_MAX - 1);
+    set_number(528, FIRST_UNTAKEN - 1);
     SAME(SW_OK, batch(stream, 2, 1, EXAMPLE_WORDS, SW_MAX_BATCH_REPORT));
     SAME(1, taken);
+    SAME(FIRST_UNTAKEN, number_at(528));
     SAME(SW_TICKS_USED_UP, batch(stream, 2, 1, EXAMPLE_WORDS, SW_MAX_BATCH_REPORT));
     WORDS_AS_DUE();
 }

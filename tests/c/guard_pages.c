@@ -160,6 +160,12 @@ static void sheets(void)
     }
 }
 
+/* So many words of a report, of 64 bits each, in place 3. */
+static void *report_at(size_t words)
+{
+    return at(3, sizeof(uint64_t) * words);
+}
+
 /* The example opened with so many history bytes; its state is left in place 0. */
 static uint32_t open_example(size_t history, size_t words)
 {
@@ -172,13 +178,13 @@ static uint32_t open_example(size_t history, size_t words)
 static uint32_t step(size_t history, size_t words, size_t report)
 {
     return sw_step(at(0, SW_STATE_BYTES), 1, at(1, history), history, at(2, 4 * words), words,
-                   at(3, 4 * report), report, answer(4), answer(5));
+                   report_at(report), report, answer(4), answer(5));
 }
 
 static uint32_t steps(size_t flags, size_t history, size_t words, size_t report)
 {
     return sw_steps(at(0, SW_STATE_BYTES), at(4, flags), flags, at(1, history), history, at(2, 4 * words), words,
-                    at(3, 4 * report), report, answer(5), answer(6), answer(7));
+                    report_at(report), report, answer(5), answer(6), answer(7));
 }
 
 /* Histories, tables, reports and flags in every length. */
@@ -230,13 +236,13 @@ static uint32_t set_open(size_t sheet, size_t rules, size_t history, size_t word
 static uint32_t set_step(size_t rules, size_t history, size_t words, size_t report)
 {
     return sw_set_step(at(8, TWO), TWO, records_at(rules), rules, 1, at(1, history), history, at(2, 4 * words), words,
-                       at(3, 4 * report), report, answer(5), answer(6));
+                       report_at(report), report, answer(5), answer(6));
 }
 
 static uint32_t set_steps(size_t flags, size_t rules, size_t history, size_t words, size_t report)
 {
     return sw_set_steps(at(8, TWO), TWO, records_at(rules), rules, at(4, flags), flags, at(1, history), history,
-                        at(2, 4 * words), words, at(3, 4 * report), report, answer(5), answer(6), answer(7));
+                        at(2, 4 * words), words, report_at(report), report, answer(5), answer(6), answer(7));
 }
 
 /* Sheets, records, histories, tables, reports and flags in every length. */
@@ -275,9 +281,9 @@ static void sets(void)
     for (size_t sheet = 0; sheet <= TWO + MORE; sheet++) {
         uint32_t due = unless(TWO, sheet, SW_STATE_NOT_OPENED);
         SAME(due, sw_set_step(two(sheet), sheet, records_at(RULES), RULES, 1, at(1, 4), 4, at(2, 4 * TWO_WORDS), TWO_WORDS,
-                              at(3, 8 * TWO_PAIRS), 2 * TWO_PAIRS, answer(5), answer(6)));
+                              report_at(2 * TWO_PAIRS), 2 * TWO_PAIRS, answer(5), answer(6)));
         SAME(due, sw_set_steps(two(sheet), sheet, records_at(RULES), RULES, at(4, 6), 6, at(1, 4), 4, at(2, 4 * TWO_WORDS),
-                               TWO_WORDS, at(3, 12 * TWO_PAIRS), 3 * TWO_PAIRS, answer(5), answer(6), answer(7)));
+                               TWO_WORDS, report_at(3 * TWO_PAIRS), 3 * TWO_PAIRS, answer(5), answer(6), answer(7)));
     }
     two(TWO);
     SAME(SW_CELL_TABLE_TOO_SHORT, set_step(0, 4, TWO_WORDS, 2 * TWO_PAIRS));
@@ -343,20 +349,20 @@ static void calendar_steps(void)
         SAME(SW_OK, sw_calendar_open(lent(3, sheet, SHEET), SHEET, 0, at(1, 4), 4, at(2, 4 * WORDS), WORDS,
                                      words_at(words), words, at(0, SW_STATE_BYTES)));
         for (; taken < 66; taken++)
-            SAME(SW_OK, sw_calendar_step(at(0, SW_STATE_BYTES), 8, at(1, 4), 4, at(2, 4 * WORDS), WORDS, at(3, 12), 3,
+            SAME(SW_OK, sw_calendar_step(at(0, SW_STATE_BYTES), 8, at(1, 4), 4, at(2, 4 * WORDS), WORDS, report_at(3), 3,
                                          words_at(words), words, answer(5), answer(6)));
         for (size_t flags = 0; taken < 140; taken += (uint32_t)flags++) {
             memset(at(4, flags), 8, flags);
             SAME(SW_OK, sw_calendar_steps(at(0, SW_STATE_BYTES), at(4, flags), flags, at(1, 4), 4, at(2, 4 * WORDS), WORDS,
-                                          at(3, 24), 6, words_at(words), words, answer(5), answer(6), answer(7)));
+                                          report_at(6), 6, words_at(words), words, answer(5), answer(6), answer(7)));
             SAME((uint32_t)flags, (uint32_t)*(size_t *)answer(5));
         }
         ask(words, 0, UINT64_MAX, kept_of(words, 0, taken));
         SAME(SW_HISTORY_LENGTH, sw_calendar_open(lent(3, sheet, SHEET), SHEET, 0, at(1, 0), 0, at(2, 4 * WORDS), WORDS,
                                                  words_at(words), words, at(0, SW_STATE_BYTES)));
-        SAME(SW_REPORT_TOO_SHORT, sw_calendar_step(at(0, SW_STATE_BYTES), 0, at(1, 4), 4, at(2, 4 * WORDS), WORDS, at(3, 8), 2,
+        SAME(SW_REPORT_TOO_SHORT, sw_calendar_step(at(0, SW_STATE_BYTES), 0, at(1, 4), 4, at(2, 4 * WORDS), WORDS, report_at(2), 2,
                                                    words_at(words), words, answer(5), answer(6)));
-        SAME(SW_CELL_TABLE_TOO_SHORT, sw_calendar_steps(at(0, SW_STATE_BYTES), at(4, 1), 1, at(1, 4), 4, at(2, 0), 0, at(3, 24), 6,
+        SAME(SW_CELL_TABLE_TOO_SHORT, sw_calendar_steps(at(0, SW_STATE_BYTES), at(4, 1), 1, at(1, 4), 4, at(2, 0), 0, report_at(6), 6,
                                                         words_at(words), words, answer(5), answer(6), answer(7)));
         ask(words, 0, UINT64_MAX, kept_of(words, 0, taken));
     }

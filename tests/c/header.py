@@ -77,11 +77,13 @@ def texts():
 
 
 def record():
-    """The header's record: the names of its words, which are all of 32 bits and have nothing between them."""
+    """The header's record: the names of its numbers and how many bits each has. Nothing lies between them."""
     declared = re.search(r"^typedef struct \{\n(.*?)^\} sw_running;$", HEADER, re.M | re.S).group(1)
-    words = re.findall(r"^    uint32_t (\w+);", declared, re.M)
-    same("lines of the record", len(declared.splitlines()), len(words))
-    return type("Running", (ctypes.Structure,), {"_fields_": [(word, ctypes.c_uint32) for word in words]})
+    numbers = re.findall(r"^    uint(16|32|64)_t (\w+);", declared, re.M)
+    same("lines of the record", len(declared.splitlines()), len(numbers))
+    types = {"16": ctypes.c_uint16, "32": ctypes.c_uint32, "64": ctypes.c_uint64}
+    same("bytes of the record's numbers", 32, sum(int(bits) for bits, _ in numbers) // 8)
+    return type("Running", (ctypes.Structure,), {"_fields_": [(name, types[bits]) for bits, name in numbers]})
 
 
 def sets():
@@ -93,13 +95,14 @@ def sets():
     rules, history_figure, cells_figure, pairs_figure = size(), number(), number(), number()
     answer = library.sw_set_figures(sheet, size(len(sheet)), *map(ctypes.byref, (rules, history_figure, cells_figure, pairs_figure)))
     same("figures of the set", (0, 2, 1, 22, 4), (answer, rules.value, history_figure.value, cells_figure.value, pairs_figure.value))
-    records, history, cells, report = (running * 3)(), (ctypes.c_uint8 * 1)(7), (bits * 88)(), (bits * 8)()
+    records, history, cells, report = (running * 3)(), (ctypes.c_uint8 * 1)(7), (bits * 88)(), (number * 8)()
     same("opening the set", 0, library.sw_set_open(sheet, size(len(sheet)), records, size(3), history, size(1), cells, size(88)))
     due = [
-        {"start": 9, "size": 3, "first": 0, "cells": 1, "delay": 0, "opened": 1, "next": 0, "live": 0},
-        {"start": 12, "size": 17, "first": 1, "cells": 21, "delay": 2, "opened": 1, "next": 0, "live": 0},
+        {"start": 9, "size": 3, "first": 0, "cells": 1, "delay": 0, "opened": 1, "live": 0, "next": 0},
+        {"start": 12, "size": 17, "first": 1, "cells": 21, "delay": 2, "opened": 1, "live": 0, "next": 0},
     ]
-    seen = [{word: getattr(one, word) for word in due[0]} for one in records]
+    same("names of a record's numbers", list(due[0]), [name for name, _ in running._fields_])
+    seen = [{name: getattr(one, name) for name in due[0]} for one in records]
     same("records of the set", due + [dict.fromkeys(due[0], 0)], seen)
     for flag, due_pairs, live in ((0, [0, 0], (0, 0)), (1, [], (0, 0)), (1, [], (0, 1)), (0, [0, 3], (0, 0))):
         pairs, all_live = size(), size()
@@ -108,6 +111,22 @@ def sets():
         same("a step of the set", (0, due_pairs, sum(live)), (answer, report[: 2 * pairs.value], all_live.value))
         same("live counts of the records", live, tuple(one.live for one in records[:2]))
     same("next ticks of the records", [4, 4, 0], [one.next for one in records])
+    last_ticks(running, sheet, records, history, cells)
+
+
+def last_ticks(running, sheet, records, history, cells):
+    """The set again, from a next tick that was put into its records: the report tells ticks above 32 bits, and 20 comes from tick 2^62 on. It is three times
+    some number later than the 4 that they had, so that the ticks of both rules find their cells."""
+    size = ctypes.c_size_t
+    for tick, due_answer in ((2**32 + 6, 0), (2**62 - 3, 0), (2**62, 20), (2**64 - 1, 20)):
+        copies, table, bytes_ = (running * 3)(*records), (ctypes.c_uint32 * 88)(*cells), (ctypes.c_uint8 * 1)(*history)
+        for one in copies[:2]:
+            one.next = tick
+        report, pairs, live = (ctypes.c_uint64 * 8)(*[7] * 8), size(55), size(66)
+        answer = library.sw_set_step(sheet, size(len(sheet)), copies, size(3), ctypes.c_uint8(0), bytes_, size(1), table, size(88), report, size(8),
+                                     ctypes.byref(pairs), ctypes.byref(live))
+        told = (1, 0, [0, tick] + [7] * 6, [tick + 1] * 2) if due_answer == 0 else (55, 66, [7] * 8, [tick] * 2)
+        same(f"a step of the set at {tick}", (due_answer, *told), (answer, pairs.value, live.value, report[:], [one.next for one in copies[:2]]))
 
 
 def answered(function, *given):
@@ -120,7 +139,7 @@ def calendars():
     """Flag 0 at X, with the words of one run and three more: flag bytes 1, 0 and 129, and then 128 at tick 9."""
     size, number, byte = ctypes.c_size_t, ctypes.c_uint64, ctypes.c_uint8
     sheet, state, history, cells = bytes.fromhex("01 05000300 010000"), (byte * 544)(), (byte * 1)(), (ctypes.c_uint32 * 4)()
-    words, report = (number * 11)(*[5] * 11), (ctypes.c_uint32 * 2)()
+    words, report = (number * 11)(*[5] * 11), (number * 2)()
     library.sw_calendar_clear.restype = library.sw_calendar_fill.restype = None
     answer = library.sw_calendar_open(sheet, size(len(sheet)), size(0), history, size(0), cells, size(4), words, size(11), state)
     same("opening with a calendar", (0, [0] * 8 + [5] * 3), (answer, words[:]))

@@ -28,7 +28,7 @@ struct Stepped {
     history: Vec<u8>,
     cells: Vec<u32>,
     /// The report of a step, and of a batch.
-    ticks: Vec<u32>,
+    ticks: Vec<u64>,
     pairs: Vec<Pair>,
     words: Option<Vec<u64>>,
     batch: bool,

@@ -90,7 +90,7 @@ impl Watched {
         let needed = flags.len().min(left.try_into().unwrap_or(usize::MAX));
         let (drawn, calendars, rules) = (self.drawn, &mut self.calendars, &mut self.rules);
         self.set.steps(&flags[..needed], |Triple { rule, tick, step }| {
-            let (rule, tick, step) = (rule as usize, tick.into(), step.into());
+            let rule = rule as usize;
             if drawn.has(tick) {
                 let (calendar, flag) = place(rule);
                 recorded::fill(&mut calendars[calendar], tick, &[1 << flag]);

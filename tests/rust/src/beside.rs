@@ -198,7 +198,7 @@ struct Memory {
     state: State,
     history: Vec<u8>,
     cells: Vec<u32>,
-    report: Vec<u32>,
+    report: Vec<u64>,
 }
 
 impl Memory {

@@ -6,6 +6,7 @@ mod calendars;
 mod calls;
 mod empty_ranges;
 mod formula_counts;
+mod high_ticks;
 mod runs;
 mod set_calls;
 mod set_runs;
@@ -25,6 +26,7 @@ pub use empty_ranges::{
     empty_range_runs, empty_range_sets,
 };
 pub use formula_counts::{formula_counts, typed_formula_counts};
+pub use high_ticks::{high_runs, high_set_runs, HighTally};
 pub use runs::{run, Plan, Tally};
 pub use set_calls::{set_figures, set_opening};
 pub use set_runs::{set_run, SetTally};

@@ -507,19 +507,19 @@ fn set_parts<'a>(
     records: &'a mut [Running],
     history: &'a mut [u8],
     cells: &'a mut [u32],
-    report: &'a mut [u32],
+    report: &'a mut [u64],
 ) -> SetLent<'a> {
     SetLent { records, history, cells, report }
 }
 
 /// What a step of a set wrote at the guard pages, into what was lent.
-fn give_back(lent: SetLent, records: &[Running], history: &[u8], cells: &[u32], report: &[u32]) {
+fn give_back(lent: SetLent, records: &[Running], history: &[u8], cells: &[u32], report: &[u64]) {
     lent.records.copy_from_slice(records);
     lent.history.copy_from_slice(history);
     lent.cells.copy_from_slice(cells);
     lent.report.copy_from_slice(report);
 }
 
-fn parts<'a>(history: &'a mut [u8], cells: &'a mut [u32], report: &'a mut [u32]) -> StepLent<'a> {
+fn parts<'a>(history: &'a mut [u8], cells: &'a mut [u32], report: &'a mut [u64]) -> StepLent<'a> {
     StepLent { history, cells, report }
 }

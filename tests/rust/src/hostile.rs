@@ -9,6 +9,7 @@
 //! records (`sets`, `set_lot`, `records`), and of steps with a calendar (`calendars`).
 
 mod calendars;
+mod high_ticks;
 mod lengths;
 mod lot;
 mod set_lengths;
@@ -23,6 +24,8 @@ use crate::paper::{CELL_WORDS, MAX_HISTORY, MAX_TICKS};
 use crate::random::{self, Random, Rule, WriterInput};
 use crate::states::{number_at, put_number, LIVE_AT, NEXT_AT, OPENED_AT, SIZE_AT};
 pub use calendars::{calendar_states, empty_calendars, every_calendar_length, huge_calendars};
+use high_ticks::HIGH_TICKS;
+pub use high_ticks::{high_records, high_states};
 pub use lengths::every_length;
 use lot::{batch, honest, step, Lot};
 pub use set_lengths::{
@@ -43,7 +46,7 @@ pub fn random_states(library: &dyn Library, seed: u64, count: usize) -> Check<Nu
         let history_length = random.pick(&[0, 1, 2, 7, 64, 255, MAX_HISTORY, MAX_HISTORY + 1]);
         let (words, room) = (random.pick(&[0, 3, 12, 84, 900, 16_384]), random.size(0, 300));
         let (history, cells) = (random.bytes(history_length), random_table(&mut random, words));
-        let mut lot = Lot::new(&state, &history, &cells, &random.words(room));
+        let mut lot = Lot::new(&state, &history, &cells, &random.long_words(room));
         take_some(library, &mut random, &mut lot, 3, &mut numbers)?;
     }
     Ok(numbers)
@@ -116,7 +119,7 @@ fn forged_lot(random: &mut Random, rule: &Rule) -> Lot {
     let one = rule.figures.delay as usize + 1;
     let room = random.pick(&[one, 2 * one, 2 * one + 3, 8 * one, 2 * one - 1, one - 1, 0]);
     let (history, cells) = (random.bytes(length), random_table(random, words));
-    Lot::new(&state, &history, &cells, &random.words(room))
+    Lot::new(&state, &history, &cells, &random.long_words(room))
 }
 
 fn forged_state(random: &mut Random, rule: &Rule) -> Vec<u8> {
@@ -125,6 +128,7 @@ fn forged_state(random: &mut Random, rule: &Rule) -> Vec<u8> {
     let sizes = [0, size - 1, size + 1, 512, 513, 65_536 + size, (1 << 32) + size, u64::MAX];
     let long = [least.saturating_sub(1), 4096, 4097, 65_536 + least, (1 << 32) + least, u64::MAX];
     let late = [MAX_TICKS, MAX_TICKS - 1, MAX_TICKS - 2, MAX_TICKS + 1, u64::MAX];
+    let late = [&late[..], &HIGH_TICKS].concat();
     let early = random.below(1 << 20) as u64;
     let live = random.below(300) as u64;
     let mut state = random.bytes(STATE_BYTES);
@@ -284,17 +288,27 @@ pub fn forged_lengths(library: &dyn Library) -> Check<u64> {
     Ok(refused)
 }
 
-/// "20: the tick to be taken is 4,294,967,295." No test can take so many steps;
+/// "20 comes for every tick from 4,611,686,018,427,387,904 on." No test can take so many steps;
 /// the tick is put into the state. For each tick: what a step answered, what a
 /// batch of two flags after it answered, and how many of them it took.
 pub const DUE_TICKS: &[(u64, u32, u32, usize)] = &[
+    ((1 << 32) - 3, 0, 0, 2),
+    ((1 << 32) - 2, 0, 0, 2),
+    ((1 << 32) - 1, 0, 0, 2),
+    (1 << 32, 0, 0, 2),
+    (1 << 61, 0, 0, 2),
+    (MAX_TICKS - 4, 0, 0, 2),
     (MAX_TICKS - 3, 0, 0, 2),
     (MAX_TICKS - 2, 0, 0, 1),
     (MAX_TICKS - 1, 0, 20, 0),
     (MAX_TICKS, 20, 20, 0),
-    (MAX_TICKS + 1, 21, 21, 0),
-    (MAX_TICKS + 6, 21, 21, 0),
-    (u64::MAX, 21, 21, 0),
+    (MAX_TICKS + 1, 20, 20, 0),
+    (MAX_TICKS + 6, 20, 20, 0),
+    ((1 << 63) - 1, 20, 20, 0),
+    (1 << 63, 20, 20, 0),
+    ((1 << 63) + MAX_TICKS, 20, 20, 0),
+    (u64::MAX - 1, 20, 20, 0),
+    (u64::MAX, 20, 20, 0),
 ];
 
 /// What came for the ticks of `DUE_TICKS`.

@@ -6,7 +6,7 @@ pub const STATE_BYTES: usize = 544;
 
 pub type State = [u8; STATE_BYTES];
 
-/// A record of a set: a running rule, in eight words.
+/// A record of a set: a running rule, in 32 bytes.
 #[derive(Clone, Copy, Debug, Default, PartialEq, Eq)]
 #[repr(C)]
 pub struct Running {
@@ -16,22 +16,52 @@ pub struct Running {
     /// Its part of the cell table, in cells.
     pub first: u32,
     pub cells: u32,
-    pub delay: u32,
-    /// The opened history's length, and the next tick, the same in all records.
-    pub opened: u32,
-    pub next: u32,
+    pub delay: u16,
+    /// The opened history's length, the same in all records.
+    pub opened: u16,
     pub live: u32,
+    /// The next tick, the same in all records.
+    pub next: u64,
 }
 
 impl Running {
+    /// The record that these 32 bytes are.
     pub fn of_words(words: [u32; 8]) -> Running {
-        let [start, size, first, cells, delay, opened, next, live] = words;
-        Running { start, size, first, cells, delay, opened, next, live }
+        let [start, size, first, cells, delay_opened, live, low, high] = words;
+        Running {
+            start,
+            size,
+            first,
+            cells,
+            delay: delay_opened as u16,
+            opened: (delay_opened >> 16) as u16,
+            live,
+            next: u64::from(high) << 32 | u64::from(low),
+        }
     }
 
-    pub fn words(self) -> [u32; 8] {
-        let Running { start, size, first, cells, delay, opened, next, live } = self;
-        [start, size, first, cells, delay, opened, next, live]
+    /// Its numbers in their order, and how many bits each has.
+    pub fn numbers(self) -> [(u64, u32); 8] {
+        let Running { start, size, first, cells, delay, opened, live, next } = self;
+        let [start, size, first, cells, live] =
+            [start, size, first, cells, live].map(|number| (u64::from(number), 32));
+        let [delay, opened] = [delay, opened].map(|number| (u64::from(number), 16));
+        [start, size, first, cells, delay, opened, live, (next, 64)]
+    }
+
+    /// The record with another number at a place, of which it takes the bits that it has.
+    pub fn with_number(mut self, at: usize, number: u64) -> Running {
+        match at {
+            0 => self.start = number as u32,
+            1 => self.size = number as u32,
+            2 => self.first = number as u32,
+            3 => self.cells = number as u32,
+            4 => self.delay = number as u16,
+            5 => self.opened = number as u16,
+            6 => self.live = number as u32,
+            _ => self.next = number,
+        }
+        self
     }
 }
 
@@ -92,14 +122,14 @@ pub struct SetLent<'a> {
     pub records: &'a mut [Running],
     pub history: &'a mut [u8],
     pub cells: &'a mut [u32],
-    pub report: &'a mut [u32],
+    pub report: &'a mut [u64],
 }
 
 /// What a step is lent.
 pub struct StepLent<'a> {
     pub history: &'a mut [u8],
     pub cells: &'a mut [u32],
-    pub report: &'a mut [u32],
+    pub report: &'a mut [u64],
 }
 
 impl StepLent<'_> {
@@ -382,7 +412,7 @@ mod linked {
             cells: &[u32],
         ) -> u32 {
             // SAFETY: what slices cover, and what is written is borrowed alone; a record is
-            // eight words here and there (tests/header.rs).
+            // the same 32 bytes here and there (tests/header.rs).
             unsafe {
                 sw_set_open(
                     sheet.as_ptr(),

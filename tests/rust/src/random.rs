@@ -73,7 +73,13 @@ impl Random {
         (0..count).map(|_| self.byte()).collect()
     }
 
+    /// Words of a cell table.
     pub fn words(&mut self, count: usize) -> Vec<u32> {
         (0..count).map(|_| self.word() as u32).collect()
+    }
+
+    /// Words of a report.
+    pub fn long_words(&mut self, count: usize) -> Vec<u64> {
+        (0..count).map(|_| self.word()).collect()
     }
 }

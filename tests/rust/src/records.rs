@@ -25,10 +25,10 @@ pub fn fresh(opened: &OpenedSet) -> Vec<Running> {
             size: rule.size as u32,
             first: own,
             cells,
-            delay: rule.figures.delay as u32,
-            opened: opened.history_length as u32,
-            next: 0,
+            delay: rule.figures.delay as u16,
+            opened: opened.history_length as u16,
             live: 0,
+            next: 0,
         }
     };
     opened.rules.iter().map(&mut record).collect()
@@ -69,7 +69,7 @@ pub fn admit_step(
     if lent.report < opened.needed_report() {
         return Err(19);
     }
-    if u64::from(looked_at[0].next) == MAX_TICKS {
+    if looked_at[0].next >= MAX_TICKS {
         return Err(20);
     }
     Ok(opened)

@@ -109,9 +109,18 @@ pub enum Flaw {
     RefusesAndWrites,
     TrustsLength,
     ShortHistoryIs17,
-    CutsTicks,
     TakesTickTooMany,
     BatchTakesTickTooMany,
+    // Ticks above 32 bits, and the last ones.
+    CutsTicks,
+    ReportsIn32Bits,
+    BatchStepsIn32Bits,
+    HistoryIn32Bits,
+    CellsIn32Bits,
+    EndsAt32Bits,
+    EndsOneEarly,
+    HighTickIs21,
+    HighTickFirst,
     SizeOfTwoBytes,
     BodyByItsNumber,
     RefusesHighLive,
@@ -236,10 +245,11 @@ impl StandIn {
             size %= 65_536;
         }
         if self.has(Flaw::CutsTicks) {
-            tick %= MAX_TICKS + 1;
+            tick %= 1 << 32;
         }
         let too_long = length > MAX_HISTORY as u64 && !self.has(Flaw::TrustsLength);
-        if size > MAX_BODY as u64 || too_long || tick > MAX_TICKS {
+        let too_late = tick > MAX_TICKS && self.has(Flaw::HighTickIs21);
+        if size > MAX_BODY as u64 || too_long || too_late {
             return Err(21);
         }
         let by_21 = |number| if self.has(Flaw::BodyByItsNumber) { number } else { 21 };
@@ -255,6 +265,20 @@ impl StandIn {
         Ok(Held { opened, tick, live })
     }
 
+    /// "17, 18, 19, 20, in this order".
+    fn step_refusal(&self, opened: &Opened, lengths: Lengths, tick: u64) -> Option<Refusal> {
+        let first_untaken = match self.flaw {
+            Flaw::EndsAt32Bits => u32::MAX.into(),
+            Flaw::EndsOneEarly => MAX_TICKS - 1,
+            _ => MAX_TICKS,
+        };
+        if self.has(Flaw::HighTickFirst) && tick >= first_untaken {
+            return Some(20);
+        }
+        let refusal = paper::step_refusal(opened, lengths, tick);
+        refusal.or((tick >= first_untaken).then_some(20))
+    }
+
     fn refusal(&self, held: &Held, lent: &StepLent) -> Option<Refusal> {
         let mut lengths = Lengths {
             history: lent.history.len(),
@@ -264,13 +288,13 @@ impl StandIn {
         if self.has(Flaw::TakesShortReport) && lengths.report + 1 == held.opened.needed_report() {
             lengths.report += 1;
         }
-        let refusal = paper::step_refusal(&held.opened, lengths, held.tick);
+        let refusal = self.step_refusal(&held.opened, lengths, held.tick);
         let short_table = lengths.table < held.opened.needed_words();
         let short_report = lengths.report < held.opened.needed_report();
         match refusal {
             Some(17) if self.has(Flaw::TableBeforeHistory) && short_table => Some(18),
             Some(18) if self.has(Flaw::ReportBeforeTable) && short_report => Some(19),
-            Some(20) if self.has(Flaw::TakesTickTooMany) => None,
+            Some(20) if self.has(Flaw::TakesTickTooMany) && held.tick == MAX_TICKS => None,
             None if self.has(Flaw::RefusesOverwritten)
                 && held.tick > 0
                 && lent.cells[held.opened.needed_words() - 1] != sum(lent.history) =>
@@ -294,15 +318,18 @@ impl StandIn {
         let delay = held.opened.figures.delay as usize;
         let mut recording = vec![0; t + 1 - begin];
         for q in t.saturating_sub(kept + delay)..t {
-            recording[q - begin] =
-                if q + kept >= t { history[q % history.len()] } else { cells[q % delay] as u8 };
+            recording[q - begin] = if q + kept >= t {
+                history[q % history.len()]
+            } else {
+                cells[self.slot(q, delay)] as u8
+            };
         }
         recording[t - begin] = flag;
         (begin, recording)
     }
 
     /// One step that nothing refuses: the report and the live count.
-    fn take(&self, held: &Held, flag: u8, lent: &mut StepLent) -> (Vec<u32>, usize) {
+    fn take(&self, held: &Held, flag: u8, lent: &mut StepLent) -> (Vec<u64>, usize) {
         let t = held.tick as usize;
         if self.has(Flaw::StoresFirst) {
             self.store(t, flag, lent.history);
@@ -324,7 +351,7 @@ impl StandIn {
         flag: u8,
         history: &[u8],
         cells: &mut [u32],
-    ) -> (Vec<u32>, usize) {
+    ) -> (Vec<u64>, usize) {
         let t = held.tick as usize;
         let figures = held.opened.figures;
         let (begin, recording) = self.recording(held, flag, history, cells);
@@ -332,9 +359,16 @@ impl StandIn {
         if figures.delay > 0 && t as u64 >= figures.history {
             // The history forgets this one first; it may be needed still.
             let leaving = t - figures.history as usize;
-            cells[leaving % figures.delay as usize] = recording[leaving - begin] as u32;
+            let slot = self.slot(leaving, figures.delay as usize);
+            cells[slot] = recording[leaving - begin] as u32;
         }
         answer
+    }
+
+    /// Where the cells keep the byte of a tick that the history has forgotten.
+    fn slot(&self, tick: usize, delay: usize) -> usize {
+        let cut = self.has(Flaw::CellsIn32Bits);
+        (if cut { tick % (1 << 32) } else { tick }) % (delay + 1)
     }
 
     fn store(&self, t: usize, flag: u8, history: &mut [u8]) {
@@ -342,7 +376,11 @@ impl StandIn {
         if length == 0 || self.has(Flaw::LeavesHistory) {
             return;
         }
-        let at = if self.has(Flaw::WrapsLate) { t % (length + 1) } else { t % length };
+        let at = match self.flaw {
+            Flaw::WrapsLate => t % (length + 1),
+            Flaw::HistoryIn32Bits => t % (1 << 32) % length,
+            _ => t % length,
+        };
         if at < length {
             history[at] = flag;
         }
@@ -351,7 +389,7 @@ impl StandIn {
         }
     }
 
-    fn judge(&self, held: &Held, begin: usize, recording: &[u8]) -> (Vec<u32>, usize) {
+    fn judge(&self, held: &Held, begin: usize, recording: &[u8]) -> (Vec<u64>, usize) {
         let t = begin + recording.len() - 1;
         let delay = held.opened.figures.delay as usize;
         let formula = self.meant(&held.opened.formula);
@@ -364,13 +402,13 @@ impl StandIn {
                 if p + delay > t {
                     live += 1;
                 } else if is_false {
-                    report.push(p as u32);
+                    report.push(p as u64);
                 }
                 continue;
             }
             match outcome {
                 Outcome::Decided(Verdict::False, step) if step == (t - begin) as i64 => {
-                    report.push(p as u32)
+                    report.push(p as u64)
                 }
                 Outcome::Decided(..) => {}
                 Outcome::Open => live += 1,
@@ -381,6 +419,9 @@ impl StandIn {
         }
         if self.has(Flaw::ReportsDescending) {
             report.reverse();
+        }
+        if self.has(Flaw::ReportsIn32Bits) {
+            report.iter_mut().for_each(|tick| *tick %= 1 << 32);
         }
         (report, live + self.has(Flaw::CountsOneMore) as usize)
     }
@@ -395,7 +436,7 @@ impl StandIn {
         }
     }
 
-    fn advance(&self, held: &mut Held, flag: u8, lent: &mut StepLent) -> Vec<u32> {
+    fn advance(&self, held: &mut Held, flag: u8, lent: &mut StepLent) -> Vec<u64> {
         let (report, live) = self.take(held, flag, lent);
         held.tick += 1;
         held.live = live as u64;
@@ -570,7 +611,7 @@ impl Library for StandIn {
             table: lent.cells.len(),
             report: held.opened.needed_report(),
         };
-        if let Some(number) = paper::step_refusal(&held.opened, whole_report, held.tick) {
+        if let Some(number) = self.step_refusal(&held.opened, whole_report, held.tick) {
             return number;
         }
         if self.has(Flaw::BatchAnswers19) && lent.report.len() < needed {
@@ -583,7 +624,8 @@ impl Library for StandIn {
             if full || used_up {
                 break;
             }
-            let step = held.tick as u32;
+            let cut = self.has(Flaw::BatchStepsIn32Bits);
+            let step = if cut { held.tick % (1 << 32) } else { held.tick };
             for tick in self.advance(&mut held, flag, &mut lent) {
                 let pair =
                     if self.has(Flaw::BatchSwapsPairs) { [step, tick] } else { [tick, step] };

@@ -4,7 +4,7 @@
 //! nothing open there (crates/demand/specs/Contract.antt: `admit-lengths`, `Batched`).
 
 use crate::library::{State, STATE_BYTES};
-use crate::paper::{self, Lengths, Opened, Refusal, MAX_BODY, MAX_DELAY, MAX_HISTORY, MAX_TICKS};
+use crate::paper::{self, Lengths, Opened, Refusal, MAX_BODY, MAX_DELAY, MAX_HISTORY};
 
 /// Where the numbers lie: the body's size, the opened history's length, the
 /// next tick, the live count.
@@ -49,10 +49,11 @@ fn body(state: &[u8]) -> &[u8] {
 }
 
 /// What a step that is lent these lengths stands on, or the number it is refused
-/// with. 21 comes first, for a state that no opening gives; then 17 to 20.
+/// with. 21 comes first, for a state that no opening gives; then 17 to 20. A next tick that
+/// no steps leave is not 21, but 20, in its place.
 pub fn admit_step(state: &[u8], lent: Lengths) -> Result<Opened, Refusal> {
     let (length, next) = (number_at(state, OPENED_AT), number_at(state, NEXT_AT));
-    if next > MAX_TICKS || length > MAX_HISTORY as u64 {
+    if length > MAX_HISTORY as u64 {
         return Err(21);
     }
     let formula = paper::read_body(body(state)).map_err(|_| 21u32)?;

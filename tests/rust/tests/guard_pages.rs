@@ -49,6 +49,13 @@ fn runs() {
     on_both_sides(|library| compare::runs(library, 3_009, 500, 50_000));
 }
 
+/// Ticks above 32 bits.
+#[test]
+fn high_runs() {
+    on_both_sides(|library| compare::high_runs(library, 3_043, 150));
+    on_both_sides(|library| compare::high_set_runs(library, 3_044, 60));
+}
+
 /// The body of an always empty range has no cells of its own.
 #[test]
 fn always_empty_ranges() {
@@ -77,6 +84,7 @@ fn states() {
     on_both_sides(|library| hostile::overwritten_histories(library, 3_019, 300));
     on_both_sides(hostile::forged_lengths);
     on_both_sides(hostile::forged_ticks);
+    on_both_sides(|library| hostile::high_states(library, 3_041, 100));
 }
 
 #[test]
@@ -105,6 +113,7 @@ fn records() {
     on_both_sides(|library| hostile::overwritten_sets(library, 3_029, 40));
     on_both_sides(|library| hostile::set_step_orders(library, 3_030, 10));
     on_both_sides(hostile::forged_set_ticks);
+    on_both_sides(|library| hostile::high_records(library, 3_042, 50));
     on_both_sides(hostile::forged_set_lengths);
     on_both_sides(hostile::empty_set_slices);
     on_both_sides(hostile::huge_set_lengths);

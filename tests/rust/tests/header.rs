@@ -80,37 +80,42 @@ fn the_same_names_and_numbers() {
     assert_eq!(defined, wrapped());
 }
 
-/// The words of the header's record, in their order.
-fn words_of_a_record() -> Vec<&'static str> {
-    let (words, _) = HEADER.split_once("} sw_running;").expect("the header has the record");
-    let (_, words) = words.rsplit_once("typedef struct {\n").expect("a struct begins with this");
-    let word = |line: &'static str| {
-        let declared = line.trim_start().strip_prefix("uint32_t ")?;
-        Some(declared.split_once(';')?.0)
+/// The numbers of the header's record, in their order, and how many bits each has.
+fn numbers_of_a_record() -> Vec<(&'static str, usize)> {
+    let (lines, _) = HEADER.split_once("} sw_running;").expect("the header has the record");
+    let (_, lines) = lines.rsplit_once("typedef struct {\n").expect("a struct begins with this");
+    let number = |line: &'static str| {
+        let (bits, declared) = line.trim_start().strip_prefix("uint")?.split_once("_t ")?;
+        Some((declared.split_once(';')?.0, bits.parse().ok()?))
     };
-    words.lines().map(|line| word(line).expect("each line declares a word")).collect()
+    lines.lines().map(|line| number(line).expect("each line declares a number")).collect()
 }
 
-/// The name of each word of a record and where it lies, in the wrapper's and in the tests' own.
+/// The name of each number of a record and where it lies, in the wrapper's and in the tests'
+/// own.
 macro_rules! offsets {
-    ($($word:ident)*) => {
+    ($($number:ident)*) => {
         [$((
-            stringify!($word),
-            offset_of!(station_watch::Running, $word),
-            offset_of!(Running, $word),
+            stringify!($number),
+            offset_of!(station_watch::Running, $number),
+            offset_of!(Running, $number),
         )),*]
     };
 }
 
-/// A record is eight words, end to end as in C.
+/// A record is eight numbers, end to end as in C.
 #[test]
 fn the_same_record() {
-    let offsets = offsets!(start size first cells delay opened next live);
-    let names: Vec<&str> = offsets.iter().map(|offset| offset.0).collect();
-    assert_eq!(names, words_of_a_record());
-    for (place, (name, wrapped, own)) in offsets.into_iter().enumerate() {
-        assert_eq!((wrapped, own), (4 * place, 4 * place), "{name}");
+    let offsets = offsets!(start size first cells delay opened live next);
+    let mut place = 0;
+    for ((name, bits), (own_name, wrapped, own)) in numbers_of_a_record().into_iter().zip(offsets) {
+        assert_eq!(own_name, name);
+        assert_eq!((wrapped, own), (place, place), "{name}");
+        place += bits / 8;
     }
+    assert_eq!((numbers_of_a_record().len(), place), (offsets.len(), 32));
+    let bits = Running::default().numbers().map(|(_, bits)| bits as usize);
+    assert!(numbers_of_a_record().iter().map(|number| number.1).eq(bits));
     assert_eq!((size_of::<station_watch::Running>(), size_of::<Running>()), (32, 32));
-    assert_eq!((align_of::<station_watch::Running>(), align_of::<Running>()), (4, 4));
+    assert_eq!((align_of::<station_watch::Running>(), align_of::<Running>()), (8, 8));
 }

@@ -29,6 +29,10 @@ const FORGED_RECORDS: usize = 8_000;
 /// Sets whose memory is overwritten, twelve calls each; and forty, where one rule is spared.
 const OVERWRITTEN_SETS: usize = 300;
 const SPARED_RULES: usize = 200;
+/// Rules and sets forged to stand at each of sixteen ticks, two calls at each, and three more
+/// where ticks end.
+const HIGH_STATES: usize = 1_000;
+const HIGH_RECORDS: usize = 300;
 /// States with a calendar beside them, some ten calls each.
 const CALENDAR_STATES: usize = 4_000;
 
@@ -78,6 +82,21 @@ fn forged_lengths() {
 #[test]
 fn forged_ticks() {
     assert_eq!(hostile::forged_ticks(&Linked), Ok(hostile::DUE_TICKS.to_vec()));
+}
+
+/// 20 for a tick from 2^62 on, which are 7 of 16, and for no other.
+#[test]
+fn high_states() {
+    let numbers = hostile::high_states(&Linked, 2_018, HIGH_STATES).unwrap();
+    let count = 2 * HIGH_STATES as u64;
+    assert_eq!((numbers.of(0), numbers.of(20)), (9 * count, 7 * count), "{numbers:?}");
+}
+
+#[test]
+fn high_records() {
+    let numbers = hostile::high_records(&Linked, 2_019, HIGH_RECORDS).unwrap();
+    let count = 2 * HIGH_RECORDS as u64;
+    assert_eq!((numbers.of(0), numbers.of(20)), (9 * count, 7 * count), "{numbers:?}");
 }
 
 #[test]

@@ -1,7 +1,8 @@
 //! The Rattle library against the paper (feature `library`). The sizes are
 //! chosen so that all of this takes well under three minutes.
 
-use rust_tests::compare::{self, SetTally, Tally};
+use rust_tests::beside::{beside, Words};
+use rust_tests::compare::{self, HighTally, SetTally, Tally};
 use rust_tests::library::{Library, Linked};
 use rust_tests::notation::*;
 use rust_tests::paper::{write_body, BODY_REFUSALS, RULE_REFUSALS};
@@ -45,6 +46,10 @@ const CALENDARS: usize = 600;
 const CALENDAR_RULES: u64 = 2_500;
 const CALENDAR_STEPS: u64 = 250_000;
 const CALENDAR_OPENINGS: usize = 6_000;
+
+/// Rules, and sets of 1 to 6 rules, that go on at ticks above 32 bits, some sixty steps each.
+const HIGH_RULES: u64 = 3_000;
+const HIGH_SETS: u64 = 1_000;
 
 /// The same with rules of which one range in four is always empty.
 const EMPTY_RANGE_BODIES: usize = 7_000;
@@ -261,6 +266,36 @@ fn set_limits() {
     let numbers = compare::set_orders(&Linked, 1_020).unwrap();
     assert!(numbers.each_at_least(RULE_REFUSALS, 40), "{numbers:?}");
     assert!(numbers.each_at_least(&[0, 1, 2, 17, 18], 9), "{numbers:?}");
+}
+
+/// The runs at high ticks were worth it.
+fn check_high_tally(tally: &HighTally, runs: u64) {
+    assert_eq!(tally.runs, runs, "{tally:?}");
+    assert!(tally.across > runs / 3 && tally.ended > runs / 6, "{tally:?}");
+    assert!(tally.steps > 30 * runs && tally.batches > 3 * runs, "{tally:?}");
+    assert!(tally.violations > 3 * runs && tally.decided_across > runs / 10, "{tally:?}");
+    assert!(tally.live > 10 * runs && tally.live_at_the_end > runs / 10, "{tally:?}");
+}
+
+/// Across tick 2^32, up to the last tick, and elsewhere above 32 bits: as from tick 0.
+#[test]
+fn high_runs() {
+    check_high_tally(&compare::high_runs(&Linked, 1_030, HIGH_RULES).unwrap(), HIGH_RULES);
+}
+
+#[test]
+fn high_set_runs() {
+    check_high_tally(&compare::high_set_runs(&Linked, 1_031, HIGH_SETS).unwrap(), HIGH_SETS);
+}
+
+/// With a calendar beside it, whose words keep none of these ticks.
+#[test]
+fn high_calendar_runs() {
+    let suite = |library: &dyn Library| compare::high_runs(library, 1_032, HIGH_RULES / 6);
+    let (tally, calendar) = beside(&Linked, 1_033, Words::Any, suite).unwrap();
+    check_high_tally(&tally, HIGH_RULES / 6);
+    assert!(calendar.past > tally.steps && calendar.batches > tally.batches, "{calendar:?}");
+    assert!(calendar.refused.of(20) >= 3 * tally.ended, "{calendar:?}");
 }
 
 #[test]

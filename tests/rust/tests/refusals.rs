@@ -407,18 +407,25 @@ fn steps() {
         step_refusal(&opened, Lengths { history, table, report }, tick)
     };
     assert_eq!(number(5, 84, 3, 0), None);
-    assert_eq!(number(5, 84, 3, 4_294_967_294), None);
+    assert_eq!(number(5, 84, 3, 4_294_967_295), None);
+    assert_eq!(number(5, 84, 3, LAST_TICK), None);
     // Not of length L, though long enough.
     assert_eq!(number(6, 84, 3, 0), Some(17));
     assert_eq!(number(4, 84, 3, 0), Some(17));
     assert_eq!(number(5, 83, 3, 0), Some(18));
     assert_eq!(number(5, 84, 2, 0), Some(19));
-    assert_eq!(number(5, 84, 3, 4_294_967_295), Some(20));
-    // In this order.
-    assert_eq!(number(0, 0, 0, 4_294_967_295), Some(17));
-    assert_eq!(number(5, 0, 0, 4_294_967_295), Some(18));
-    assert_eq!(number(5, 84, 0, 4_294_967_295), Some(19));
+    for tick in UNTAKEN {
+        assert_eq!(number(5, 84, 3, tick), Some(20));
+        // In this order.
+        assert_eq!(number(0, 0, 0, tick), Some(17));
+        assert_eq!(number(5, 0, 0, tick), Some(18));
+        assert_eq!(number(5, 84, 0, tick), Some(19));
+    }
 }
+
+/// The last tick that is taken, and some after it.
+const LAST_TICK: u64 = 4_611_686_018_427_387_903;
+const UNTAKEN: [u64; 4] = [LAST_TICK + 1, LAST_TICK + 2, 1 << 63, u64::MAX];
 
 /// The same on a state's bytes, where 21 comes before all others.
 #[test]
@@ -433,15 +440,19 @@ fn steps_on_state_bytes() {
     };
     let next = |tick, lengths| number(states::NEXT_AT, tick, lengths);
     assert_eq!(next(0, right), (0, 0));
-    assert_eq!(next(4_294_967_294, right), (0, 0));
-    assert_eq!(next(4_294_967_295, right), (20, 20));
-    assert_eq!(next(4_294_967_295, Lengths { report: 2, ..right }), (19, 20));
+    assert_eq!(next(4_294_967_295, right), (0, 0));
+    assert_eq!(next(LAST_TICK, right), (0, 0));
+    for tick in UNTAKEN {
+        assert_eq!(next(tick, right), (20, 20));
+        assert_eq!(next(tick, Lengths { report: 2, ..right }), (19, 20));
+        assert_eq!(next(tick, Lengths { table: 83, report: 2, ..right }), (18, 18));
+        assert_eq!(next(tick, Lengths { history: 4, table: 83, report: 2 }), (17, 17));
+    }
     assert_eq!(next(0, Lengths { report: 2, ..right }), (19, 0));
     assert_eq!(next(0, Lengths { table: 83, report: 2, ..right }), (18, 18));
     assert_eq!(next(0, Lengths { history: 4, table: 83, report: 2 }), (17, 17));
     let wrong = Lengths { history: 4, table: 0, report: 0 };
     for lengths in [right, wrong] {
-        assert_eq!(next(4_294_967_296, lengths), (21, 21));
         // L above 4,096, and below the history figure, which is 1.
         assert_eq!(number(states::OPENED_AT, 4097, lengths), (21, 21));
         assert_eq!(number(states::OPENED_AT, 0, lengths), (21, 21));
@@ -509,19 +520,21 @@ fn set_steps() {
     let right = SetLengths { history: 5, ..RIGHT };
     let number = |lengths, tick| set_step_refusal(&opened, lengths, tick);
     assert_eq!(number(right, 0), None);
-    assert_eq!(number(right, 4_294_967_294), None);
+    assert_eq!(number(right, 4_294_967_295), None);
+    assert_eq!(number(right, LAST_TICK), None);
     assert_eq!(number(SetLengths { history: 6, ..right }, 0), Some(17));
     assert_eq!(number(SetLengths { table: 87, ..right }, 0), Some(18));
     assert_eq!(number(SetLengths { records: 1, ..right }, 0), Some(18));
     assert_eq!(number(SetLengths { report: 7, ..right }, 0), Some(19));
-    assert_eq!(number(right, 4_294_967_295), Some(20));
-    // In this order; where no record is lent, no opened length is known.
-    let last = 4_294_967_295;
-    let none = SetLengths { records: 1, history: 0, table: 0, report: 0 };
-    assert_eq!(number(none, last), Some(17));
-    assert_eq!(number(SetLengths { records: 0, ..none }, last), Some(18));
-    assert_eq!(number(SetLengths { history: 5, ..none }, last), Some(18));
-    assert_eq!(number(SetLengths { report: 0, ..right }, last), Some(19));
+    for tick in UNTAKEN {
+        assert_eq!(number(right, tick), Some(20));
+        // In this order; where no record is lent, no opened length is known.
+        let none = SetLengths { records: 1, history: 0, table: 0, report: 0 };
+        assert_eq!(number(none, tick), Some(17));
+        assert_eq!(number(SetLengths { records: 0, ..none }, tick), Some(18));
+        assert_eq!(number(SetLengths { history: 5, ..none }, tick), Some(18));
+        assert_eq!(number(SetLengths { report: 0, ..right }, tick), Some(19));
+    }
 }
 
 fn opened_set() -> OpenedSet {
@@ -531,8 +544,12 @@ fn opened_set() -> OpenedSet {
 /// What an opening writes: the example's sheet has its bodies at 9 and 12.
 #[test]
 fn fresh_records() {
-    let due = [[9, 3, 0, 1, 0, 1, 0, 0], [12, 17, 1, 21, 2, 1, 0, 0]].map(Running::of_words);
-    assert_eq!(records::fresh(&opened_set()), due);
+    let due = [[9, 3, 0, 1, 0, 1, 0, 0], [12, 17, 1, 21, 2, 1, 0, 0]];
+    let seen = records::fresh(&opened_set());
+    assert_eq!(seen.len(), due.len());
+    for (record, due) in seen.into_iter().zip(due) {
+        assert_eq!(record.numbers().map(|(number, _)| number), due);
+    }
 }
 
 /// The same on records, where 21 comes before all others.
@@ -550,12 +567,21 @@ fn steps_on_records() {
     assert_eq!(number(|_| (), SetLengths { records: 1, report: 7, ..RIGHT }), (18, 18));
     assert_eq!(number(|_| (), SetLengths { history: 2, table: 0, ..RIGHT }), (17, 17));
     assert_eq!(number(|_| (), SetLengths { records: 0, history: 2, ..RIGHT }), (18, 18));
-    assert_eq!(number(|all| all.iter_mut().for_each(|one| one.next = u32::MAX), RIGHT), (20, 20));
+    assert_eq!(number(|all| all.iter_mut().for_each(|one| one.next = LAST_TICK), RIGHT), (0, 0));
+    let untaken: [fn(&mut [Running]); 3] = [
+        |all| all.iter_mut().for_each(|one| one.next = LAST_TICK + 1),
+        |all| all.iter_mut().for_each(|one| one.next = 1 << 63),
+        |all| all.iter_mut().for_each(|one| one.next = u64::MAX),
+    ];
+    for change in untaken {
+        assert_eq!(number(change, RIGHT), (20, 20));
+        assert_eq!(number(change, SetLengths { report: 7, ..RIGHT }), (19, 20));
+    }
     assert_eq!(number(|all| all[0].live = 99, RIGHT), (0, 0));
     // A record that is not lent is not looked at.
     assert_eq!(number(|all| all[1].cells = 9, SetLengths { records: 1, ..RIGHT }), (18, 18));
     let wrong = SetLengths { records: 2, history: 4, table: 0, report: 0 };
-    let changes: [fn(&mut [Running]); 12] = [
+    let changes: [fn(&mut [Running]); 13] = [
         |all| all[0].start = u32::MAX,
         |all| all[1].start = u32::MAX - 16,
         |all| all[1].size = 18,
@@ -565,6 +591,7 @@ fn steps_on_records() {
         |all| all[1].delay = 1,
         |all| all[1].opened = 2,
         |all| all[1].next = 1,
+        |all| all[1].next = 1 << 32,
         |all| all.iter_mut().for_each(|one| one.opened = 4097),
         |all| all.iter_mut().for_each(|one| one.opened = 0),
         |all| all.swap(0, 1),

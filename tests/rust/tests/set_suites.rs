@@ -33,6 +33,14 @@ fn the_right_one_passes_runs() {
 }
 
 #[test]
+fn the_right_one_passes_high_runs() {
+    let tally = compare::high_set_runs(&RIGHT, 525, 20).unwrap();
+    assert_eq!(tally.runs, 20, "{tally:?}");
+    assert!(tally.across > 4 && tally.ended > 1, "{tally:?}");
+    assert!(tally.violations > 60 && tally.decided_across > 1, "{tally:?}");
+}
+
+#[test]
 fn the_right_one_passes_hostile_input() {
     let numbers = hostile::random_records(&RIGHT, 504, 600).unwrap();
     assert!(numbers.of(21) > 1_500 && numbers.each_at_least(&[0, 17, 18], 5), "{numbers:?}");
@@ -59,6 +67,8 @@ fn the_right_one_passes_lengths() {
     assert!(numbers.each_at_least(&[0, 17, 18, 19, 20, 21], 10), "{numbers:?}");
     assert_eq!(hostile::forged_set_ticks(&RIGHT), Ok(hostile::DUE_SET_TICKS.to_vec()));
     assert_eq!(hostile::forged_set_lengths(&RIGHT), Ok(16));
+    let numbers = hostile::high_records(&RIGHT, 524, 8).unwrap();
+    assert_eq!((numbers.of(0), numbers.of(20)), (144, 112), "{numbers:?}");
     assert_eq!(hostile::empty_set_slices(&RIGHT), Ok(()));
     assert_eq!(hostile::huge_set_lengths(&RIGHT), Ok(()));
 }
@@ -119,6 +129,14 @@ fn step_orders(library: &dyn Library) -> Check {
 
 fn ticks(library: &dyn Library) -> Check {
     hostile::forged_set_ticks(library).map(|_| ())
+}
+
+fn high_records(library: &dyn Library) -> Check {
+    hostile::high_records(library, 526, 4).map(|_| ())
+}
+
+fn high_runs(library: &dyn Library) -> Check {
+    compare::high_set_runs(library, 527, 20).map(|_| ())
 }
 
 fn lengths(library: &dyn Library) -> Check {
@@ -204,6 +222,19 @@ const CAUGHT: &[(SetFlaw, Suite, &str)] = &[
     (SetFlaw::BatchAnswers19, every_length, "answered 19, due is 0"),
     (SetFlaw::BatchForgetsLive, runs, "a batch"),
     (SetFlaw::BatchTakesTickTooMany, ticks, "a tick too many"),
+    (SetFlaw::BatchTakesTickTooMany, high_runs, "at tick"),
+    (SetFlaw::ComparesLowTicks, disturbed, "due is 21"),
+    (SetFlaw::MovesLowTick, ticks, "the records are not as due"),
+    (SetFlaw::MovesLowTick, high_runs, "at tick"),
+    (SetFlaw::CutsTicks, high_runs, "at tick"),
+    (SetFlaw::CutsTicks, high_records, "is not as due"),
+    (SetFlaw::ReportsIn32Bits, high_runs, "due is"),
+    (SetFlaw::BatchStepsIn32Bits, high_runs, "due is"),
+    (SetFlaw::BatchStepsIn32Bits, high_records, "of its steps"),
+    (SetFlaw::EndsAt32Bits, ticks, "answered 20, due is 0"),
+    (SetFlaw::EndsAt32Bits, high_runs, "answered 20"),
+    (SetFlaw::HighTickIs21, ticks, "answered 21, due is 20"),
+    (SetFlaw::HighTickIs21, forged, "answered 21, due is"),
     (SetFlaw::TakesEmptyBatch, empty, "answered 0, due is 21"),
     (SetFlaw::TakesEmptyBatch, every_length, "answered 0, due is"),
 ];
@@ -221,7 +252,7 @@ fn each_wrong_one_is_caught() {
 /// The same suites pass without a flaw, so that it is the flaw they caught.
 #[test]
 fn the_catching_suites_pass_the_right_one() {
-    let suites: [Suite; 16] = [
+    let suites: [Suite; 18] = [
         openings,
         sums,
         orders,
@@ -236,6 +267,8 @@ fn the_catching_suites_pass_the_right_one() {
         every_length,
         step_orders,
         ticks,
+        high_records,
+        high_runs,
         lengths,
         empty,
     ];

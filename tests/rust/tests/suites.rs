@@ -50,6 +50,14 @@ fn the_right_one_passes_runs() {
 }
 
 #[test]
+fn the_right_one_passes_high_runs() {
+    let tally = compare::high_runs(&RIGHT, 339, 60).unwrap();
+    assert_eq!(tally.runs, 60, "{tally:?}");
+    assert!(tally.across > 20 && tally.ended > 9, "{tally:?}");
+    assert!(tally.violations > 180 && tally.decided_across > 5, "{tally:?}");
+}
+
+#[test]
 fn the_right_one_passes_texts() {
     let numbers = compare::texts(&RIGHT, 322, 4_000).unwrap();
     assert!(numbers.each_at_least(&[0, 7, 8, 9, 24, 25, 26], 20), "{numbers:?}");
@@ -78,6 +86,8 @@ fn the_right_one_passes_hostile_input() {
     assert_eq!(hostile::overwritten_histories(&RIGHT, 310, 100), Ok(3_000));
     assert_eq!(hostile::forged_lengths(&RIGHT), Ok(96));
     assert_eq!(hostile::forged_ticks(&RIGHT), Ok(hostile::DUE_TICKS.to_vec()));
+    let numbers = hostile::high_states(&RIGHT, 338, 20).unwrap();
+    assert_eq!((numbers.of(0), numbers.of(20)), (360, 280), "{numbers:?}");
     let numbers = hostile::every_length(&RIGHT, 336, 1).unwrap();
     assert!(numbers.total() > 20_000, "{numbers:?}");
     assert_eq!(hostile::empty_slices(&RIGHT), Ok(()));
@@ -172,6 +182,14 @@ fn forged_lengths(library: &dyn Library) -> Check {
 
 fn forged_ticks(library: &dyn Library) -> Check {
     hostile::forged_ticks(library).map(|_| ())
+}
+
+fn high_states(library: &dyn Library) -> Check {
+    hostile::high_states(library, 340, 10).map(|_| ())
+}
+
+fn high_runs(library: &dyn Library) -> Check {
+    compare::high_runs(library, 341, 40).map(|_| ())
 }
 
 /// Each flaw, the suite that must catch it, and a word of what it must say.
@@ -287,8 +305,26 @@ const CAUGHT: &[(Flaw, Suite, &str)] = &[
     (Flaw::TrustsLength, forged_lengths, "answered 17, due is 21"),
     (Flaw::TrustsLength, forged, "answered 17, due is 21"),
     (Flaw::ShortHistoryIs17, forged, "answered 17, due is 21"),
-    (Flaw::CutsTicks, forged_ticks, "answered 0, due is 21"),
-    (Flaw::CutsTicks, forged, ", due is 21"),
+    (Flaw::CutsTicks, forged_ticks, "the state is not as due"),
+    (Flaw::CutsTicks, forged, "the state is not as due"),
+    (Flaw::CutsTicks, high_states, "the state is not as due"),
+    (Flaw::CutsTicks, high_runs, "at tick"),
+    (Flaw::ReportsIn32Bits, high_runs, "due is"),
+    (Flaw::BatchStepsIn32Bits, high_runs, "due is"),
+    (Flaw::BatchStepsIn32Bits, high_states, "of its steps"),
+    (Flaw::HistoryIn32Bits, high_runs, "are not as from 0"),
+    (Flaw::HistoryIn32Bits, high_states, "the history is not as due"),
+    (Flaw::CellsIn32Bits, high_runs, "are not as from 0"),
+    (Flaw::EndsAt32Bits, forged_ticks, "answered 20, due is 0"),
+    (Flaw::EndsAt32Bits, high_runs, "answered 20"),
+    (Flaw::EndsOneEarly, forged_ticks, "answered 20, due is 0"),
+    (Flaw::EndsOneEarly, high_runs, "answered 20"),
+    (Flaw::TakesTickTooMany, high_runs, "after the last tick: answered 0"),
+    (Flaw::BatchTakesTickTooMany, high_runs, "at tick"),
+    (Flaw::HighTickIs21, forged_ticks, "answered 21, due is 20"),
+    (Flaw::HighTickIs21, high_states, "answered 21, due is 20"),
+    (Flaw::HighTickIs21, forged, "answered 21, due is"),
+    (Flaw::HighTickFirst, forged, "answered 20, due is"),
     (Flaw::TakesTickTooMany, forged_ticks, "step answered 0, due is 20"),
     (Flaw::TakesTickTooMany, forged, "step answered 0, due is 20"),
     (Flaw::BatchTakesTickTooMany, forged_ticks, "a batch took a tick too many"),
@@ -315,7 +351,7 @@ fn each_wrong_one_is_caught() {
 /// The same suites pass without a flaw, so that it is the flaw they caught.
 #[test]
 fn the_catching_suites_pass_the_right_one() {
-    let suites: [Suite; 22] = [
+    let suites: [Suite; 24] = [
         runs,
         bodies,
         limits,
@@ -338,6 +374,8 @@ fn the_catching_suites_pass_the_right_one() {
         every_length,
         forged_lengths,
         forged_ticks,
+        high_states,
+        high_runs,
     ];
     for suite in suites {
         assert_eq!(suite(&RIGHT), Ok(()));

@@ -63,7 +63,7 @@ fn take(watch: &mut Watch, flags: &[u8], at_once: bool) -> Vec<Pair> {
 fn due_pairs(due: &mut paper::Watch, flags: &[u8]) -> Vec<Pair> {
     let mut pairs = Vec::new();
     for &flag in flags {
-        let step = due.tick() as u32;
+        let step = due.tick() as u64;
         pairs.extend(due.step(flag).report.into_iter().map(|tick| Pair { tick, step }));
     }
     pairs
@@ -192,7 +192,7 @@ fn take_set(set: &mut WatchSet, flags: &[u8], at_once: bool) -> Vec<Triple> {
 fn due_triples(due: &mut paper::SetWatch, flags: &[u8]) -> Vec<Triple> {
     let mut triples = Vec::new();
     for &flag in flags {
-        let step = due.tick() as u32;
+        let step = due.tick() as u64;
         let pairs = due.step(flag).pairs().into_iter();
         triples.extend(pairs.map(|[rule, tick]| Triple { rule, tick, step }));
     }

@@ -129,7 +129,7 @@ impl<'a> Run<'a> {
 
     fn step(&mut self, random: &mut Random, flag: u8, tally: &mut Tally) -> Check {
         let t = self.watch.tick();
-        let before = words_for(random, self.opened.needed_report());
+        let before = report_for(random, self.opened.needed_report());
         let mut report = Lent::new(&before);
         let (mut reported, mut live) = (Lent::one(MARK as usize), Lent::one(MARK as usize));
         let table = self.some_table(random);
@@ -231,7 +231,7 @@ impl<'a> Run<'a> {
         let foreign_before = random.bytes(lengths.history);
         let mut foreign = Lent::new(&foreign_before);
         let own = lengths.history == self.history.length();
-        let report_before = random.words(lengths.report);
+        let report_before = random.long_words(lengths.report);
         let mut report = Lent::new(&report_before);
         let mut answers = [MARK as usize; 3].map(Lent::one);
         let [first, second, third] = &mut answers;
@@ -311,7 +311,7 @@ impl<'a> Run<'a> {
         tally: &mut Tally,
     ) -> Check<usize> {
         let first = self.watch.tick();
-        let before = random.words(room);
+        let before = random.long_words(room);
         let mut report = Lent::new(&before);
         let mut lent_flags = Lent::new(flags);
         let mut answers = [MARK as usize; 3].map(Lent::one);
@@ -344,7 +344,7 @@ impl<'a> Run<'a> {
 
     /// What a batch must take and write: it stops before a step for which fewer
     /// than 2 * (delay + 1) report words are left.
-    fn due_batch(&mut self, flags: &[u8], room: usize, tally: &mut Tally) -> (usize, Vec<u32>) {
+    fn due_batch(&mut self, flags: &[u8], room: usize, tally: &mut Tally) -> (usize, Vec<u64>) {
         let mut words = Vec::new();
         for (taken, &flag) in flags.iter().enumerate() {
             if room - words.len() < 2 * self.opened.needed_report() {
@@ -354,7 +354,7 @@ impl<'a> Run<'a> {
             let due = self.taken(flag);
             count_step(tally, step, &due);
             for &tick in &due.report {
-                words.extend([tick, step as u32]);
+                words.extend([tick, step as u64]);
             }
         }
         (flags.len(), words)
@@ -364,7 +364,7 @@ impl<'a> Run<'a> {
     /// no refusal, and changes nothing but its answers.
     fn starved_batch(&mut self, random: &mut Random, room: usize, flags: &[u8]) -> Check {
         let before = self.memory();
-        let report_before = random.words(room);
+        let report_before = random.long_words(room);
         let mut report = Lent::new(&report_before);
         let mut answers = [MARK as usize; 3].map(Lent::one);
         let [taken, pairs, live] = &mut answers;
@@ -414,10 +414,16 @@ impl<'a> Run<'a> {
     }
 }
 
-/// As many words as needed, or a few more.
+/// As many words of a table as needed, or a few more.
 pub(super) fn words_for(random: &mut Random, needed: usize) -> Vec<u32> {
     let tail = random.pick(&[0, 0, 1, 3, 9]);
     random.words(needed + tail)
+}
+
+/// The same of a report.
+pub(super) fn report_for(random: &mut Random, needed: usize) -> Vec<u64> {
+    let tail = random.pick(&[0, 0, 1, 3, 9]);
+    random.long_words(needed + tail)
 }
 
 fn count_step(tally: &mut Tally, t: usize, answer: &paper::Answer) {

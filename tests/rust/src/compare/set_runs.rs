@@ -3,7 +3,7 @@
 //! Between the steps come refused ones, batches, and foreign writes into history bytes that are
 //! not among the last h flags.
 
-use super::runs::words_for;
+use super::runs::{report_for, words_for};
 use super::set_calls::noise;
 use super::{hex, Check, Numbers, MARK};
 use crate::demand;
@@ -67,7 +67,7 @@ struct Alone<'a> {
     state: State,
     history: Vec<u8>,
     cells: Vec<u32>,
-    report: Vec<u32>,
+    report: Vec<u64>,
 }
 
 impl<'a> Alone<'a> {
@@ -87,7 +87,7 @@ impl<'a> Alone<'a> {
     }
 
     /// The ticks that it reports, and how many live.
-    fn step(&mut self, flag: u8) -> Check<(&[u32], usize)> {
+    fn step(&mut self, flag: u8) -> Check<(&[u64], usize)> {
         let (mut reported, mut live) = (0, 0);
         let Alone { state, history, cells, report, .. } = self;
         let number = self.library.step(
@@ -187,7 +187,7 @@ impl<'a> SetRun<'a> {
 
     fn step(&mut self, random: &mut Random, flag: u8, tally: &mut SetTally) -> Check {
         let t = self.watch.tick();
-        let before = words_for(random, self.opened.needed_report());
+        let before = report_for(random, self.opened.needed_report());
         let mut report = Lent::new(&before);
         let mut answers = [MARK as usize; 2].map(Lent::one);
         let [pairs, live] = &mut answers;
@@ -215,7 +215,7 @@ impl<'a> SetRun<'a> {
         demand!(rest == &before[words.len()..], "step {t} wrote report words after its pairs");
         let guards = report.guards_hold() && answers.iter().all(Lent::guards_hold);
         demand!(guards, "step {t} wrote outside its report or answers");
-        let triples: Vec<_> = words.chunks(2).map(|pair| [pair[0], pair[1], t as u32]).collect();
+        let triples: Vec<_> = words.chunks(2).map(|pair| [pair[0], pair[1], t as u64]).collect();
         count_step(tally, t, &due);
         self.check_memory()?;
         self.check_alone(t, &[flag], &triples)
@@ -248,16 +248,16 @@ impl<'a> SetRun<'a> {
     }
 
     /// "Each rule's part equals what it reports when opened by itself".
-    fn check_alone(&mut self, first: usize, flags: &[u8], triples: &[[u32; 3]]) -> Check {
+    fn check_alone(&mut self, first: usize, flags: &[u8], triples: &[[u64; 3]]) -> Check {
         for (rule, alone) in self.alone.iter_mut().enumerate() {
             let (mut due, mut due_live) = (Vec::new(), 0);
-            for (step, &flag) in (first as u32..).zip(flags) {
+            for (step, &flag) in (first as u64..).zip(flags) {
                 let (ticks, live) = alone.step(flag)?;
-                due.extend(ticks.iter().map(|&tick| [rule as u32, tick, step]));
+                due.extend(ticks.iter().map(|&tick| [rule as u64, tick, step]));
                 due_live = live;
             }
-            let own = triples.iter().filter(|triple| triple[0] == rule as u32);
-            let part: Vec<[u32; 3]> = own.copied().collect();
+            let own = triples.iter().filter(|triple| triple[0] == rule as u64);
+            let part: Vec<[u64; 3]> = own.copied().collect();
             demand!(part == due, "rule {rule} reported {part:?}, alone {due:?}");
             let live = self.records.seen()[rule].live as usize;
             let same = flags.is_empty() || live == due_live;
@@ -315,7 +315,7 @@ impl<'a> SetRun<'a> {
         let foreign_before = random.bytes(lengths.history);
         let mut foreign = Lent::new(&foreign_before);
         let own = lengths.history == self.history.length();
-        let report_before = random.words(lengths.report);
+        let report_before = random.long_words(lengths.report);
         let mut report = Lent::new(&report_before);
         let mut answers = [MARK as usize; 3].map(Lent::one);
         let lent = SetLent {
@@ -390,7 +390,7 @@ impl<'a> SetRun<'a> {
         tally: &mut SetTally,
     ) -> Check<usize> {
         let first = self.watch.tick();
-        let before = random.words(room);
+        let before = random.long_words(room);
         let mut report = Lent::new(&before);
         let mut lent_flags = Lent::new(flags);
         let mut answers = [MARK as usize; 3].map(Lent::one);
@@ -427,7 +427,7 @@ impl<'a> SetRun<'a> {
         flags: &[u8],
         room: usize,
         tally: &mut SetTally,
-    ) -> (usize, Vec<[u32; 3]>) {
+    ) -> (usize, Vec<[u64; 3]>) {
         let mut triples = Vec::new();
         for (taken, &flag) in flags.iter().enumerate() {
             if room < 3 * (triples.len() + self.opened.most_pairs()) {
@@ -436,7 +436,7 @@ impl<'a> SetRun<'a> {
             let step = self.watch.tick();
             let due = self.taken(flag);
             count_step(tally, step, &due);
-            triples.extend(due.pairs().iter().map(|&[rule, tick]| [rule, tick, step as u32]));
+            triples.extend(due.pairs().iter().map(|&[rule, tick]| [rule, tick, step as u64]));
         }
         (flags.len(), triples)
     }

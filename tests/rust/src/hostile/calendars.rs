@@ -4,8 +4,8 @@
 
 use super::lengths::{openings, steps};
 use super::{
-    damaged_states, forged_lengths, forged_states, forged_ticks, overwritten_histories,
-    random_states,
+    damaged_states, forged_lengths, forged_states, forged_ticks, high_states,
+    overwritten_histories, random_states,
 };
 use crate::beside::{beside, CalendarTally, Words};
 use crate::compare::{self, Check, Numbers, FLAGS, MARK};
@@ -26,6 +26,7 @@ pub fn calendar_states(library: &dyn Library, seed: u64, count: usize) -> Check<
         overwritten_histories(library, seed + 3, count / 10)?;
         forged_lengths(library)?;
         forged_ticks(library)?;
+        high_states(library, seed + 4, count / 40)?;
         Ok(())
     };
     Ok(beside(library, seed, Words::Any, suite)?.1)

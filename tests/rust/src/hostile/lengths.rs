@@ -178,7 +178,7 @@ pub(super) fn steps(library: &dyn Library, random: &mut Random, numbers: &mut Nu
             both(library, random, Lot { cells: Lent::new(&cells), ..lot.clone() }, numbers)?;
         }
         for words in 0..=report + MORE {
-            let other = Lot { report: Lent::new(&random.words(words)), ..lot.clone() };
+            let other = Lot { report: Lent::new(&random.long_words(words)), ..lot.clone() };
             both(library, random, other, numbers)?;
         }
     }

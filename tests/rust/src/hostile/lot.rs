@@ -16,11 +16,11 @@ pub struct Lot {
     pub state: Lent<u8>,
     pub history: Lent<u8>,
     pub cells: Lent<u32>,
-    pub report: Lent<u32>,
+    pub report: Lent<u64>,
 }
 
 impl Lot {
-    pub fn new(state: &[u8], history: &[u8], cells: &[u32], report: &[u32]) -> Lot {
+    pub fn new(state: &[u8], history: &[u8], cells: &[u32], report: &[u64]) -> Lot {
         Lot {
             state: Lent::new(state),
             history: Lent::new(history),
@@ -193,7 +193,7 @@ fn check_pairs(lot: &Lot, before: &Lot, opened: &Opened, taken: usize, pairs: us
     for step in (before.next_tick()..).take(taken) {
         let has_room = 2 * (written + opened.needed_report()) <= room;
         demand!(has_room, "a batch took step {step} with {written} pairs in {room} words");
-        let of_step = |pair: &&[u32]| pair[1] as u64 == step;
+        let of_step = |pair: &&[u64]| pair[1] == step;
         let own = report[2 * written..2 * pairs].chunks(2).take_while(of_step).count();
         demand!(own <= opened.needed_report(), "a batch wrote {own} pairs of step {step}");
         written += own;

@@ -7,7 +7,7 @@ use crate::compare::{self, Check, Numbers, MARK};
 use crate::demand;
 use crate::lent::Lent;
 use crate::library::{Library, Running, SetLent, SetStepAnswer, SetStepsAnswer};
-use crate::paper::{SetLengths, CELL_WORDS, MAX_HISTORY, MAX_RULES};
+use crate::paper::{SetLengths, CELL_WORDS, MAX_HISTORY, MAX_RULES, MAX_TICKS};
 use crate::random::{self, Random, Rule};
 
 /// How often each number was answered, by all calls on sets together.
@@ -113,7 +113,7 @@ fn lent_lengths(
         both(library, random, SetLot { cells: Lent::new(&cells), ..lot.clone() }, numbers)?;
     }
     for words in (0..=2 * report).step_by(3).chain(around(report)).chain(around(report / 2 * 3)) {
-        let other = SetLot { report: Lent::new(&random.words(words)), ..lot.clone() };
+        let other = SetLot { report: Lent::new(&random.long_words(words)), ..lot.clone() };
         both(library, random, other, numbers)?;
     }
     Ok(())
@@ -161,7 +161,7 @@ pub fn set_step_orders(library: &dyn Library, seed: u64, sets: usize) -> Check<N
 fn with_reasons(lot: &SetLot, needed: SetLengths, is: impl Fn(u32) -> bool) -> SetLot {
     let mut records = lot.records.seen().to_vec();
     if is(5) {
-        records.iter_mut().for_each(|record| record.next = u32::MAX);
+        records.iter_mut().for_each(|record| record.next = MAX_TICKS);
     }
     if is(0) {
         records[0].cells += 1;
@@ -178,21 +178,17 @@ fn with_reasons(lot: &SetLot, needed: SetLengths, is: impl Fn(u32) -> bool) -> S
     }
 }
 
-/// "20: the tick to be taken is 4,294,967,295." For each tick that is put into the records: what
-/// a step answered, what a batch of two flags after it answered, and how many it took.
-pub const DUE_SET_TICKS: &[(u32, u32, u32, usize)] = &[
-    (u32::MAX - 3, 0, 0, 2),
-    (u32::MAX - 2, 0, 0, 1),
-    (u32::MAX - 1, 0, 20, 0),
-    (u32::MAX, 20, 20, 0),
-];
+/// "20 comes for every tick from 4,611,686,018,427,387,904 on." For each tick that is put into
+/// the records: what a step answered, what a batch of two flags after it answered, and how many
+/// it took.
+pub const DUE_SET_TICKS: &[(u64, u32, u32, usize)] = super::DUE_TICKS;
 
 /// What came for the ticks of `DUE_SET_TICKS`.
-pub fn forged_set_ticks(library: &dyn Library) -> Check<Vec<(u32, u32, u32, usize)>> {
+pub fn forged_set_ticks(library: &dyn Library) -> Check<Vec<(u64, u32, u32, usize)>> {
     let mut random = Random::new(9);
     let rules = small_rules(&mut random, 3);
     let lot = honest_set(library, &mut random, &rules, 0, 2)?;
-    let forged = |due: &(u32, u32, u32, usize)| {
+    let forged = |due: &(u64, u32, u32, usize)| {
         let mut lot = lot.clone();
         lot.records.part().iter_mut().for_each(|record| record.next = due.0);
         let room = 9 * needed(&rules).report;
@@ -210,7 +206,7 @@ pub fn forged_set_lengths(library: &dyn Library) -> Check<u64> {
     let rules = small_rules(&mut random, 2);
     let lot = honest_set(library, &mut random, &rules, 0, 0)?;
     let mut refused = 0;
-    for opened in [4096, 4097, 4098, 65_536 + 40, u32::MAX] {
+    for opened in [4096, 4097, 4098, 40 << 10, u16::MAX] {
         for lent in [0, 40, MAX_HISTORY, MAX_HISTORY + 1] {
             let mut lot = SetLot { history: Lent::new(&vec![9; lent]), ..lot.clone() };
             lot.records.part().iter_mut().for_each(|record| record.opened = opened);
@@ -274,7 +270,7 @@ fn empty_set_steps(
 fn set_parts<'a>(
     records: &'a mut [Running],
     cells: &'a mut [u32],
-    report: &'a mut [u32],
+    report: &'a mut [u64],
 ) -> SetLent<'a> {
     SetLent { records, history: &mut [], cells, report }
 }

@@ -17,7 +17,7 @@ pub struct SetLot {
     pub records: Lent<Running>,
     pub history: Lent<u8>,
     pub cells: Lent<u32>,
-    pub report: Lent<u32>,
+    pub report: Lent<u64>,
 }
 
 impl SetLot {
@@ -57,7 +57,7 @@ impl SetLot {
 
     /// The next tick of the first record.
     fn next_tick(&self) -> u64 {
-        u64::from(self.records.seen()[0].next)
+        self.records.seen()[0].next
     }
 }
 
@@ -81,7 +81,7 @@ pub fn honest_set(
         records: Lent::new(&vec![Running::default(); rules.len() + further]),
         history: Lent::new(&random.bytes(history)),
         cells: Lent::new(&random.words(table)),
-        report: Lent::new(&random.words(6 * pairs as usize)),
+        report: Lent::new(&random.long_words(6 * pairs as usize)),
     };
     let (sheet, lent) = lot.lend();
     let number = library.set_open(sheet, lent.records, lent.history, lent.cells);
@@ -188,11 +188,11 @@ fn check_taken(
     let rules = opened.rules.len();
     let mut due = before.records.seen().to_vec();
     for (record, seen) in due[..rules].iter_mut().zip(lot.records.seen()) {
-        record.next = next as u32;
+        record.next = next;
         record.live = if flags.is_empty() { record.live } else { seen.live };
     }
     demand!(lot.records.seen() == due, "{} steps: the records are not as due", flags.len());
-    let few = |record: &Running| flags.is_empty() || record.live <= record.delay + 1;
+    let few = |record: &Running| flags.is_empty() || record.live <= u32::from(record.delay) + 1;
     demand!(due[..rules].iter().all(few), "more than delay + 1 are live: {:?}", &due[..rules]);
     let sum: usize = due[..rules].iter().map(|record| record.live as usize).sum();
     demand!(live == sum, "{live} live in all, and {sum} in the records");
@@ -220,7 +220,7 @@ fn check_report(lot: &SetLot, before: &SetLot, own: usize) -> Check {
 }
 
 /// The rule numbers of one step's pairs ascend, and each comes at most delay + 1 times.
-fn check_pairs(opened: &OpenedSet, numbers: impl Iterator<Item = u32>) -> Check {
+fn check_pairs(opened: &OpenedSet, numbers: impl Iterator<Item = u64>) -> Check {
     let numbers: Vec<usize> = numbers.map(|number| number as usize).collect();
     demand!(numbers.is_sorted(), "pairs of the rules {numbers:?}");
     let most = |number: usize| opened.rules.get(number).map_or(0, |rule| rule.figures.delay + 1);
@@ -241,12 +241,12 @@ fn check_triples(
     triples: usize,
 ) -> Check {
     let room = lot.report.length();
-    let all: Vec<&[u32]> = lot.report.seen()[..3 * triples].chunks(3).collect();
+    let all: Vec<&[u64]> = lot.report.seen()[..3 * triples].chunks(3).collect();
     let mut written = 0;
     for step in (before.next_tick()..).take(taken) {
         let has_room = 3 * (written + opened.most_pairs()) <= room;
         demand!(has_room, "a batch took step {step} with {written} triples in {room} words");
-        let of_step = |triple: &&&[u32]| u64::from(triple[2]) == step;
+        let of_step = |triple: &&&[u64]| triple[2] == step;
         let own = all[written..].iter().take_while(of_step).count();
         check_pairs(opened, all[written..written + own].iter().map(|triple| triple[0]))?;
         written += own;

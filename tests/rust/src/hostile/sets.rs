@@ -2,12 +2,12 @@
 //! caught is said exactly, so the number of every call is checked (`set_lot`, `records`).
 
 use super::set_lot::{honest_set, set_batch, set_step, SetLot};
-use super::{overwrite, random_table};
+use super::{overwrite, random_table, HIGH_TICKS};
 use crate::compare::{hex, Check, Numbers};
 use crate::demand;
 use crate::lent::{Lent, Word};
 use crate::library::{Library, Running};
-use crate::paper::{self, set_rules, Watch, CELL_WORDS, MAX_HISTORY, MAX_RULES};
+use crate::paper::{self, set_rules, Watch, CELL_WORDS, MAX_HISTORY, MAX_RULES, MAX_TICKS};
 use crate::random::{self, Random, Rule};
 use crate::records;
 
@@ -26,7 +26,7 @@ pub fn random_records(library: &dyn Library, seed: u64, count: usize) -> Check<N
             records: Lent::new(&records),
             history: Lent::new(&random.bytes(length)),
             cells: Lent::new(&random_table(&mut random, words)),
-            report: Lent::new(&random.words(room)),
+            report: Lent::new(&random.long_words(room)),
         };
         take_some(library, &mut random, &mut lot, 3, &mut numbers)?;
     }
@@ -102,9 +102,10 @@ pub fn disturbed_records(library: &dyn Library, seed: u64, sets: usize) -> Check
         let lot = some_set(library, &mut random, 2)?;
         for place in 0..8 * lot.records.length() {
             let (record, at) = (place / 8, place % 8);
-            for number in others(&mut random, lot.records.seen()[record].words()[at]) {
+            let (number, bits) = lot.records.seen()[record].numbers()[at];
+            for number in others(&mut random, number, bits) {
                 let mut disturbed = lot.clone();
-                put_word(&mut disturbed, record, at, number);
+                put_number(&mut disturbed, record, at, number);
                 numbers.add(take_one(library, &mut random, &mut disturbed)?);
             }
         }
@@ -112,17 +113,16 @@ pub fn disturbed_records(library: &dyn Library, seed: u64, sets: usize) -> Check
     Ok(numbers)
 }
 
-/// Off by one, extreme, random; and one that adds up to little with the size, in 32 bits.
-fn others(random: &mut Random, number: u32) -> [u32; 8] {
+/// Off by one, extreme, with another bit at the top or in the middle, random; and one that adds
+/// up to little with the size, in 32 bits. All in so many bits.
+fn others(random: &mut Random, number: u64, bits: u32) -> [u64; 8] {
     let (more, less) = (number.wrapping_add(1), number.wrapping_sub(1));
-    let random_one = random.word() as u32;
-    [more, less, 0, u32::MAX, u32::MAX - 2, number ^ (1 << 31), number ^ (1 << 16), random_one]
+    let (top, middle) = (number ^ 1 << (bits - 1), number ^ 1 << (bits / 2));
+    [more, less, 0, u64::MAX, u64::MAX - 2, top, middle, random.word()]
 }
 
-fn put_word(lot: &mut SetLot, record: usize, at: usize, number: u32) {
-    let mut words = lot.records.seen()[record].words();
-    words[at] = number;
-    lot.records.part()[record] = Running::of_words(words);
+fn put_number(lot: &mut SetLot, record: usize, at: usize, number: u64) {
+    lot.records.part()[record] = lot.records.seen()[record].with_number(at, number);
 }
 
 /// Records exchanged, copied over one another, moved along; also with their first cells put
@@ -153,8 +153,8 @@ fn exchanged(random: &mut Random, lot: &SetLot, one: usize, other: usize) -> [Se
     copied.records.part()[one] = lot.records.seen()[other];
     let mut number = lot.clone();
     let at = random.below(8);
-    put_word(&mut number, one, at, lot.records.seen()[other].words()[at]);
-    put_word(&mut number, other, at, lot.records.seen()[one].words()[at]);
+    put_number(&mut number, one, at, lot.records.seen()[other].numbers()[at].0);
+    put_number(&mut number, other, at, lot.records.seen()[one].numbers()[at].0);
     let mut in_line = whole.clone();
     put_in_line(in_line.records.part());
     [whole, copied, number, in_line]
@@ -227,7 +227,8 @@ fn forged_lot(random: &mut Random) -> SetLot {
     let places = rule_places(&sheet);
     let count = random.size(1, MAX_RULES.min(3 + rules.len()));
     sheet[0] = count as u8;
-    let next = random.pick(&[0, 1, 5_000, u32::MAX - 2, u32::MAX - 1, u32::MAX]);
+    let next = random.pick(&[0, 1, 5_000, MAX_TICKS - 2, MAX_TICKS - 1, MAX_TICKS]);
+    let next = if random.one_in(4) { random.pick(&HIGH_TICKS) } else { next };
     let chosen: Vec<_> = (0..count).map(|_| random.pick(&places)).collect();
     let largest = chosen.iter().map(|place| place.history).max().unwrap_or(0);
     let opened = random.pick(&[largest, largest, largest + 1, largest.max(1) - 1, 4096, 4097]);
@@ -247,7 +248,7 @@ fn forged_lot(random: &mut Random) -> SetLot {
         records: Lent::new(&records),
         history: Lent::new(&random.bytes(length)),
         cells: Lent::new(&random_table(random, table)),
-        report: Lent::new(&random.words(room)),
+        report: Lent::new(&random.long_words(room)),
     }
 }
 
@@ -255,7 +256,7 @@ fn forged_lot(random: &mut Random) -> SetLot {
 #[derive(Clone, Copy)]
 struct RulePlace {
     record: Running,
-    history: u32,
+    history: u16,
 }
 
 /// All of them: the rules' own bodies, and the formulas in them that name no variable of a
@@ -271,10 +272,10 @@ fn rule_places(sheet: &[u8]) -> Vec<RulePlace> {
             start: start as u32,
             size: (end - start) as u32,
             cells: figures.cells as u32,
-            delay: figures.delay as u32,
+            delay: figures.delay as u16,
             ..Running::default()
         };
-        Some(RulePlace { record, history: figures.history as u32 })
+        Some(RulePlace { record, history: figures.history as u16 })
     };
     parts.filter_map(place).collect()
 }
@@ -303,7 +304,7 @@ pub fn summed_records(library: &dyn Library) -> Check<Numbers> {
 }
 
 /// What an opening would give, were the rules few enough, with memory for it.
-fn unopened(rules: &[Rule]) -> SetLot {
+pub(super) fn unopened(rules: &[Rule]) -> SetLot {
     let sheet = random::sheet_of_rules(rules);
     let rules = paper::sheet_rules(&sheet).expect("each rule opens by itself");
     let set = paper::OpenedSet { rules, history_length: MAX_HISTORY };
@@ -355,8 +356,8 @@ pub fn disturbed_neighbours(library: &dyn Library, seed: u64, sets: usize) -> Ch
             demand!(number == 0, "cells of others overwritten: answered {number}");
             let due = watch.step(flag);
             let words = lot.report.seen()[..2 * pairs].chunks(2);
-            let part: Vec<u32> =
-                words.filter(|pair| pair[0] == own as u32).map(|pair| pair[1]).collect();
+            let part: Vec<u64> =
+                words.filter(|pair| pair[0] == own as u64).map(|pair| pair[1]).collect();
             let live = lot.records.seen()[own].live as usize;
             let same = (&part, live) == (&due.report, due.live);
             demand!(same, "beside others: {part:?} and {live} live, due is {due:?}");

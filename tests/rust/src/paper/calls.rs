@@ -69,7 +69,7 @@ pub fn step_refusal(opened: &Opened, lent: Lengths, tick: u64) -> Option<Refusal
     if lent.report < opened.needed_report() {
         return Some(19);
     }
-    if tick == MAX_TICKS {
+    if tick >= MAX_TICKS {
         return Some(20);
     }
     None
@@ -78,7 +78,7 @@ pub fn step_refusal(opened: &Opened, lent: Lengths, tick: u64) -> Option<Refusal
 /// What a step answers: the report and how many are live.
 #[derive(Clone, Debug, PartialEq, Eq)]
 pub struct Answer {
-    pub report: Vec<u32>,
+    pub report: Vec<u64>,
     pub live: usize,
 }
 
@@ -90,7 +90,7 @@ pub fn answer_at(formula: &Formula, stream: &[u8]) -> Answer {
     let mut answer = Answer { report: Vec::new(), live: 0 };
     for p in 0..=t {
         match rule_outcome(formula, stream, p) {
-            Outcome::Decided(Verdict::False, step) if step == t => answer.report.push(p as u32),
+            Outcome::Decided(Verdict::False, step) if step == t => answer.report.push(p as u64),
             Outcome::Decided(..) => {}
             Outcome::Open => answer.live += 1,
         }
@@ -142,7 +142,7 @@ impl Watch {
             Outcome::Decided(Verdict::True, _) => false,
             Outcome::Decided(Verdict::False, step) => {
                 assert_eq!(step, t, "tick {p} was open a step ago");
-                report.push(p as u32);
+                report.push(p as u64);
                 false
             }
         });

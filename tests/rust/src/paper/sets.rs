@@ -109,7 +109,7 @@ pub fn set_step_refusal(opened: &OpenedSet, lent: SetLengths, tick: u64) -> Opti
     if lent.report < opened.needed_report() {
         return Some(19);
     }
-    if tick == MAX_TICKS {
+    if tick >= MAX_TICKS {
         return Some(20);
     }
     None
@@ -118,15 +118,15 @@ pub fn set_step_refusal(opened: &OpenedSet, lent: SetLengths, tick: u64) -> Opti
 /// What a step answers, rule by rule: the ticks reported and how many are live.
 #[derive(Clone, Debug)]
 pub struct SetAnswer {
-    pub reports: Vec<Vec<u32>>,
+    pub reports: Vec<Vec<u64>>,
     pub live: Vec<usize>,
 }
 
 impl SetAnswer {
     /// "Reports come as pairs, rule number and then tick, ascending by rule and then by tick".
-    pub fn pairs(&self) -> Vec<[u32; 2]> {
-        let of_rule = |(rule, ticks): (usize, &Vec<u32>)| {
-            ticks.iter().map(|&tick| [rule as u32, tick]).collect::<Vec<_>>()
+    pub fn pairs(&self) -> Vec<[u64; 2]> {
+        let of_rule = |(rule, ticks): (usize, &Vec<u64>)| {
+            ticks.iter().map(|&tick| [rule as u64, tick]).collect::<Vec<_>>()
         };
         self.reports.iter().enumerate().flat_map(of_rule).collect()
     }

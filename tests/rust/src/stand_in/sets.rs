@@ -58,11 +58,19 @@ pub enum SetFlaw {
     BatchForgetsLive,
     BatchTakesTickTooMany,
     TakesEmptyBatch,
+    // Ticks above 32 bits, and the last ones.
+    ComparesLowTicks,
+    MovesLowTick,
+    CutsTicks,
+    ReportsIn32Bits,
+    BatchStepsIn32Bits,
+    EndsAt32Bits,
+    HighTickIs21,
 }
 
 /// The pairs that a step reports, and how many live.
 struct Taken {
-    pairs: Vec<[u32; 2]>,
+    pairs: Vec<[u64; 2]>,
     live: usize,
 }
 
@@ -183,6 +191,11 @@ impl StandIn {
             Flaw::Set(SetFlaw::LooksAtFurther) if !further_go_along(rules, records) => {
                 return Err(21)
             }
+            Flaw::Set(SetFlaw::HighTickIs21)
+                if records.first().is_some_and(|lead| lead.next > MAX_TICKS) =>
+            {
+                return Err(21)
+            }
             _ => {}
         }
         let mut trusted_sheet = sheet.to_vec();
@@ -193,11 +206,14 @@ impl StandIn {
         let admitted = records::admit_step(&trusted_sheet, &trusted, lent);
         match admitted {
             Err(21) if self.in_set(SetFlaw::ShortHistoryIs17) => {
-                let longest = with_length(records, MAX_HISTORY as u32);
+                let longest = with_length(records, MAX_HISTORY as u16);
                 match records::admit_step(sheet, &longest, lent) {
                     Err(21) => Err(21),
                     _ => Err(17),
                 }
+            }
+            Ok(_) if self.in_set(SetFlaw::EndsAt32Bits) && records[0].next >= u32::MAX.into() => {
+                Err(20)
             }
             other => other,
         }
@@ -215,6 +231,11 @@ impl StandIn {
                 Flaw::Set(SetFlaw::TrustsOtherLengths) => record.opened = records[0].opened,
                 Flaw::Set(SetFlaw::TrustsLength) => record.opened = record.opened.min(4096),
                 Flaw::Set(SetFlaw::PlacesIn32Bits) => put_wrapped_place(sheet, rule, record),
+                Flaw::Set(SetFlaw::ComparesLowTicks)
+                    if record.next as u32 == records[0].next as u32 =>
+                {
+                    record.next = records[0].next
+                }
                 _ => {}
             }
             first = first.wrapping_add(record.cells);
@@ -258,7 +279,8 @@ impl StandIn {
 
     /// One flag that nothing refuses, taken by all rules.
     fn take_flag(&self, opened: &OpenedSet, flag: u8, lent: &mut SetLent) -> Taken {
-        let t = lent.records[0].next as usize;
+        let cut = self.in_set(SetFlaw::CutsTicks);
+        let t = lent.records[0].next as usize % if cut { 1 << 32 } else { 1 << 63 };
         let last = opened.rules.len() - 1;
         let (mut pairs, mut counts, mut first) = (Vec::new(), Vec::new(), 0);
         for (index, rule) in opened.rules.iter().enumerate() {
@@ -270,13 +292,16 @@ impl StandIn {
             let held = held_rule(opened, rule, t);
             let own = &mut lent.cells[begin..begin + cells];
             let (report, live) = self.take_tick(&held, flag, lent.history, own);
-            let number = index as u32 + self.in_set(SetFlaw::NumbersFromOne) as u32;
+            let number = index as u64 + self.in_set(SetFlaw::NumbersFromOne) as u64;
             pairs.extend(report.into_iter().map(|tick| [number, tick]));
             counts.push(live);
             first += cells;
         }
         if self.in_set(SetFlaw::OrdersByTick) {
             pairs.sort_by_key(|pair| pair[1]);
+        }
+        if self.in_set(SetFlaw::ReportsIn32Bits) {
+            pairs.iter_mut().for_each(|pair: &mut [u64; 2]| pair[1] %= 1 << 32);
         }
         self.store_flag(opened, t, flag, lent);
         self.write_records(opened, &counts, lent.records);
@@ -307,6 +332,9 @@ impl StandIn {
             put_taken(record, live);
             if self.in_set(SetFlaw::MovesFirstTick) && index > 0 {
                 record.next = old.next;
+            }
+            if self.in_set(SetFlaw::MovesLowTick) {
+                record.next = old.next & !0xFFFF_FFFF | u64::from(record.next as u32);
             }
             if self.in_set(SetFlaw::LeavesLive) {
                 record.live = old.live;
@@ -353,17 +381,18 @@ impl StandIn {
         opened: &OpenedSet,
         flags: &[u8],
         lent: &mut SetLent,
-    ) -> (usize, Vec<[u32; 3]>) {
+    ) -> (usize, Vec<[u64; 3]>) {
         let most = opened.most_pairs();
         let needed = if self.in_set(SetFlaw::BatchFillsReport) { 2 * most } else { 3 * most };
-        let mut triples: Vec<[u32; 3]> = Vec::new();
+        let mut triples: Vec<[u64; 3]> = Vec::new();
         for (taken, &flag) in flags.iter().enumerate() {
             let step = lent.records[0].next;
-            let used_up =
-                u64::from(step) == MAX_TICKS && !self.in_set(SetFlaw::BatchTakesTickTooMany);
+            let used_up = step == MAX_TICKS && !self.in_set(SetFlaw::BatchTakesTickTooMany);
             if lent.report.len() < 3 * triples.len() + needed || used_up {
                 return (taken, triples);
             }
+            let cut = self.in_set(SetFlaw::BatchStepsIn32Bits);
+            let step = if cut { step % (1 << 32) } else { step };
             for [rule, tick] in self.take_flag(opened, flag, lent).pairs {
                 let step_first = self.in_set(SetFlaw::BatchStepsFirst);
                 triples.push(if step_first { [step, rule, tick] } else { [rule, tick, step] });
@@ -410,7 +439,7 @@ fn further_go_along(rules: usize, records: &[Running]) -> bool {
     records.iter().skip(rules).all(|record| record.next == records[0].next)
 }
 
-fn with_length(records: &[Running], opened: u32) -> Vec<Running> {
+fn with_length(records: &[Running], opened: u16) -> Vec<Running> {
     records.iter().map(|record| Running { opened, ..*record }).collect()
 }
 
@@ -419,7 +448,7 @@ fn put_figures(sheet: &[u8], record: &mut Running) {
     let (start, size) = (record.start as usize, record.size as usize);
     let body = sheet.get(start..start + size).unwrap_or(&[]);
     if let Ok(figures) = paper::figures(body) {
-        (record.cells, record.delay) = (figures.cells as u32, figures.delay as u32);
+        (record.cells, record.delay) = (figures.cells as u32, figures.delay as u16);
     }
 }
 
