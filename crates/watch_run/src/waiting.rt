@@ -16,7 +16,7 @@ fn sleep(nanoseconds: i64) {
     libc::nanosleep(&asked, &mut left);
 }
 
-// Waits five thousandths of a second for a descriptor that does not block and is not ready: ticks come every tenth of a second.
+// Waits five thousandths of a second for a descriptor that does not block and is not ready: no longer than a tick takes at 200 a second.
 fn pause() {
     sleep(5000000);
 }
