@@ -667,6 +667,8 @@ static void set_high_ticks(uint64_t shift)
             SAME(SW_OK, sw_set_step(sheet, sheet_len, records, 2, flags[t], history, 1, cells, SW_MAX_CELL_WORDS, set_report, 8,
                                     &pairs, &live));
             for (size_t i = 0; i < pairs; i++, seen++) {
+                if (seen >= sizeof due / sizeof *due)
+                    continue; /* counted, and said below */
                 SAME(due[seen][0], set_report[2 * i]);
                 SAME(due[seen][1] + shift, set_report[2 * i + 1]);
                 SAME(due[seen][2], t);

@@ -288,7 +288,7 @@ pub fn forged_lengths(library: &dyn Library) -> Check<u64> {
     Ok(refused)
 }
 
-/// "20 comes for every tick from 4,611,686,018,427,387,904 on." No test can take so many steps;
+/// "Refusal 20 moves to every tick from 4,611,686,018,427,387,904 on." No test can take so many steps;
 /// the tick is put into the state. For each tick: what a step answered, what a
 /// batch of two flags after it answered, and how many of them it took.
 pub const DUE_TICKS: &[(u64, u32, u32, usize)] = &[

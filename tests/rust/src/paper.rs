@@ -53,5 +53,5 @@ pub const MAX_RECORDING: usize = 65_535;
 pub const MAX_RULES: usize = 32;
 /// "A length is 1 to 512."
 pub const MAX_BODY: usize = 512;
-/// How many ticks a rule can take. "20 comes for every tick from 4,611,686,018,427,387,904 on."
+/// How many ticks a rule can take. "Refusal 20 moves to every tick from 4,611,686,018,427,387,904 on."
 pub const MAX_TICKS: u64 = 4_611_686_018_427_387_904;

@@ -178,7 +178,7 @@ fn with_reasons(lot: &SetLot, needed: SetLengths, is: impl Fn(u32) -> bool) -> S
     }
 }
 
-/// "20 comes for every tick from 4,611,686,018,427,387,904 on." For each tick that is put into
+/// "Refusal 20 moves to every tick from 4,611,686,018,427,387,904 on." For each tick that is put into
 /// the records: what a step answered, what a batch of two flags after it answered, and how many
 /// it took.
 pub const DUE_SET_TICKS: &[(u64, u32, u32, usize)] = super::DUE_TICKS;
