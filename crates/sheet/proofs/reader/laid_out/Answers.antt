@@ -1,0 +1,36 @@
+-- `sheet::laid_out` meets its contract. The loop's invariant: what is left to find out of the entries from `index` on decides all.
+--
+use Prim.Native.Nat.{◌≤◌, ◌+◌, ◌*◌, ◌-◌}
+use mathlib.Core.Path.{◌≡◌, sym, ◌∙◌}
+use native.Mathlib.Omega.{arith}
+use native.Mathlib.Nat.{sub-zero}
+use borrow.Author.Rules.{rules}
+use borrow.Author.Tests.{not-true, not-false}
+use Rattle.sheet.specs.Sheet.{extent, laid_out}
+use Rattle.sheet.proofs.Entries.{layout_on, layout_broken, layout_end}
+use Rattle.sheet.proofs.reader.laid_out.Goals as goal
+
+pub returns-then-not-entry_fits : goal.returns-then-not-entry_fits
+returns-then-not-entry_fits c =
+    let l = c.loop-index in
+    let a = c.args in
+    let t = sym c.entry_fits.ensures ∙ not-true c.entry_fits.result c.if-not-entry_fits.true in
+    sym (l.invariant.2 ∙ layout_broken a.sheet.now l.index l.at a.count c.loop-index-test.true t)
+
+pub loop-index-preserved : goal.loop-index-preserved
+unfolding extent
+loop-index-preserved c =
+    let l = c.loop-index in
+    let a = c.args in
+    let t = sym c.entry_fits.ensures ∙ not-false c.entry_fits.result c.if-not-entry_fits.false in (
+      omega arith,
+      omega arith,
+      rw c.word_at-at.ensures.0
+          (l.invariant.2 ∙ layout_on a.sheet.now l.index l.at a.count c.loop-index-test.true t),
+    )
+
+pub returns : goal.returns
+returns c =
+    let l = c.loop-index in
+    let a = c.args in
+    sym (l.invariant.2 ∙ layout_end a.sheet.now l.index l.at a.count c.loop-index-test.false)

@@ -1,0 +1,32 @@
+-- `sheet::rule_body` meets its contract: the part is the one at the place that `find_rule` answered, which lies in the sheet.
+--
+use mathlib.Core.Path.{sym, ◌∙◌, ap}
+use native.Mathlib.Omega.{arith}
+use native.Mathlib.Nat.{add-sub_cancel_left}
+use borrow.Author.Rules.{rules}
+use Rattle.refusal.specs.Numbers.{number_of}
+use Rattle.sheet.specs.Sheet.{found, body_part}
+use Rattle.sheet.proofs.Entries.{place_inside, body_at, body_refused}
+use Rattle.sheet.proofs.reader.rule_body.Goals as goal
+
+pub overflow_add-result : goal.overflow_add-result
+overflow_add-result c =
+    let a = c.args in
+    let g = c.place-1.given in
+    let h = place_inside a.sheet.now a.rule g.0.0 g.0.1.0 (sym c.find_rule-place.ensures ∙ ap found g.1) in
+    omega arith
+
+pub returns-in-At : goal.returns-in-At
+returns-in-At c =
+    let a = c.args in
+    let g = c.place-1.given in
+    let e = sym c.find_rule-place.ensures ∙ ap found g.1 in
+    rw add-sub_cancel_left
+    (sym (ap body_part (body_at a.sheet.now a.rule (record { start = g.0.0; size = g.0.1.0 }) e)))
+
+pub returns-in-Refused : goal.returns-in-Refused
+returns-in-Refused c =
+    let a = c.args in
+    let g = c.enum_told-1.given in
+    let e = sym c.find_rule-place.ensures ∙ ap found g.1 in
+    sym (ap body_part (body_refused a.sheet.now a.rule (number_of g.0.0) e))
