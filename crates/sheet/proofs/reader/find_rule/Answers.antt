@@ -10,33 +10,24 @@ use Rattle.sheet.specs.Sheet.{body_offset, extent, has_contents, laid_out}
 use Rattle.sheet.proofs.Entries.{place_uncounted, place_broken, place_beyond, place_here}
 use Rattle.sheet.proofs.reader.find_rule.Goals as goal
 
-counted : (c : tie.Else1) → has_contents c.before.before.before.args.sheet.now ≡ true
-
-counted c = sym c.before.has_contents.ensures ∙ not-false c.before.has_contents.result c.if1.false
-
-right : (c : tie.Else2)
-    → laid_out c.before.before.byte-after.result c.before.before.before.before.before.before.args.sheet.now 0 (1 + 4 * c.before.before.byte-after.result) ≡ true
-
-right c = sym c.before.laid_out.ensures ∙ not-false c.before.laid_out.result c.if2.false
-
 pub returns-then-not-has_contents : goal.returns-then-not-has_contents
 returns-then-not-has_contents c =
     let a = c.args in
     place_uncounted a.sheet.now a.rule
-    (sym c.has_contents.ensures ∙ not-true c.has_contents.result c.if-not-has_contents.true)
+    (sym c.has_contents.ensures ∙ c.if-not-has_contents.true)
 
 pub returns-then-not-laid_out : goal.returns-then-not-laid_out
 returns-then-not-laid_out c =
     let a = c.args in
     let n = c.byte_after-count in
-    place_broken a.sheet.now a.rule n.result n.ensures.0 (counted c.before.before.before⟨?⟩)
-    (sym c.laid_out.ensures ∙ not-true c.laid_out.result c.if-not-laid_out.true)
+    place_broken a.sheet.now a.rule n.result n.ensures.0 (sym c.has_contents.ensures ∙ c.if-not-has_contents.false)
+    (sym c.laid_out.ensures ∙ c.if-not-laid_out.true)
 
 pub returns-then-count-rule : goal.returns-then-count-rule
 returns-then-count-rule c =
     let a = c.args in
     let n = c.byte_after-count in
-    place_beyond a.sheet.now a.rule n.result n.ensures.0 (counted c.before.before.before.before⟨?⟩) (right c.before⟨?⟩) (omega arith)
+    place_beyond a.sheet.now a.rule n.result n.ensures.0 (sym c.has_contents.ensures ∙ c.if-not-has_contents.false) (sym c.laid_out.ensures ∙ c.if-not-laid_out.false) (omega arith)
 
 pub returns : goal.returns
 unfolding body_offset extent
@@ -44,4 +35,4 @@ returns c =
     let a = c.args in
     let n = c.byte_after-count in
     rw (c.word_at.ensures.0, c.word_at-2.ensures.0)
-    (place_here a.sheet.now a.rule n.result n.ensures.0 (counted c.before.before.before.before.before.before⟨?⟩) (right c.before.before.before⟨?⟩) (omega arith))
+    (place_here a.sheet.now a.rule n.result n.ensures.0 (sym c.has_contents.ensures ∙ c.if-not-has_contents.false) (sym c.laid_out.ensures ∙ c.if-not-laid_out.false) (omega arith))

@@ -14,7 +14,7 @@ pub returns-then-not-entry_fits : goal.returns-then-not-entry_fits
 returns-then-not-entry_fits c =
     let l = c.loop-index in
     let a = c.args in
-    let t = sym c.entry_fits.ensures ∙ not-true c.entry_fits.result c.if-not-entry_fits.true in
+    let t = sym c.entry_fits.ensures ∙ c.if-not-entry_fits.true in
     sym (l.invariant.2 ∙ layout_broken a.sheet.now l.index l.at a.count c.loop-index-test.true t)
 
 pub loop-index-preserved : goal.loop-index-preserved
@@ -22,7 +22,7 @@ unfolding extent
 loop-index-preserved c =
     let l = c.loop-index in
     let a = c.args in
-    let t = sym c.entry_fits.ensures ∙ not-false c.entry_fits.result c.if-not-entry_fits.false in (
+    let t = sym c.entry_fits.ensures ∙ c.if-not-entry_fits.false in (
       omega arith,
       omega arith,
       rw c.word_at-at.ensures.0

@@ -12,21 +12,23 @@ use Rattle.sheet.proofs.reader.rule_body.Goals as goal
 pub overflow_add-result : goal.overflow_add-result
 overflow_add-result c =
     let a = c.args in
-    let g = c.place-1.given in
-    let h = place_inside a.sheet.now a.rule g.0.0 g.0.1.0 (sym c.find_rule-place.ensures ∙ ap found g.1) in
+    let h = place_inside a.sheet.now a.rule c.in-At.start c.in-At.size (sym c.find_rule-place.ensures ∙ ap found c.in-At.is) in
     omega arith
+
+pub slice_bounds-result-end : goal.slice_bounds-result-end
+slice_bounds-result-end c =
+    let a = c.args in
+    place_inside a.sheet.now a.rule c.in-At.start c.in-At.size (sym c.find_rule-place.ensures ∙ ap found c.in-At.is)
 
 pub returns-in-At : goal.returns-in-At
 returns-in-At c =
     let a = c.args in
-    let g = c.place-1.given in
-    let e = sym c.find_rule-place.ensures ∙ ap found g.1 in
+    let e = sym c.find_rule-place.ensures ∙ ap found c.in-At.is in
     rw add-sub_cancel_left
-    (sym (ap body_part (body_at a.sheet.now a.rule (record { start = g.0.0; size = g.0.1.0 }) e)))
+    (sym (ap body_part (body_at a.sheet.now a.rule (record { start = c.in-At.start; size = c.in-At.size }) e)))
 
 pub returns-in-Refused : goal.returns-in-Refused
 returns-in-Refused c =
     let a = c.args in
-    let g = c.enum_told-1.given in
-    let e = sym c.find_rule-place.ensures ∙ ap found g.1 in
-    sym (ap body_part (body_refused a.sheet.now a.rule (number_of g.0.0) e))
+    let e = sym c.find_rule-place.ensures ∙ ap found c.in-Refused.is in
+    sym (ap body_part (body_refused a.sheet.now a.rule (number_of c.in-Refused.field-0) e))
