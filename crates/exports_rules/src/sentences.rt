@@ -16,7 +16,7 @@ pub fn sw_sentence(refused: u32, out: &mut [u8], written: &mut usize) -> u32
     if out.len() <= length {
         return refusal::number(Refusal::BufferTooShort);
     }
-    bytes::copy(&text[..length + 1], out);
+    out[..length + 1].copy_from_slice(&text[..length + 1]);
     *written = length;
     0
 }
