@@ -20,7 +20,7 @@ pub(crate) fn fresh(body: &[u8], opened: usize) -> State
     ensures { result ≡ fresh_code body.now opened }
 {
     let mut room = [0u8; MAX_BODY];
-    bytes::copy(body, &mut room);
+    room[..body.len()].copy_from_slice(body);
     State {
         body: room,
         size: body.len(),

@@ -1,5 +1,7 @@
 // Rules typed as in the paper (document 02, point 2): what such a rule is, its text, its body, and the text of a body, as definitions (specs/) with
 // their laws (proofs/); and what text to body and body to text share.
+#![tactic(auto)]
+
 ghost use Rattle.std.specs.Prelude.{length};
 ghost use Rattle.refusal.specs.Answer.{written};
 ghost use Rattle.notation.specs.Bodies.{fitted, Writes};
@@ -13,6 +15,6 @@ pub fn deliver(bytes: &[u8], out: &mut [u8]) -> Written
     if out.len() < bytes.len() {
         return Written::Refused(Refusal::BufferTooShort);
     }
-    bytes::copy(bytes, out);
+    out[..bytes.len()].copy_from_slice(bytes);
     Written::Length(bytes.len())
 }

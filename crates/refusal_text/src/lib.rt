@@ -1,4 +1,5 @@
 // What is wrong, in words: the sentence of each refusal's number, in ASCII.
+#![tactic(auto)]
 ghost use Rattle.std.specs.Prelude.{◌≡◌, ◌++◌, ◌≤◌, ◌<◌, length, take, drop};
 ghost use Rattle.refusal_text.specs.Sentences.{sentence_of, Past};
 
@@ -8,7 +9,8 @@ fn put(text: &[u8], out: &mut [u8; 128]) -> usize
     ensures value { result ≡ length text.now }
     ensures out_after { out.new ≡ text.now ++ drop result out.old }
 {
-    bytes::copy(text, out)
+    out[..text.len()].copy_from_slice(text);
+    text.len()
 }
 
 // The rules of a set together.

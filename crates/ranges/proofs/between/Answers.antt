@@ -1,10 +1,9 @@
 -- `ranges::between` meets its contract.
 --
-use mathlib.Core.Path.{◌≡◌, ap, ap₂, ◌∙◌}
+use mathlib.Core.Path.{◌≡◌, ap, ◌∙◌}
 use lib.IntN.{ℤ}
 use mir.Syntax.{w64}
 use mir.Val.{to_z, of_z}
-use Rattle.rule.specs.declared.Point.TheVariants.{Whole}
 use Rattle.rule.specs.declared.Range.TheVariants.{Onward}
 use Rattle.rule.specs.Meaning.{raised, positions}
 use borrow.Author.Rules.{rules}

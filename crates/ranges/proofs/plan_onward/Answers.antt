@@ -3,7 +3,6 @@
 use native.Mathlib.Omega.{arith}
 use Rattle.rule.specs.Ticks.{clamped_at}
 use Rattle.ranges.proofs.Planning.{plans_onward}
-use borrow.Author.Rules.{rules}
 use Rattle.ranges.proofs.plan_onward.Goals as goal
 
 pub returns : goal.returns

@@ -2,7 +2,6 @@
 --
 use mathlib.Core.Path.{refl, sym}
 use Rattle.ranges.proofs.Planning.{plans_none, plans_same}
-use borrow.Author.Rules.{rules}
 use Rattle.ranges.proofs.plan_up_to.Goals as goal
 
 pub returns-in-Empty : goal.returns-in-Empty

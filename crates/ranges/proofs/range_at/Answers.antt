@@ -2,7 +2,6 @@
 --
 use Rattle.ranges.specs.Clamped.{clamped}
 use Rattle.ranges.proofs.Bounds.{range_words}
-use borrow.Author.Rules.{rules}
 use Rattle.ranges.proofs.range_at.Goals as goal
 
 pub returns : goal.returns
