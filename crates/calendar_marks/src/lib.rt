@@ -1,4 +1,6 @@
 // The words of a flag calendar (document 02, point 5): zeroed at an opening, and marked tick by tick. `calendar` has the definitions.
+#![tactic(auto)]
+
 ghost use Rattle.std.specs.Prelude.{◌≡◌, ◌<◌};
 ghost use Rattle.calendar.specs.Calendar.{kept, each, cleared, flagged, marked_word, marked, filled};
 

@@ -11,8 +11,7 @@ ghost use Rattle.refusal.specs.Answer.{answered, KeptIfRefused};
 use state_bytes::{STATE_BYTES, next_tick};
 
 // Opens a rule as sw_open does, and zeroes the words; a last group under eight keeps its content.
-#[unsafe(no_mangle)]
-pub extern "C" fn sw_calendar_open(
+pub fn sw_calendar_open(
     sheet: &[u8],
     rule: usize,
     history: &mut [u8],
@@ -30,8 +29,7 @@ pub extern "C" fn sw_calendar_open(
 }
 
 // Takes one flag byte as sw_step does, and marks its tick in the words.
-#[unsafe(no_mangle)]
-pub extern "C" fn sw_calendar_step(
+pub fn sw_calendar_step(
     state: &mut [u8; STATE_BYTES],
     flag: u8,
     history: &mut [u8],
@@ -54,8 +52,7 @@ pub extern "C" fn sw_calendar_step(
 }
 
 // Takes flag bytes as sw_steps does, and marks the ticks that were taken in the words.
-#[unsafe(no_mangle)]
-pub extern "C" fn sw_calendar_steps(
+pub fn sw_calendar_steps(
     state: &mut [u8; STATE_BYTES],
     flags: &[u8],
     history: &mut [u8],
@@ -81,16 +78,14 @@ pub extern "C" fn sw_calendar_steps(
 }
 
 // Zeroes the words; a last group under eight keeps its content.
-#[unsafe(no_mangle)]
-pub extern "C" fn sw_calendar_clear(words: &mut [u64])
+pub fn sw_calendar_clear(words: &mut [u64])
     ensures { words.new ≡ cleared words.old }
 {
     calendar_marks::clear(words);
 }
 
 // Marks the ticks from `tick` on, each by its flag byte; ticks past the words are not kept.
-#[unsafe(no_mangle)]
-pub extern "C" fn sw_calendar_fill(words: &mut [u64], tick: u64, flags: &[u8])
+pub fn sw_calendar_fill(words: &mut [u64], tick: u64, flags: &[u8])
     ensures { words.new ≡ filled words.old tick flags.now }
 {
     calendar_marks::fill(words, tick, flags);

@@ -35,8 +35,7 @@ fn put_tick(answer: TickAnswer, tick: &mut u64) -> u32
 }
 
 // The number of ups of a flag from tick `first` to tick `last`. A flag above 7 gets 7.
-#[unsafe(no_mangle)]
-pub extern "C" fn sw_calendar_ups(
+pub fn sw_calendar_ups(
     words: &[u64],
     flag: u8,
     first: u64,
@@ -57,8 +56,7 @@ pub extern "C" fn sw_calendar_ups(
 }
 
 // The first tick from `first` to `last` at which a flag is up.
-#[unsafe(no_mangle)]
-pub extern "C" fn sw_calendar_first(
+pub fn sw_calendar_first(
     words: &[u64],
     flag: u8,
     first: u64,
@@ -72,8 +70,7 @@ pub extern "C" fn sw_calendar_first(
 }
 
 // The last tick from `first` to `last` at which a flag is up.
-#[unsafe(no_mangle)]
-pub extern "C" fn sw_calendar_last(
+pub fn sw_calendar_last(
     words: &[u64],
     flag: u8,
     first: u64,
@@ -87,8 +84,7 @@ pub extern "C" fn sw_calendar_last(
 }
 
 // The kept tick nearest to `tick` at which a flag is up; the earlier of two equally near.
-#[unsafe(no_mangle)]
-pub extern "C" fn sw_calendar_nearest(words: &[u64], flag: u8, tick: u64, nearest: &mut u64) -> u32
+pub fn sw_calendar_nearest(words: &[u64], flag: u8, tick: u64, nearest: &mut u64) -> u32
     ensures value { result ≡ number (of_flag flag (nearest_up words.now flag tick)) }
     ensures nearest_after { nearest.new ≡ or_kept tick_number (of_flag flag (nearest_up words.now flag tick)) nearest.old }
 {

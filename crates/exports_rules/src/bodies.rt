@@ -10,8 +10,7 @@ use recording::Evaluated;
 use rule::{Outcome, Verdict};
 
 // The figures of a body: refusals 4 to 15, 23, 24.
-#[unsafe(no_mangle)]
-pub extern "C" fn sw_figures(
+pub fn sw_figures(
     body: &[u8],
     history: &mut u64,
     delay: &mut u64,
@@ -56,8 +55,7 @@ fn step_number(outcome: Outcome) -> u64
 }
 
 // The outcome of a body at a tick of a recording: refusals 4 to 10, 23, 24, 16.
-#[unsafe(no_mangle)]
-pub extern "C" fn sw_outcome(
+pub fn sw_outcome(
     body: &[u8],
     recording: &[u8],
     tick: usize,

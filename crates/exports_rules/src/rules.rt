@@ -7,8 +7,7 @@ ghost use Rattle.notation.specs.Printing.{text_of_body};
 use crate::lengths::answer_length;
 
 // Writes the body of a rule's text at the start of the buffer and answers its length: refusals 25, 26, 4 to 10, 23, 24, 22.
-#[unsafe(no_mangle)]
-pub extern "C" fn sw_rule_from_text(text: &[u8], body: &mut [u8], written: &mut usize) -> u32
+pub fn sw_rule_from_text(text: &[u8], body: &mut [u8], written: &mut usize) -> u32
     ensures value { result ≡ number (body_of_text text.now (length body.old)) }
     ensures body_after { body.new ≡ buffer_with (body_of_text text.now (length body.old)) body.old }
     ensures written_after { written.new ≡ or_kept length (body_of_text text.now (length body.old)) written.old }
@@ -18,8 +17,7 @@ pub extern "C" fn sw_rule_from_text(text: &[u8], body: &mut [u8], written: &mut 
 }
 
 // Writes a body as text at the start of the buffer and answers its length: refusals 4 to 10, 23, 24, 22.
-#[unsafe(no_mangle)]
-pub extern "C" fn sw_rule_to_text(body: &[u8], text: &mut [u8], written: &mut usize) -> u32
+pub fn sw_rule_to_text(body: &[u8], text: &mut [u8], written: &mut usize) -> u32
     ensures value { result ≡ number (text_of_body body.now (length text.old)) }
     ensures text_after { text.new ≡ buffer_with (text_of_body body.now (length text.old)) text.old }
     ensures written_after { written.new ≡ or_kept length (text_of_body body.now (length text.old)) written.old }

@@ -8,8 +8,7 @@ use crate::lengths::answer_length;
 use sheet::Found;
 
 // Where a rule's body lies in its sheet: refusals 1 to 3.
-#[unsafe(no_mangle)]
-pub extern "C" fn sw_rule_place(
+pub fn sw_rule_place(
     sheet: &[u8],
     rule: usize,
     start: &mut usize,
@@ -34,8 +33,7 @@ pub extern "C" fn sw_rule_place(
 }
 
 // Writes the sheet of these bodies at the start of the buffer and answers its length: refusals 1, 2, 22.
-#[unsafe(no_mangle)]
-pub extern "C" fn sw_write_sheet(
+pub fn sw_write_sheet(
     lengths: &[u16],
     bodies: &[u8],
     out: &mut [u8],

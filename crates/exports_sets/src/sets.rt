@@ -12,8 +12,7 @@ use set_opening::SetOpenAnswer;
 use set_stepping::{SetBatchAnswer, SetStepAnswer};
 
 // What all rules of a sheet need together: refusals 1, 2, each rule's own 4 to 15, 23, 24 in rule order, 27.
-#[unsafe(no_mangle)]
-pub extern "C" fn sw_set_figures(
+pub fn sw_set_figures(
     sheet: &[u8],
     rules: &mut usize,
     history: &mut u64,
@@ -40,8 +39,7 @@ pub extern "C" fn sw_set_figures(
 }
 
 // Opens all rules of a sheet over a lent history, which is zeroed, and a lent cell table, which is only measured: refusals 1, 2, 4 to 15, 23, 24, 27, 17, 18.
-#[unsafe(no_mangle)]
-pub extern "C" fn sw_set_open(
+pub fn sw_set_open(
     sheet: &[u8],
     records: &mut [[u32; RECORD_WORDS]],
     history: &mut [u8],
@@ -57,8 +55,7 @@ pub extern "C" fn sw_set_open(
 }
 
 // Takes one flag byte: refusals 21, 17 to 20.
-#[unsafe(no_mangle)]
-pub extern "C" fn sw_set_step(
+pub fn sw_set_step(
     sheet: &[u8],
     records: &mut [[u32; RECORD_WORDS]],
     flag: u8,
@@ -84,8 +81,7 @@ pub extern "C" fn sw_set_step(
 }
 
 // Takes flag bytes one after another, each as sw_set_step does, and writes triples of rule, tick and deciding step.
-#[unsafe(no_mangle)]
-pub extern "C" fn sw_set_steps(
+pub fn sw_set_steps(
     sheet: &[u8],
     records: &mut [[u32; RECORD_WORDS]],
     flags: &[u8],

@@ -11,8 +11,7 @@ use state_bytes::{STATE_BYTES, load, store, store_progress};
 
 // Opens a rule of a sheet over a lent history, which is zeroed, and a lent cell table, which is only measured: refusals 1 to 15, 23, 24,
 // 17, 18.
-#[unsafe(no_mangle)]
-pub extern "C" fn sw_open(
+pub fn sw_open(
     sheet: &[u8],
     rule: usize,
     history: &mut [u8],
@@ -33,8 +32,7 @@ pub extern "C" fn sw_open(
 }
 
 // Takes one flag byte: refusals 21, 17 to 20.
-#[unsafe(no_mangle)]
-pub extern "C" fn sw_step(
+pub fn sw_step(
     state: &mut [u8; STATE_BYTES],
     flag: u8,
     history: &mut [u8],
@@ -63,8 +61,7 @@ pub extern "C" fn sw_step(
 
 // Takes flag bytes one after another, each as sw_step does, and writes pairs of tick and deciding step. It stops before a step for which fewer than
 // 2 * (delay + 1) report words are left, and where the tick numbers end; where its first step is refused by 21, 17, 18 or 20, it is refused itself.
-#[unsafe(no_mangle)]
-pub extern "C" fn sw_steps(
+pub fn sw_steps(
     state: &mut [u8; STATE_BYTES],
     flags: &[u8],
     history: &mut [u8],

@@ -1,0 +1,35 @@
+// Reading and writing sheets.
+ghost use Rattle.std.specs.Prelude.{◌≡◌, length};
+ghost use Rattle.refusal.specs.Answer.{or_kept, number};
+ghost use Rattle.sheet.specs.Sheet.{rule_place};
+ghost use Rattle.sheet_writer.specs.Writing.{sheet_length, buffer_after};
+
+// Where a rule's body lies in its sheet: refusals 1 to 3.
+#[unsafe(no_mangle)]
+pub extern "C" fn sw_rule_place(
+    sheet: &[u8],
+    rule: usize,
+    start: &mut usize,
+    size: &mut usize,
+) -> u32
+    ensures value { result ≡ number (rule_place sheet.now rule) }
+    ensures start_after { start.new ≡ or_kept (λ place. place.start) (rule_place sheet.now rule) start.old }
+    ensures size_after { size.new ≡ or_kept (λ place. place.size) (rule_place sheet.now rule) size.old }
+{
+    exports_rules::sw_rule_place(sheet, rule, start, size)
+}
+
+// Writes the sheet of these bodies at the start of the buffer and answers its length: refusals 1, 2, 22.
+#[unsafe(no_mangle)]
+pub extern "C" fn sw_write_sheet(
+    lengths: &[u16],
+    bodies: &[u8],
+    out: &mut [u8],
+    written: &mut usize,
+) -> u32
+    ensures value { result ≡ number (sheet_length lengths.now bodies.now (length out.old)) }
+    ensures out_after { out.new ≡ buffer_after lengths.now bodies.now out.old }
+    ensures written_after { written.new ≡ or_kept (λ size. size) (sheet_length lengths.now bodies.now (length out.old)) written.old }
+{
+    exports_rules::sw_write_sheet(lengths, bodies, out, written)
+}
