@@ -1,4 +1,6 @@
 // Whether a formula of the node table names a variable.
+#![tactic(auto)]
+
 ghost use Rattle.std.specs.Prelude.{◌≡◌};
 ghost use Rattle.rule.specs.Naming.{bound_names, names};
 ghost use Rattle.nodes.specs.Table.{bound_at, formula_in};

@@ -1,6 +1,5 @@
 -- `naming::bound_names` meets its contract.
 use Rattle.naming.proofs.Named.{no_variable_at, variable_at}
-use borrow.Author.Rules.{rules}
 use Rattle.naming.proofs.bound_names.Goals as goal
 
 pub returns-then-kind-le-INFINITY_KIND : goal.returns-then-kind-le-INFINITY_KIND
