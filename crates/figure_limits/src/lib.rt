@@ -1,5 +1,7 @@
 // A rule's figures against 01's limits, in 01's order: "11: delay infinite. 12: above 255. 13: history infinite. 14: above 4,096. 15: cells above
 // 4,096." Cells are counted up to 4,097 (crate `cell_count`).
+#![tactic(auto)]
+
 ghost use Rattle.std.specs.Prelude.{◌≡◌};
 ghost use Rattle.rule.specs.Figures.{limit_cells, limit_history, limit_delay};
 ghost use Rattle.rule.specs.declared.Size.TheVariants.{Finite};

@@ -1,4 +1,6 @@
 // The body reader: a body's formula into the node table, or its refusal: 4 to 10, 23 or 24.
+#![tactic(auto)]
+
 mod writer;
 
 ghost use Rattle.std.specs.Prelude.{◌≤◌, length};
