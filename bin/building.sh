@@ -10,9 +10,10 @@ keep_closed() {
     [ -L "/proc/$$/fd/1" ] || exec 1< /dev/null
 }
 
-# Whether one of the files, or something in one of the folders, changed since the stamp was set, or there is no stamp. Must-fail edits are not built.
+# Whether one of the files, or something in one of the folders, changed since the stamp was set, or there is no stamp. Must-fail edits are not built, and
+# what lies in target/ and out/ was. A crate's own folder changes as rt makes out/ in it, so it does not count; its files and the folders in it do.
 changed_since() { # STAMP PATH..
-    [ ! -e "$1" ] || [ -n "$(find "${@:2}" \( -name must-fail -o -name target \) -prune -o -newer "$1" -print -quit)" ]
+    [ ! -e "$1" ] || [ -n "$(find "${@:2}" \( -name must-fail -o -name target -o -name out \) -prune -o \( ! -type d -o ! -path "$root/crates/*" -o -path "$root/crates/*/*" \) -newer "$1" -print -quit)" ]
 }
 
 # Calls `build` unless `fresh` says that there is nothing to do; the command defines both. One command builds at a time: what another has built meanwhile
@@ -42,7 +43,7 @@ crates_of() { # "CRATE.."
             for (i = 1; i <= n; i++) visit(below[i])
         }
         { sub(/#.*/, ""); colon = index($0, ":") }
-        colon { line[substr($0, 1, colon - 1)] = substr($0, colon + 1) }
+        colon { split(substr($0, 1, colon - 1), key, " "); line[key[1]] = substr($0, colon + 1) }
         END {
             n = split(crates, wanted, " ")
             for (i = 1; i <= n; i++) visit(wanted[i])
@@ -52,14 +53,16 @@ crates_of() { # "CRATE.."
 
 # Of what rt says, a line for each crate that was proved now. Where rt is called more than once, a crate counts once.
 count_crates() { # WHO HOW-MANY
-    local line
+    local line crate=
     local -A proved=()
     while IFS= read -r line; do
-        case $line in 'rt: '*' proved ('*) ;; *) continue ;; esac
-        line=${line#rt: }
-        proved[${line%% *}]=yes
         case $line in
-        *' proved ('*' s)') echo "$1: building: ${#proved[@]} of $2 crates proved (${line%% *}, ${line##*(}" >&2 || : ;;
+        'crate '*': '*) crate=${line#crate } crate=${crate%%:*} ;;
+        'logic=proved '*)
+            [ -n "$crate" ] && [ -z "${proved[$crate]-}" ] || continue
+            proved[$crate]=yes
+            echo "$1: building: ${#proved[@]} of $2 crates proved ($crate)" >&2 || :
+            ;;
         esac
     done
 }

@@ -76,7 +76,7 @@ extern "C" {
  * records that were stored. */
 
 #define SW_VERSION_MAJOR 0
-#define SW_VERSION_MINOR 9
+#define SW_VERSION_MINOR 8
 #define SW_VERSION_PATCH 0
 #define SW_VERSION "0.8.0"
 

@@ -13,23 +13,26 @@ CRATES = "# two libraries and a program\nwords:\nsheet: words\nwatch: sheet word
 RT = """#!/bin/sh
 echo "rt $*" >> "$RECORD"
 [ -z "$SLOW" ] || sleep 1
-echo "rt: words proved (unchanged since it was last proved)"
+echo "rt: words: begins with what a check kept in another copy"
 echo "much that nobody wants to see"
-[ -z "$FAILS" ] || { echo "sheet.rt:1: error: no"; echo "rt: sheet NOT PROVED (exit 1, 2 s)"; exit 1; }
-echo "rt: sheet proved (2 s)"
-echo "rt: watch proved (31 s)"
-mkdir -p target/bin
-printf '#!/bin/sh\\necho ran\\ncat\\n' > target/bin/watch
-chmod +x target/bin/watch
+[ -z "$FAILS" ] || { echo "sheet.rt:1: error: no"; echo "logic=not-proved"; exit 1; }
+echo "crate sheet: modules loaded=1 checked=1"
+echo "logic=proved functions=1"
+echo "crate watch: modules loaded=1 checked=1"
+echo "logic=proved functions=1"
+mkdir -p out
+printf '#!/bin/sh\\necho ran\\ncat\\n' > out/watch
+chmod +x out/watch
+exit ${ENDS:-0}
 """
 
 BEGIN = "watch: building: proving what changed; all of it takes 4 to 6 minutes on two cores\n"
-PROVED = "watch: building: 2 of 3 crates proved (sheet, 2 s)\nwatch: building: 3 of 3 crates proved (watch, 31 s)\n"
+PROVED = "watch: building: 1 of 3 crates proved (sheet)\nwatch: building: 2 of 3 crates proved (watch)\n"
 
 
 class Repository(unittest.TestCase):
     """A folder with one of the commands, crates.txt, an empty crate and an rt."""
-    command, crates, rt = "watch", CRATES, RT
+    command, crates, rt, built = "watch", CRATES, RT, ["watch"]
 
     def setUp(self):
         folder = tempfile.TemporaryDirectory()
@@ -40,6 +43,8 @@ class Repository(unittest.TestCase):
             shutil.copy(os.path.join(ROOT, "bin", name), self.path("bin", name))
         self.write(self.crates, "crates.txt")
         self.write("", "crates", "words", "src", "lib.rt")
+        for name in self.built:
+            self.write("", "crates", name, "src", "main.rt")
         self.write(self.rt, "kit", "rt")
         os.chmod(self.path("kit", "rt"), 0o755)
 
@@ -72,12 +77,12 @@ class Building(Repository):
         """The input is left to the program."""
         self.ends(0, "ran\ninput\n", BEGIN + PROVED)
         self.ends(0, "ran\ninput\n", "")
-        self.assertEqual(self.calls(), ["rt check watch"])
+        self.assertEqual(self.calls(), ["rt run"])
         self.write("// changed", "crates", "words", "src", "lib.rt")
         self.ends(0, "ran\ninput\n", BEGIN + PROVED)
-        os.remove(self.path("target", "bin", "watch"))
+        os.remove(self.path("crates", "watch", "out", "watch"))
         self.ends(0, "ran\ninput\n", BEGIN + PROVED)
-        self.assertEqual(self.calls(), ["rt check watch"] * 3)
+        self.assertEqual(self.calls(), ["rt run"] * 3)
 
     def test_all_that_rt_says_is_kept(self):
         self.ends(0, "ran\ninput\n", BEGIN + PROVED)
@@ -85,10 +90,14 @@ class Building(Repository):
             self.assertIn("much that nobody wants to see\n", log)
 
     def test_fails(self):
-        last = "rt: words proved (unchanged since it was last proved)\nmuch that nobody wants to see\nsheet.rt:1: error: no\nrt: sheet NOT PROVED (exit 1, 2 s)\n"
+        last = "rt: words: begins with what a check kept in another copy\nmuch that nobody wants to see\nsheet.rt:1: error: no\nlogic=not-proved\n"
         named = "watch: not built: the last lines of %s stand above\n" % self.path("target", "watch-build.log")
         self.ends(2, "", BEGIN + last + named, FAILS="yes")
         self.ends(0, "ran\ninput\n", BEGIN + PROVED)
+
+    def test_the_program_refuses(self):
+        """rt runs the program that it has built, with no sheet: how that ends does not matter."""
+        self.ends(0, "ran\ninput\n", BEGIN + PROVED, ENDS="1")
 
     def test_no_rt(self):
         os.remove(self.path("kit", "rt"))
@@ -104,31 +113,35 @@ class Building(Repository):
             self.assertEqual((run.returncode, out), (0, "ran\ninput\n"))
             said.append(err)
         self.assertEqual(sorted(said), ["watch: another command is building; waiting for it\n", BEGIN + PROVED])
-        self.assertEqual(self.calls(), ["rt check watch"])
+        self.assertEqual(self.calls(), ["rt run"])
 
 
-LIBRARY_CRATES = "words:\nexports_rules: words\nexports_watch: words\nexports_sets: words\nexports_calendar: words\nexports_questions: words\n"
+PARTS = ["exports_%s_c" % part for part in ("rules", "watch", "sets", "calendar", "questions")]
+LIBRARY_CRATES = "words:\n" + "".join("%s staticlib: words\n" % part for part in PARTS)
 
 # Each part has a function of its own and one that is local to it and called the same in each.
 LIBRARY_RT = """#!/bin/sh
 echo "rt $*" >> "$RECORD"
-echo "rt: words proved (2 s)"
-[ "$2" != "$FAILS" ] || { echo "$2.rt:1: error: no"; exit 1; }
-mkdir -p target/staticlib && cd target/staticlib
-echo "static int own(int x) { return x ? own(x - 1) : 7; } int sw_$2(int x) { return own(x); }" | gcc -x c -O0 -fPIC -c -o "$2.o" -
-[ "$2" != "$EMPTY" ] || mv "$2.o" other.o
-ar rcs "lib$2.a" ./*.o
+part=${PWD##*/}
+echo "crate words: modules loaded=1 checked=1"
+echo "logic=proved functions=1"
+[ "$part" != "$FAILS" ] || { echo "$part.rt:1: error: no"; exit 1; }
+mkdir -p out && cd out
+echo "static int own(int x) { return x ? own(x - 1) : 7; } int sw_$part(int x) { return own(x); }" | gcc -x c -O0 -fPIC -c -o "$part.o" -
+[ "$part" != "$EMPTY" ] || mv "$part.o" other.o
+rm -f "lib$part.a"
+ar rcs "lib$part.a" ./*.o
 rm ./*.o
 """
 
-PART_BEGUN = "library: building: 1 of 6 crates proved (words, 2 s)\n"
+PART_BEGUN = "library: building: 1 of 6 crates proved (words)\n"
 LIBRARY_BEGIN = BEGIN.replace("watch", "library") + PART_BEGUN
 LIBRARY_BUILT = "library: built target/lib/libstation_watch.a and target/lib/libstation_watch.so\n"
-ALL_PARTS = LIBRARY_BEGIN + 4 * PART_BEGUN + LIBRARY_BUILT
+ALL_PARTS = LIBRARY_BEGIN + LIBRARY_BUILT
 
 
 class Library(Repository):
-    command, crates, rt = "library", LIBRARY_CRATES, LIBRARY_RT
+    command, crates, rt, built = "library", LIBRARY_CRATES, LIBRARY_RT, PARTS
 
     def setUp(self):
         super().setUp()
@@ -146,8 +159,8 @@ class Library(Repository):
     def test_the_parts_are_one_library(self):
         """And the archive is the same from build to build."""
         self.ends(0, "", ALL_PARTS)
-        self.assertEqual(self.calls(), ["rt staticlib exports_" + part for part in ("rules", "watch", "sets", "calendar", "questions")])
-        parts = ["sw_exports_calendar", "sw_exports_questions", "sw_exports_rules", "sw_exports_sets", "sw_exports_watch"]
+        self.assertEqual(self.calls(), ["rt lib"] * 5)
+        parts = ["sw_exports_calendar_c", "sw_exports_questions_c", "sw_exports_rules_c", "sw_exports_sets_c", "sw_exports_watch_c"]
         self.assertEqual(self.functions("--extern-only", self.archive), parts)
         self.assertEqual(self.functions("--dynamic", self.path("target", "lib", "libstation_watch.so")), parts)
         self.assertEqual(os.readlink(self.path("target", "lib", "libstation_watch.so.9.8")), "libstation_watch.so")
@@ -161,10 +174,10 @@ class Library(Repository):
         """Nothing is built, whichever it is."""
         log = self.path("target", "library-build.log")
         named = "library: not built: the last lines of %s stand above\n" % log
-        first = "rt: words proved (2 s)\n"
-        self.ends(1, "", LIBRARY_BEGIN + first + "exports_rules.rt:1: error: no\n" + named, FAILS="exports_rules")
-        said = LIBRARY_BEGIN + PART_BEGUN + first + first + "exports_watch.rt:1: error: no\n" + named
-        self.ends(1, "", said, FAILS="exports_watch")
+        first = "crate words: modules loaded=1 checked=1\nlogic=proved functions=1\n"
+        self.ends(1, "", LIBRARY_BEGIN + first + "exports_rules_c.rt:1: error: no\n" + named, FAILS="exports_rules_c")
+        said = LIBRARY_BEGIN + first + first + "exports_watch_c.rt:1: error: no\n" + named
+        self.ends(1, "", said, FAILS="exports_watch_c")
         self.assertEqual(os.listdir(self.path("target", "lib")), ["built.new"])
 
     def test_the_shared_librarys_own_name_is_gone(self):
@@ -176,7 +189,7 @@ class Library(Repository):
         self.assertTrue(os.path.exists(own_name))
 
     def test_a_part_that_is_not_in_its_archive(self):
-        run = self.start(EMPTY="exports_watch")
+        run = self.start(EMPTY="exports_watch_c")
         out, err = run.communicate(timeout=60)
         self.assertEqual((run.returncode, out), (1, ""))
         self.assertEqual(err.splitlines()[-1], "library: not built: its parts could not be put together")

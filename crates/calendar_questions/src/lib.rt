@@ -1,4 +1,6 @@
 // Questions to a flag calendar (document 02, point 5), answered from its words alone, one word at a time. `calendar` has the definitions.
+#![tactic(auto)]
+
 mod masked;
 mod nearing;
 mod questions;

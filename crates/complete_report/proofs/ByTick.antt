@@ -1,6 +1,6 @@
 -- The report by step is the violations by tick, put into order.
 use Prim.Native.Nat.{ℕ, zero, suc, ◌+◌, ◌-◌, ◌≤◌, ◌<◌}
-use mathlib.Core.Path.{◌≡◌, refl, sym, ap, ◌∙◌}
+use mathlib.Core.Path.{◌≡◌, refl, sym, ap, ◌∙◌, subst}
 use mathlib.Core.Bool.{Bool, true, false, cond, ◌&&◌}
 use mathlib.Core.List.{List, [], ◌∷◌, ◌++◌, map}
 use native.Mathlib.Omega.{arith}
@@ -85,10 +85,14 @@ module _ (outcomes : ℕ → Outcome) where
   tick_false count p e o zero d i j = absurd (omega arith)
   tick_false count p e o (suc steps) d i j = go (eqb e d) refl (λ k. tick_false count p e o steps (suc d) k (omega arith))
     where
+      at_step : by_step outcomes (suc count) p (suc steps) e ≡ insert (violation e p) (by_step outcomes count (suc p) (suc steps) e)
+      at_step =
+          rw (false_here p e o, tick_other count p steps (suc e) (λ c x y. false_not p e c o (λ z. omega arith)))
+          (sym (insert_first (violation e p) (by_step outcomes count (suc p) (suc steps) e) (follows_steps (violation e p) count (suc p) (suc steps) e (omega arith) (omega arith))))
+
       here : e ≡ d → by_step outcomes (suc count) p (suc steps) d ≡ insert (violation e p) (by_step outcomes count (suc p) (suc steps) d)
       here q =
-          rw (← q, false_here p e o, tick_other count p steps (suc e) (λ c x y. false_not p e c o (λ z. omega arith)))
-          (sym (insert_first (violation e p) (by_step outcomes count (suc p) (suc steps) e) (follows_steps (violation e p) count (suc p) (suc steps) e (omega arith) (omega arith))))
+          subst (λ (x : ℕ). by_step outcomes (suc count) p (suc steps) x ≡ insert (violation e p) (by_step outcomes count (suc p) (suc steps) x)) q at_step
 
       go : (b : Bool) → eqb e d ≡ b
           → (suc d ≤ e → by_step outcomes (suc count) p steps (suc d) ≡ insert (violation e p) (by_step outcomes count (suc p) steps (suc d)))

@@ -1,5 +1,7 @@
 // The complete report of a recording (document 02, point 8), as definitions (specs/) with their laws (proofs/); the types that definitions and code share; and
 // violations as lent words, two to a violation, tick and step: what C lends.
+#![tactic(auto)]
+
 ghost use Rattle.std.specs.Prelude.{◌≡◌, get_or, set};
 ghost use Rattle.complete_report.specs.Lists.{violations_in, none_lent};
 ghost use Rattle.complete_report.specs.Order.{before};

@@ -1,7 +1,7 @@
 -- What C hears is none exactly where no tick is up: no kept tick has the number that stands for none.
 use Prim.Native.Nat.{ℕ, ◌≤◌, ◌<◌}
 use mathlib.Core.Path.{◌≡◌, refl, sym, ◌∙◌}
-use mathlib.Core.Bool.{true, false, false≢true}
+use mathlib.Core.Bool.{true, false≢true}
 use mathlib.Core.List.{List}
 use native.Mathlib.Omega.{arith}
 use Rattle.calendar.specs.declared.UpTick.{UpTick}
@@ -9,7 +9,7 @@ use Rattle.calendar.specs.declared.UpTick.TheVariants.{At, None}
 use Rattle.calendar.specs.Calendar.{kept, up_at, first_up, last_up, nearest_up}
 use Rattle.calendar.specs.Said.{Near, InRange, FirstUp, LastUp, NearestUp}
 use Rattle.calendar.proofs.Said.{first_up_said, last_up_said, nearest_up_said}
-use Rattle.exports_questions.specs.Ticks.{tick_number, TellsNone, NoneTold}
+use Rattle.exports_questions.specs.Ticks.{TellsNone, NoneTold}
 
 module _ (words : List ℕ) (few : kept words ≤ 18446744073709551615) (k : ℕ) where
   -- One of these ticks, kept and up, was found.

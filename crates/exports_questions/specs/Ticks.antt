@@ -1,5 +1,5 @@
 -- How the answer to a question about ticks crosses to C: the tick, or 2^64 - 1 (SW_NO_TICK) for none.
-use Rattle.std.specs.Prelude.{ℕ, ◌≤◌, ◌<◌, ◌≡◌, ◌↔◌, false, List}
+use Rattle.std.specs.Prelude.{ℕ, ◌<◌, ◌≡◌, ◌↔◌, false, List}
 use Rattle.calendar.specs.declared.UpTick.{UpTick}
 use Rattle.calendar.specs.declared.UpTick.TheVariants.{At, None}
 use Rattle.calendar.specs.Calendar.{kept, up_at, first_up, last_up, nearest_up}

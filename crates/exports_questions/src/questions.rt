@@ -35,13 +35,7 @@ fn put_tick(answer: TickAnswer, tick: &mut u64) -> u32
 }
 
 // The number of ups of a flag from tick `first` to tick `last`. A flag above 7 gets 7.
-pub fn sw_calendar_ups(
-    words: &[u64],
-    flag: u8,
-    first: u64,
-    last: u64,
-    count: &mut u64,
-) -> u32
+pub fn sw_calendar_ups(words: &[u64], flag: u8, first: u64, last: u64, count: &mut u64) -> u32
     ensures value { result ≡ number (of_flag flag (ups words.now flag first last)) }
     ensures count_after { count.new ≡ or_kept (λ found. found) (of_flag flag (ups words.now flag first last)) count.old }
 {
@@ -56,13 +50,7 @@ pub fn sw_calendar_ups(
 }
 
 // The first tick from `first` to `last` at which a flag is up.
-pub fn sw_calendar_first(
-    words: &[u64],
-    flag: u8,
-    first: u64,
-    last: u64,
-    tick: &mut u64,
-) -> u32
+pub fn sw_calendar_first(words: &[u64], flag: u8, first: u64, last: u64, tick: &mut u64) -> u32
     ensures value { result ≡ number (of_flag flag (first_up words.now flag first last)) }
     ensures tick_after { tick.new ≡ or_kept tick_number (of_flag flag (first_up words.now flag first last)) tick.old }
 {
@@ -70,13 +58,7 @@ pub fn sw_calendar_first(
 }
 
 // The last tick from `first` to `last` at which a flag is up.
-pub fn sw_calendar_last(
-    words: &[u64],
-    flag: u8,
-    first: u64,
-    last: u64,
-    tick: &mut u64,
-) -> u32
+pub fn sw_calendar_last(words: &[u64], flag: u8, first: u64, last: u64, tick: &mut u64) -> u32
     ensures value { result ≡ number (of_flag flag (last_up words.now flag first last)) }
     ensures tick_after { tick.new ≡ or_kept tick_number (of_flag flag (last_up words.now flag first last)) tick.old }
 {

@@ -1,5 +1,6 @@
 // What is wrong, in words: the sentence of each refusal's number, in ASCII.
-#![tactic(auto)]
+#![tactic(auto, unfolding(crate::specs::Sentences::sentence_of, crate::specs::Sentences::ascii))]
+
 ghost use Rattle.std.specs.Prelude.{◌≡◌, ◌++◌, ◌≤◌, ◌<◌, length, take, drop};
 ghost use Rattle.refusal_text.specs.Sentences.{sentence_of, Past};
 

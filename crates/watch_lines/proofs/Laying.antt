@@ -1,4 +1,4 @@
--- A line laid over the front of a buffer, one part after the other. Assumes nothing.
+-- A line laid over the front of a buffer, one part after the other.
 use Prim.Native.Nat.{ℕ, ◌+◌}
 use mathlib.Core.Path.{◌≡◌, refl, sym, ap, subst, ◌∙◌}
 use mathlib.Core.List.{List, [], ◌++◌, append_assoc}

@@ -1,4 +1,4 @@
--- The digits that `io::decimal` answers are the numeral of specs/Lines.antt. Assumes nothing.
+-- The digits that `io::decimal` answers are the numeral of specs/Lines.antt.
 use Prim.Native.Nat.{ℕ, zero, suc, ◌+◌, ◌-◌, ◌*◌, ◌/◌, ◌%◌, ◌^◌, ◌≤◌, ◌<◌}
 use mathlib.Core.Path.{◌≡◌, refl, ap}
 use mathlib.Core.Bool.{Bool, true, false}

@@ -1,5 +1,7 @@
 // The lines that the program `watch` prints. Each is put together in a buffer, so that the program can write it at once and whoever follows its
 // output sees whole lines: the line stands at the front of the buffer, whose other bytes stay as they were, and the answer is the line's length.
+#![tactic(auto)]
+
 ghost use Rattle.std.specs.Prelude.{◌≡◌, ◌++◌, ◌+◌, ◌≤◌, length, take, drop};
 ghost use Rattle.io.specs.Counts.{IsPrefixLen};
 ghost use Rattle.watch_lines.specs.Lines.{decimal, with_field, refused_line, figures_line, violation_line, end_line};
@@ -10,7 +12,9 @@ fn put_text(out: &mut [u8], at: usize, text: &[u8]) -> usize
     ensures value { result ≡ at + length text.now }
     ensures out_after { out.new ≡ (take at out.old ++ text.now) ++ drop result out.old }
 {
-    at + bytes::copy(text, &mut out[at..])
+    let end = at + text.len();
+    out[at..end].copy_from_slice(text);
+    end
 }
 
 // Puts a number's digits after the first `at` bytes.

@@ -1,0 +1,18 @@
+-- `watch_lines::put_number` meets its contract: the digits that `io::decimal` answers are the number's numeral.
+use Rattle.std.proofs.Common.{◌++◌, ◌+◌, ◌<◌, length, take, drop, List, ℕ, ap, ◌∙◌, arith}
+use Rattle.watch_lines.proofs.Numerals.{numeral_of}
+use Rattle.watch_lines.proofs.put_number.Goals as goal
+
+pub returns-clause-value : goal.returns-clause-value
+returns-clause-value c =
+    let n = c.args.number in
+    let small : n < 18446744073709551616 = omega arith in
+    let shown = c.decimal-count.ensures.digits ∙ numeral_of c.decimal-count.result n small c.decimal-count.ensures.len in
+    c.put_text.ensures.value ∙ ap (λ (l : List ℕ). c.args.at + length l) shown
+
+pub returns-clause-out_after : goal.returns-clause-out_after
+returns-clause-out_after c =
+    let n = c.args.number in
+    let small : n < 18446744073709551616 = omega arith in
+    let shown = c.decimal-count.ensures.digits ∙ numeral_of c.decimal-count.result n small c.decimal-count.ensures.len in
+    c.put_text.ensures.out_after ∙ ap (λ (l : List ℕ). (take c.args.at c.args.out.now ++ l) ++ drop c.put_text.result c.args.out.now) shown
