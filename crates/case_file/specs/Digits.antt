@@ -1,4 +1,4 @@
--- What hexadecimal digits are worth. Assumes nothing.
+-- What hexadecimal digits are worth.
 use Rattle.std.specs.Prelude.{ℕ, ◌-◌, cond, ltb}
 
 -- 0 to 15 for `0` to `9` and `a` to `f`; 16 for every other byte

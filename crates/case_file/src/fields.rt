@@ -1,13 +1,25 @@
 // Lines of a file and fields of a line.
-ghost use Rattle.std.specs.Prelude.{◌≡◌, suc, ltb, length, take, drop};
-ghost use Rattle.bytes.specs.Bytes.{index_of};
-ghost use Rattle.io.specs.Counts.{IsPrefixLen};
-
-use bytes::scan::find;
+ghost use Rattle.std.specs.Prelude.{◌≡◌, ◌≤◌, ◌==◌, suc, ltb, length, take, drop, position};
+ghost use Rattle.case_file.specs.Places.{index_of};
 
 const LINE_END: u8 = 10;
 
 const BAR: u8 = 124;
+
+// The place of the first such byte, if there is one.
+fn place_of(text: &[u8], byte: u8) -> Option<usize>
+    ensures { result ≡ position (λ b. b == byte) text.now }
+{
+    text.iter().position(|b| *b == byte)
+}
+
+// The place of the first such byte; the text's length where there is none.
+fn index_of(text: &[u8], byte: u8) -> usize
+    ensures value { result ≡ index_of byte text.now }
+    ensures prefix_len { result ≤ length text.now }
+{
+    place_of(text, byte).unwrap_or(text.len())
+}
 
 // The line that begins at a position, without its end; no bytes past the text.
 pub fn line_at<'a>(text: &'a [u8], at: usize) -> &'a [u8]
@@ -16,8 +28,9 @@ pub fn line_at<'a>(text: &'a [u8], at: usize) -> &'a [u8]
     if text.len() < at {
         return &text[..0];
     }
-    let end = find(text, at, text.len(), LINE_END);
-    &text[at..end]
+    let rest = &text[at..];
+    let end = index_of(rest, LINE_END);
+    &rest[..end]
 }
 
 // Whether a line is a case: not empty, and no comment.
@@ -31,9 +44,9 @@ pub fn is_case(line: &[u8]) -> bool {
 // The position of the first bar; the text's length where there is none.
 fn bar(text: &[u8]) -> usize
     ensures value { result ≡ index_of 124 text.now }
-    ensures prefix_len { IsPrefixLen result text.now }
+    ensures prefix_len { result ≤ length text.now }
 {
-    find(text, 0, text.len(), BAR)
+    index_of(text, BAR)
 }
 
 // Whether there is a bar in a text.

@@ -12,6 +12,7 @@ pub struct Number {
 }
 
 // What a hexadecimal digit is worth; 16 for a byte that is none.
+#[tactic(auto, unfolding(crate::specs::Digits::digit_value))]
 pub(crate) fn digit(byte: usize) -> usize
     ensures { result ≡ digit_value byte }
 {

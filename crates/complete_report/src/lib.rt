@@ -10,7 +10,7 @@ ghost use Rattle.complete_report.specs.Order.{before};
 pub const VIOLATION_WORDS: usize = 2;
 
 // A tick at which a rule is false, and the step that decides it.
-#[derive(Drop)]
+#[derive(Clone, Copy)]
 pub struct Violation {
     pub tick: u64,
     pub step: u64,

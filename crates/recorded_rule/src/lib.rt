@@ -1,4 +1,6 @@
 // A sheet's rule over a recording: reading it, and the step at which it is false at a tick.
+#![tactic(auto)]
+
 ghost use Rattle.std.specs.Prelude.{◌≡◌};
 ghost use Rattle.nodes.specs.Table.{formula_in};
 ghost use Rattle.reader.specs.Decoded.{reading_answer};

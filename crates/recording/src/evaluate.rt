@@ -37,24 +37,30 @@ fn flag_at(recording: &[u8], env: Env, variable: u32, k: u32, s: u64) -> Outcome
 }
 
 // Whether no formula started at this step or later can change an outcome beside it, since none is decided before it starts.
-fn settled(outcome: Outcome, start: u64) -> bool
-    ensures { result ≡ false_by outcome start }
+fn settled(outcome: &Outcome, start: u64) -> bool
+    ensures { result ≡ false_by outcome.now start }
 {
     match outcome {
         Outcome::Decided(verdict, step) => match verdict {
             Verdict::True => false,
-            Verdict::False => step <= start,
+            Verdict::False => *step <= start,
         },
         Outcome::Open => false,
     }
 }
 
 // The outcome, at step s or later.
-fn raise(s: u64, outcome: Outcome) -> Outcome
-    ensures { result ≡ raise s outcome }
+fn raise(s: u64, outcome: &Outcome) -> Outcome
+    ensures { result ≡ raise s outcome.now }
 {
     match outcome {
-        Outcome::Decided(verdict, step) => Outcome::Decided(verdict, outcomes::later(s, step)),
+        Outcome::Decided(verdict, step) => {
+            let raised = outcomes::later(s, *step);
+            match verdict {
+                Verdict::True => Outcome::Decided(Verdict::True, raised),
+                Verdict::False => Outcome::Decided(Verdict::False, raised),
+            }
+        }
         Outcome::Open => Outcome::Open,
     }
 }
@@ -103,13 +109,14 @@ pub(crate) fn evaluate(
         };
     }
     if code == BESIDE_CODE {
-        let first = evaluate(nodes, left - 1, node + NODE_WORDS, recording, t, env, s);
+        let outcome = evaluate(nodes, left - 1, node + NODE_WORDS, recording, t, env, s);
+        let first = &outcome;
         if settled(first, s) {
-            return first;
+            return outcome;
         }
         let second_node = node_word(nodes, node, SECOND_PART) as usize;
         let other = evaluate(nodes, left - 1, second_node, recording, t, env, s);
-        return outcomes::both(first, other);
+        return outcomes::both(outcome, other);
     }
     if code == FORALL_CODE {
         return walk_range(nodes, left - 1, node, recording, t, env, s);
@@ -141,15 +148,16 @@ fn walk_range(
     let pos = env.pos;
     let plan = ranges::plan_up_to(ranges::range_at(nodes, node, &pos), t, s);
     let alike = alike(nodes, left, env.depth, node, plan.count);
-    let mut acc = plan.end;
+    let mut so_far = plan.end;
     let mut q = plan.first;
     let mut count = plan.count;
     while 0 < count {
         let start = outcomes::later(s, q);
+        let acc = &so_far;
         if settled(acc, start) {
-            return acc;
+            return so_far;
         }
-        let outcome = evaluate(
+        let here = evaluate(
             nodes,
             left,
             node + NODE_WORDS,
@@ -158,12 +166,14 @@ fn walk_range(
             enter(env, q),
             start,
         );
-        acc = outcomes::both(outcome, acc);
+        let outcome = &here;
         if alike {
-            return outcomes::both(raise(q + (count - 1), outcome), acc);
+            let last = raise(q + (count - 1), outcome);
+            return outcomes::both(last, outcomes::both(here, so_far));
         }
+        so_far = outcomes::both(here, so_far);
         q += 1;
         count -= 1;
     }
-    acc
+    so_far
 }

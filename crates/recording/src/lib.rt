@@ -1,4 +1,6 @@
 // The recording evaluator: a body's outcome at a tick of a recording.
+#![tactic(auto)]
+
 mod alike;
 mod env;
 mod evaluate;
