@@ -1,7 +1,6 @@
 -- `admission::admit_opening` meets its contract.
 --
 use Rattle.admission.proofs.Admits.{sized_small, opening_refused, opening_fits}
-use borrow.Author.Rules.{rules}
 use Rattle.admission.proofs.admit_opening.Goals as goal
 
 pub fit_opening-requires : goal.fit_opening-requires

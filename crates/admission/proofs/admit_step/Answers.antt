@@ -1,7 +1,6 @@
 -- `admission::admit_step` meets its contract.
 --
 use Rattle.admission.proofs.Admits.{sized_small, step_above, step_no_rule, step_fits}
-use borrow.Author.Rules.{rules}
 use Rattle.admission.proofs.admit_step.Goals as goal
 
 pub returns-then-opened-gt-LONGEST_HISTORY : goal.returns-then-opened-gt-LONGEST_HISTORY

@@ -1,6 +1,5 @@
 -- `admission::fit_opening` meets its contract: its tests are those of `room`, in the same order.
 --
-use borrow.Author.Rules.{rules}
 use borrow.Author.Tests.{le-leb, lt-leb}
 use Rattle.demand.specs.Contract.{room, must}
 use Rattle.admission.proofs.fit_opening.Goals as goal

@@ -1,6 +1,5 @@
 -- `admission::fit_state` meets its contract.
 --
-use borrow.Author.Rules.{rules}
 use borrow.Author.Tests.{le-leb, lt-leb}
 use Rattle.demand.specs.Contract.{must, fit_opened}
 use Rattle.admission.proofs.fit_state.Goals as goal

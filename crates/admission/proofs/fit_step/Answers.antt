@@ -1,7 +1,6 @@
 -- `admission::fit_step` meets its contract: its tests are those of `fit_lengths`, in the same order.
 --
 use native.Mathlib.Omega.{arith}
-use borrow.Author.Rules.{rules}
 use borrow.Author.Tests.{le-leb, lt-leb, eq-eqb, ne_eqb}
 use Rattle.demand.specs.Contract.{must, fit_lengths}
 use Rattle.admission.proofs.fit_step.Goals as goal

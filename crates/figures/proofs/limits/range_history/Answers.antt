@@ -3,30 +3,23 @@ use Prim.Native.Nat.{◌*◌, ◌≤◌}
 use mathlib.Core.Path.{◌≡◌, refl, sym, ap, subst, ◌∙◌}
 use native.Mathlib.Omega.{arith}
 use lib.IntN.{ℤ, nat_abs, ◌-ℤ◌}
-use borrow.Author.Rules.{rules}
 use Rattle.rule.specs.Meaning.{raised}
 use Rattle.rule.specs.Figures.{N_back}
 use Rattle.rule.specs.declared.Size.{Size}
 use Rattle.rule.specs.declared.Size.TheVariants.{Finite, Unbounded}
 use Rattle.rule.specs.declared.Limit.TheVariants.{Lowest, Highest}
 use Rattle.figures.specs.Distances.{Near, farthest, Modest}
-use Rattle.figures.proofs.Numbers.{bits_abs, difference_read}
+use Rattle.figures.proofs.Numbers.{difference_read}
 use Rattle.figures.proofs.limits.range_history.Goals as goal
 
 back-lowest : (k : Size) → N_back k Lowest ≡ Unbounded
-
 unfolding N_back
-
 back-lowest (Finite n) = refl
-
 back-lowest Unbounded = refl
 
 back-highest : (k : Size) → N_back k Highest ≡ Finite 0
-
 unfolding N_back
-
 back-highest (Finite n) = refl
-
 back-highest Unbounded = refl
 
 pub returns-in-Lowest : goal.returns-in-Lowest

@@ -4,11 +4,10 @@ use Prim.Native.Nat.{ℕ, ◌*◌, ◌≤◌, min}
 use mathlib.Core.Path.{◌≡◌, sym, ap, subst, ◌∙◌}
 use native.Mathlib.Omega.{arith}
 use lib.IntN.{ℤ, nat_abs, pos, ◌+ℤ◌, ◌-ℤ◌}
-use borrow.Author.Rules.{rules}
 use Rattle.rule.specs.Meaning.{raised}
 use Rattle.rule.specs.Figures.{positions_from}
 use Rattle.figures.specs.Distances.{Near, farthest}
-use Rattle.figures.proofs.Numbers.{bits, bits_abs, bits_are, sum_read, difference_read, abs_difference}
+use Rattle.figures.proofs.Numbers.{bits, bits_are, sum_read, difference_read, abs_difference}
 use Rattle.figures.proofs.limits.range_width.Goals as goal
 
 module _ (a b : ℤ) (h : nat_abs a ≤ farthest) (g : nat_abs b ≤ farthest) (d : ℤ) (e : d ≡ bits b -ℤ bits a) where

@@ -1,13 +1,12 @@
 -- `figures::limits::shifted` meets its contract.
-use Prim.Native.Nat.{◌*◌, ◌≤◌}
+use Prim.Native.Nat.{◌≤◌}
 use mathlib.Core.Path.{ap, subst}
 use native.Mathlib.Omega.{arith}
 use lib.IntN.{nat_abs}
-use borrow.Author.Rules.{rules}
 use Rattle.rule.specs.Figures.{shift}
 use Rattle.rule.specs.declared.Limit.TheVariants.{At}
 use Rattle.figures.specs.Distances.{Near, farthest}
-use Rattle.figures.proofs.Numbers.{bits_abs, sum_read}
+use Rattle.figures.proofs.Numbers.{sum_read}
 use Rattle.figures.proofs.limits.shifted.Goals as goal
 
 pub returns-in-Lowest : goal.returns-in-Lowest

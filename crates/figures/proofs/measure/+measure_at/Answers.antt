@@ -1,7 +1,6 @@
 -- `figures::measure::measure_at` meets its contract: each arm is one law of proofs/Arms.antt about the formula `operand` under the nots, and
 -- `above_nots` says it of the formula at word `node`.
-use Rattle.std.proofs.Common.{arith, false, ◌+◌, ◌≤◌, ◌<◌, ◌≡◌, ℕ, sym, ◌∙◌}
-use Rattle.nodes.proofs.Nodes.{word_in}
+use Rattle.std.proofs.Common.{arith, false, ◌+◌, ◌<◌, sym, ◌∙◌}
 use Rattle.nodes.proofs.Nots.{nots_left, nots_end}
 use Rattle.figures.specs.Distances.{inside, Near, farthest}
 use Rattle.figures.proofs.Distances.{near_more, lower_near, upper_near, body_begun, body_within, modest_larger}
@@ -37,8 +36,7 @@ measure_at-second_figure-requires t c =
     let left = c.args.left in
     let i = c.args.node in
     let u = c.skip_nots-operand.result in
-    let few = nots_left old left i false u c.skip_nots-operand.ensures in
-    (
+    let few = nots_left old left i false u c.skip_nots-operand.ensures in (
       omega (arith, few),
       record {
         nested = c.requires.nested;
@@ -142,8 +140,7 @@ measure_at-figure-requires t c =
     let few = nots_left old left i false u c.skip_nots-operand.ensures in
     let m = c.args.depth in
     let ps = inside c.args.scope c.args.depth in
-    let nested : c.args.depth < 4 = omega arith in
-    (
+    let nested : c.args.depth < 4 = omega arith in (
       omega (arith, few),
       record {
         nested = omega arith;

@@ -1,6 +1,5 @@
 -- `figures::measure::beside_figure` meets its contract.
 use mathlib.Core.Path.{refl}
-use borrow.Author.Rules.{rules}
 use Rattle.figures.specs.Parts.{beside_figure}
 use Rattle.figures.proofs.measure.beside_figure.Goals as goal
 

@@ -1,10 +1,7 @@
 -- `figures::measure::range_figure` meets its contract.
 use mathlib.Core.Path.{refl}
-use native.Mathlib.Omega.{arith}
-use borrow.Author.Rules.{rules}
 use Rattle.rule.specs.Figures.{width}
 use Rattle.figures.specs.Parts.{range_figure}
-use Rattle.figures.proofs.Distances.{near_more}
 use Rattle.figures.proofs.measure.range_figure.Goals as goal
 
 pub returns : goal.returns

@@ -1,6 +1,5 @@
 -- `figures::measure::then_figure` meets its contract.
 use mathlib.Core.Path.{refl}
-use borrow.Author.Rules.{rules}
 use Rattle.figures.specs.Parts.{then_figure}
 use Rattle.figures.proofs.measure.then_figure.Goals as goal
 

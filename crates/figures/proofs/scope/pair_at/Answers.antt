@@ -5,7 +5,6 @@ use mathlib.Core.Path.{◌≡◌, refl, sym, ap, subst, ◌∙◌}
 use native.Mathlib.Omega.{arith}
 use lib.IntN.{ℤ, nat_abs}
 use lib.ListN.{get_or}
-use borrow.Author.Rules.{rules}
 use borrow.Author.Tests.{ne_eqb}
 use Rattle.rule.specs.Body.{signed}
 use Rattle.rule.specs.Figures.{anywhere, bound_pair}
@@ -17,7 +16,6 @@ use Rattle.figures.proofs.Distances.{signed_abs, near_more}
 use Rattle.figures.proofs.scope.pair_at.Goals as goal
 
 offset-bits : (n : ℤ) (x w : ℕ) → x ≡ w → n ≡ signed x → bits n ≡ signed w
-
 offset-bits n x w e f = bits_are n (subst (λ (z : ℤ). nat_abs z ≤ 4000000) (sym f) (omega (arith, signed_abs x))) ∙ f ∙ ap signed e
 
 pub returns-then-kind-eq-ORIGIN_KIND : goal.returns-then-kind-eq-ORIGIN_KIND

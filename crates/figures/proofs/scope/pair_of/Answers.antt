@@ -1,12 +1,9 @@
 -- `figures::scope::pair_of` meets its contract.
 use Prim.Native.Nat.{◌+◌}
-use mathlib.Core.Path.{◌≡◌, sym, ◌∙◌}
+use mathlib.Core.Path.{sym}
 use native.Mathlib.Omega.{arith}
-use lib.ListN.{length, take, length-map, length-take, get_or-eq_default}
-use lib.Seq.{get_or-take}
-use borrow.Author.Rules.{rules}
+use lib.ListN.{take, length-take, get_or-eq_default}
 use Rattle.rule.specs.Figures.{anywhere}
-use Rattle.figures.proofs.Numbers.{get_d_any}
 use Rattle.figures.proofs.scope.pair_of.Goals as goal
 
 pub returns-then-depth-variable : goal.returns-then-depth-variable

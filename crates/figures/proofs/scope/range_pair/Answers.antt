@@ -1,5 +1,4 @@
 -- `figures::scope::range_pair` meets its contract.
-use borrow.Author.Rules.{rules}
 use Rattle.rule.specs.Figures.{range_pair}
 use Rattle.figures.proofs.scope.range_pair.Goals as goal
 
