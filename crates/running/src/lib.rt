@@ -1,4 +1,6 @@
 // The records of a set's running rules as lent words, eight to a record, in the order and layout of the struct `Running`: what C lends.
+#![tactic(auto)]
+
 ghost use Rattle.std.specs.Prelude.{◌+◌, ◌*◌, ◌%◌, ◌/◌, ◌≡◌, get_or, set};
 ghost use Rattle.demand.specs.SetContract.{no_rule};
 ghost use Rattle.running.specs.Records.{rules_in};

@@ -1,5 +1,6 @@
 // Where the pieces of a rule's text end. No function asks anything of a position: beyond the text there is nothing to read.
 #![tactic(auto)]
+
 mod bounds;
 mod names;
 mod pieces;

@@ -1,5 +1,4 @@
 -- `sheet_writer::lengths_fit` meets its contract. The loop's invariant: what is left to find out of the lengths from `index` on decides all.
---
 use mathlib.Core.Path.{sym, ◌∙◌}
 use native.Mathlib.Omega.{arith}
 use Rattle.sheet_writer.proofs.Stores.{lengths_on, lengths_low, lengths_high, lengths_end}

@@ -1,5 +1,4 @@
 -- `sheet_writer::lengths_fit` meets its contract. The loop's invariant: what is left to find out of the lengths from `index` on decides all.
---
 use Prim.Native.Nat.{◌≤◌, ◌*◌, ◌-◌}
 use mathlib.Core.Path.{◌≡◌}
 use mathlib.Core.Bool.{◌&&◌}

@@ -1,5 +1,4 @@
 -- `sheet_writer::put_contents` meets its contract. The loop's invariant: what is stored, and the entries still to come, are the table of contents.
---
 use Prim.Native.Nat.{ℕ, ◌≤◌, ◌+◌, ◌*◌}
 use mathlib.Core.Path.{◌≡◌, refl, ap, ◌∙◌}
 use mathlib.Core.List.{List, ◌++◌, append-nil}
