@@ -16,7 +16,7 @@ pub use stepping::{SteppedSet, step_set};
 pub const MOST_RULES: usize = 32;
 
 // The records of a set: the first `lent` of the 32, all of them where `lent` is above 32.
-#[derive(Drop)]
+#[derive(Clone, Copy)]
 pub struct RuleSet {
     pub rules: [Running; MOST_RULES],
     pub lent: usize,
