@@ -1,5 +1,7 @@
 // Which openings and steps are refused, and with which number, in 01's order: an opening of a body with 4 to 15, 23, 24, 17 and 18, a step with 17 to 21;
 // and how many flags the tick numbers leave (flags_left).
+#![tactic(auto)]
+
 ghost use Rattle.std.specs.Prelude.{◌≡◌, ◌-◌, min};
 ghost use Rattle.refusal.specs.Answer.{and_then};
 ghost use Rattle.rule.specs.Figures.{body_figures};

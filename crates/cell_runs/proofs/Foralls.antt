@@ -11,7 +11,6 @@ use borrow.Author.Tests.{eq-eqb, ne_eqb}
 use lib.Dec.{eqb}
 use lib.ListN.{length, get_or, take, drop, length-take, get_or-append, get_or-eq_default}
 use lib.Seq.{get_or-take}
-use lib.IntN.{pos}
 use borrow.Rule.Slice.PartMut.{put_mid}
 use Rattle.rule.specs.declared.Verdict.TheVariants.{True, False}
 use Rattle.rule.specs.declared.Outcome.{Outcome}

@@ -10,7 +10,6 @@ use borrow.Rule.Slice.PartMut.{put_mid, same_len_mid}
 use Rattle.rule.specs.declared.Verdict.{Verdict}
 use Rattle.rule.specs.declared.Outcome.{Outcome}
 use Rattle.rule.specs.declared.Outcome.TheVariants.{Decided, Open}
-use Rattle.rule.specs.Meaning.{after}
 use Rattle.rule.specs.Started.{Before}
 use Rattle.rule.proofs.Progress.{clash, stays, fresh}
 use Rattle.cell_runs.specs.Tree.{Tree, formula_of}

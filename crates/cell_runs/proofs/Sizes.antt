@@ -122,13 +122,13 @@ range_parts w c n e h =
     let t = times_parts w c o.0 o.1 in
     let en : n ≡ 1 + o.0 = o.2 in
     ⊎_elim
-    (λ z.
+    (λ (z : (t.0 ≡ 0) × (o.0 ≡ 0)).
     let z0 : t.0 ≡ 0 = z.0 in
     let y0 : o.0 ≡ 0 = z.1 in
     let cw : cap w ≡ 0 = cap_is w t.0 t.1 (omega arith) ∙ z0 in
     let zero_words : cap w * (4 * (1 + cap c)) ≡ 0 = ap (λ (x : ℕ). x * (4 * (1 + cap c))) cw ∙ zero-mul (4 * (1 + cap c)) in
     record { width_within = within_cap w t.0 t.1 (omega arith); run_words = omega arith; body = inl cw })
-    (λ y.
+    (λ (y : (v : ℕ) × (c ≡ Finite v) × (o.0 ≡ t.0 * (1 + v))).
     let m : o.0 ≡ t.0 * (1 + y.0) = y.2 in
     let most : t.0 ≤ 4096 = omega (arith, le-mul_of_pos_right {m = 1 + y.0} t.0 (omega arith)) in
     let cw : cap w ≡ t.0 = cap_is w t.0 t.1 most in

@@ -19,7 +19,7 @@ use Rattle.rule.specs.Started.{Before, Reach}
 use Rattle.rule.proofs.Passing.{passing_last}
 use Rattle.demand.proofs.Ring.{slots_differ}
 use Rattle.outcomes.specs.Asked.{open_count}
-use Rattle.cell_runs.specs.Tree.{Tree, formula_of, words}
+use Rattle.cell_runs.specs.Tree.{Tree, formula_of}
 use Rattle.cell_runs.specs.Slots.{slot}
 use Rattle.cell_runs.specs.Calls.{FlagsAtHand}
 use Rattle.cell_runs.specs.Instances.{InstanceHolds, InstanceMoved, tick_if_false, InstancesHold, TicksMoved, Spared}

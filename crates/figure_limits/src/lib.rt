@@ -14,7 +14,7 @@ use refusal::Refusal;
 use rule::{Figures, MAX_DELAY, MAX_HISTORY, Size};
 
 // A body's figures, or its refusal.
-#[derive(Drop)]
+#[derive(Clone, Copy)]
 pub enum FigureAnswer {
     Sized(Figures),
     Refused(Refusal),

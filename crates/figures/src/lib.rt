@@ -1,4 +1,6 @@
 // A body's figures: history, delay and cells, or a refusal (4 to 15, 23, 24); and the sizes that the engine needs, written into the node table.
+#![tactic(auto)]
+
 mod limits;
 mod measure;
 mod scope;

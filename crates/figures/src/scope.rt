@@ -12,7 +12,7 @@ use rule::{Limit, Pair};
 use signed::offset_of;
 
 // The pairs of the rule's tick and of at most 4 quantifiers' variables.
-#[derive(Drop)]
+#[derive(Clone, Copy)]
 pub(crate) struct Scope {
     pub(crate) pairs: [Pair; 5],
 }

@@ -1,6 +1,4 @@
 -- `figure_limits::limit_cells` meets its contract.
-use borrow.Author.Rules.{rules}
-use borrow.Author.Tests.{not-true, not-false}
 use Rattle.rule.specs.Figures.{limit_cells}
 use Rattle.figure_limits.proofs.limit_cells.Goals as goal
 

@@ -1,5 +1,4 @@
 -- `figure_limits::limit_delay` meets its contract.
-use borrow.Author.Rules.{rules}
 use borrow.Author.Tests.{le-leb, lt-leb}
 use Rattle.rule.specs.Figures.{limit_delay}
 use Rattle.figure_limits.proofs.limit_delay.Goals as goal

@@ -1,5 +1,4 @@
 -- `figure_limits::limit_history` meets its contract.
-use borrow.Author.Rules.{rules}
 use borrow.Author.Tests.{le-leb, lt-leb}
 use Rattle.rule.specs.Figures.{limit_history}
 use Rattle.figure_limits.proofs.limit_history.Goals as goal

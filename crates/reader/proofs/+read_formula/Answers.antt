@@ -1,12 +1,11 @@
 -- `reader::read_formula` meets its contract: each arm is one law of proofs/Fills.antt.
-use Rattle.std.proofs.Common.{arith, ◌≤◌, length, ◌≡◌, ℕ, List, ◌+◌, ◌<◌, sym, ap, subst, ◌∙◌, refl}
+use Rattle.std.proofs.Common.{arith, ◌≤◌, ℕ, List, ◌+◌, ◌<◌, sym, ap, subst, ◌∙◌}
 use lib.ListN.{set}
 use Rattle.words.specs.Words.{byte}
 use Rattle.rule.specs.Body.{head}
-use Rattle.rule.proofs.Heads.{Accepts, Tested, accepts_tested, flag_room, forall_room}
+use Rattle.rule.proofs.Heads.{Accepts, Tested, accepts_tested}
 use Rattle.reader.specs.Written.{Headed, node_start}
 use Rattle.reader.specs.Filled.{Filled}
-use Rattle.reader.specs.declared.Part.TheVariants.{Refused, Ended}
 use Rattle.reader.proofs.Ends.{head_accepts}
 use Rattle.reader.proofs.Fills.{refused_fill, flag_fill, negate_fill, forall_fill, first_fill, second_left, second_fill}
 use Rattle.reader.proofs.+read_formula.Goals as goal
@@ -37,7 +36,7 @@ pub returns-then-code-eq-FLAG_CODE_BYTE : goal.returns-then-code-eq-FLAG_CODE_BY
 returns-then-code-eq-FLAG_CODE_BYTE t c =
     let a : Accepts (head c.args.body.now c.args.at c.args.depth c.args.left) = head_accepts c.args.body.now c.args.at c.args.depth c.args.left (sym (c.in_default.ensures)) in
     let w : Headed c.args.body.now c.args.at (node_start c.args.left) c.args.nodes.now c.write_head.new.nodes =
-        subst (λ (i : ℕ). Headed c.args.body.now c.args.at i c.args.nodes.now c.write_head.new.nodes) c.node_place-node.ensures c.write_head.ensures in
+    subst (λ (i : ℕ). Headed c.args.body.now c.args.at i c.args.nodes.now c.write_head.new.nodes) c.node_place-node.ensures c.write_head.ensures in
     flag_fill c.args.body.now c.args.at c.args.depth c.args.left c.requires.0 a c.args.nodes.now c.write_head.new.nodes w c.if-code-eq-FLAG_CODE_BYTE.true
 
 pub overflow_sub-left : goal.overflow_sub-left
@@ -56,7 +55,7 @@ pub returns-then-code-eq-NOT_CODE_BYTE : goal.returns-then-code-eq-NOT_CODE_BYTE
 returns-then-code-eq-NOT_CODE_BYTE t c =
     let a : Accepts (head c.args.body.now c.args.at c.args.depth c.args.left) = head_accepts c.args.body.now c.args.at c.args.depth c.args.left (sym (c.in_default.ensures)) in
     let w : Headed c.args.body.now c.args.at (node_start c.args.left) c.args.nodes.now c.write_head.new.nodes =
-        subst (λ (i : ℕ). Headed c.args.body.now c.args.at i c.args.nodes.now c.write_head.new.nodes) c.node_place-node.ensures c.write_head.ensures in
+    subst (λ (i : ℕ). Headed c.args.body.now c.args.at i c.args.nodes.now c.write_head.new.nodes) c.node_place-node.ensures c.write_head.ensures in
     negate_fill c.args.body.now c.args.at c.args.depth c.args.left c.requires.0 a c.args.nodes.now c.write_head.new.nodes w c.if-code-eq-NOT_CODE_BYTE.true c.read_formula.result c.read_formula.new.nodes c.read_formula.ensures
 
 pub overflow_add-depth : goal.overflow_add-depth
@@ -81,7 +80,7 @@ pub returns-then-code-eq-FORALL_CODE_BYTE : goal.returns-then-code-eq-FORALL_COD
 returns-then-code-eq-FORALL_CODE_BYTE t c =
     let a : Accepts (head c.args.body.now c.args.at c.args.depth c.args.left) = head_accepts c.args.body.now c.args.at c.args.depth c.args.left (sym (c.in_default.ensures)) in
     let w : Headed c.args.body.now c.args.at (node_start c.args.left) c.args.nodes.now c.write_head.new.nodes =
-        subst (λ (i : ℕ). Headed c.args.body.now c.args.at i c.args.nodes.now c.write_head.new.nodes) c.node_place-node.ensures c.write_head.ensures in
+    subst (λ (i : ℕ). Headed c.args.body.now c.args.at i c.args.nodes.now c.write_head.new.nodes) c.node_place-node.ensures c.write_head.ensures in
     forall_fill c.args.body.now c.args.at c.args.depth c.args.left c.requires.0 a c.args.nodes.now c.write_head.new.nodes w c.if-code-eq-FORALL_CODE_BYTE.true c.read_formula-then-code-eq-FORALL_CODE_BYTE.result c.read_formula-then-code-eq-FORALL_CODE_BYTE.new.nodes c.read_formula-then-code-eq-FORALL_CODE_BYTE.ensures
 
 pub overflow_add-at-2 : goal.overflow_add-at-2
@@ -107,7 +106,7 @@ write_second-requires t c =
     let a : Accepts (head c.args.body.now c.args.at c.args.depth c.args.left) = head_accepts c.args.body.now c.args.at c.args.depth c.args.left (sym (c.in_default.ensures)) in
     let f : Tested c.args.body.now c.args.at c.args.depth c.args.left = accepts_tested c.args.body.now c.args.at c.args.depth c.args.left a in
     let w : Headed c.args.body.now c.args.at (node_start c.args.left) c.args.nodes.now c.write_head.new.nodes =
-        subst (λ (i : ℕ). Headed c.args.body.now c.args.at i c.args.nodes.now c.write_head.new.nodes) c.node_place-node.ensures c.write_head.ensures in
+    subst (λ (i : ℕ). Headed c.args.body.now c.args.at i c.args.nodes.now c.write_head.new.nodes) c.node_place-node.ensures c.write_head.ensures in
     let low : 3 ≤ byte c.args.body.now c.args.at = omega (arith, f.known_low) in
     let high : byte c.args.body.now c.args.at ≤ 4 = omega (arith, f.known_high) in
     let less : c.in-Ended.rest < c.args.left = second_left c.args.body.now c.args.at c.args.depth c.args.left c.requires.0 a c.args.nodes.now c.write_head.new.nodes w low high c.read_formula-first.result c.read_formula-first.new.nodes c.read_formula-first.ensures c.in-Ended.next c.in-Ended.rest c.in-Ended.is in
@@ -118,7 +117,7 @@ read_formula-requires-in-Ended t c =
     let a : Accepts (head c.args.body.now c.args.at c.args.depth c.args.left) = head_accepts c.args.body.now c.args.at c.args.depth c.args.left (sym (c.in_default.ensures)) in
     let f : Tested c.args.body.now c.args.at c.args.depth c.args.left = accepts_tested c.args.body.now c.args.at c.args.depth c.args.left a in
     let w : Headed c.args.body.now c.args.at (node_start c.args.left) c.args.nodes.now c.write_head.new.nodes =
-        subst (λ (i : ℕ). Headed c.args.body.now c.args.at i c.args.nodes.now c.write_head.new.nodes) c.node_place-node.ensures c.write_head.ensures in
+    subst (λ (i : ℕ). Headed c.args.body.now c.args.at i c.args.nodes.now c.write_head.new.nodes) c.node_place-node.ensures c.write_head.ensures in
     let low : 3 ≤ byte c.args.body.now c.args.at = omega (arith, f.known_low) in
     let high : byte c.args.body.now c.args.at ≤ 4 = omega (arith, f.known_high) in
     let less : c.in-Ended.rest < c.args.left = second_left c.args.body.now c.args.at c.args.depth c.args.left c.requires.0 a c.args.nodes.now c.write_head.new.nodes w low high c.read_formula-first.result c.read_formula-first.new.nodes c.read_formula-first.ensures c.in-Ended.next c.in-Ended.rest c.in-Ended.is in
@@ -129,7 +128,7 @@ returns-in-Refused-first t c =
     let a : Accepts (head c.args.body.now c.args.at c.args.depth c.args.left) = head_accepts c.args.body.now c.args.at c.args.depth c.args.left (sym (c.in_default.ensures)) in
     let f : Tested c.args.body.now c.args.at c.args.depth c.args.left = accepts_tested c.args.body.now c.args.at c.args.depth c.args.left a in
     let w : Headed c.args.body.now c.args.at (node_start c.args.left) c.args.nodes.now c.write_head.new.nodes =
-        subst (λ (i : ℕ). Headed c.args.body.now c.args.at i c.args.nodes.now c.write_head.new.nodes) c.node_place-node.ensures c.write_head.ensures in
+    subst (λ (i : ℕ). Headed c.args.body.now c.args.at i c.args.nodes.now c.write_head.new.nodes) c.node_place-node.ensures c.write_head.ensures in
     let low : 3 ≤ byte c.args.body.now c.args.at = omega (arith, f.known_low) in
     let high : byte c.args.body.now c.args.at ≤ 4 = omega (arith, f.known_high) in
     first_fill c.args.body.now c.args.at c.args.depth c.args.left c.requires.0 a c.args.nodes.now c.write_head.new.nodes w low high c.read_formula-first.result c.read_formula-first.new.nodes c.read_formula-first.ensures c.in-Refused-first.refusal c.in-Refused-first.is
@@ -139,7 +138,7 @@ returns-in-Ended t c =
     let a : Accepts (head c.args.body.now c.args.at c.args.depth c.args.left) = head_accepts c.args.body.now c.args.at c.args.depth c.args.left (sym (c.in_default.ensures)) in
     let f : Tested c.args.body.now c.args.at c.args.depth c.args.left = accepts_tested c.args.body.now c.args.at c.args.depth c.args.left a in
     let w : Headed c.args.body.now c.args.at (node_start c.args.left) c.args.nodes.now c.write_head.new.nodes =
-        subst (λ (i : ℕ). Headed c.args.body.now c.args.at i c.args.nodes.now c.write_head.new.nodes) c.node_place-node.ensures c.write_head.ensures in
+    subst (λ (i : ℕ). Headed c.args.body.now c.args.at i c.args.nodes.now c.write_head.new.nodes) c.node_place-node.ensures c.write_head.ensures in
     let low : 3 ≤ byte c.args.body.now c.args.at = omega (arith, f.known_low) in
     let high : byte c.args.body.now c.args.at ≤ 4 = omega (arith, f.known_high) in
     second_fill c.args.body.now c.args.at c.args.depth c.args.left c.requires.0 a c.args.nodes.now c.write_head.new.nodes w low high c.read_formula-first.result c.read_formula-first.new.nodes c.read_formula-first.ensures c.in-Ended.next c.in-Ended.rest c.in-Ended.is (omega (arith, f.some_left)) c.read_formula-in-Ended.result c.read_formula-in-Ended.new.nodes

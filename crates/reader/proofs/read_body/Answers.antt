@@ -1,6 +1,5 @@
 -- `reader::read_body` meets its contract.
 use Rattle.reader.proofs.Bodies.{body_refused, body_whole, body_longer}
-use borrow.Author.Rules.{rules}
 use Rattle.reader.proofs.read_body.Goals as goal
 
 pub returns-in-Refused : goal.returns-in-Refused

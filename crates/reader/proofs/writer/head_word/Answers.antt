@@ -1,7 +1,6 @@
 -- `reader::writer::head_word` meets its contract.
 use borrow.Author.Tests.{le-ltb, lt-ltb, ne_eqb}
 use Rattle.reader.specs.Written.{head_word}
-use borrow.Author.Rules.{rules}
 use Rattle.reader.proofs.writer.head_word.Goals as goal
 
 pub returns-then-index-lt3 : goal.returns-then-index-lt3

@@ -1,10 +1,8 @@
 -- `reader::writer::write_head` meets its contract: after k rounds the first k words are written.
-use Prim.Native.Nat.{◌+◌, ◌-◌, ◌≤◌}
-use mathlib.Core.Path.{◌≡◌, refl, ◌∙◌}
-use native.Mathlib.Omega.{arith}
-use lib.ListN.{length, length-set}
-use borrow.Author.Rules.{rules}
-use Rattle.reader.proofs.Nodes.{Written, none_written, one_more}
+use Prim.Native.Nat.{◌-◌, ◌≤◌}
+use mathlib.Core.Path.{◌≡◌}
+use lib.ListN.{length}
+use Rattle.reader.proofs.Nodes.{Written}
 use Rattle.reader.proofs.writer.write_head.Given as goal
 
 abbrev pub invariant-loop-index : goal.invariant-loop-index
