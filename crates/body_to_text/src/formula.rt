@@ -11,7 +11,7 @@ use nodes::{
 };
 
 // A formula's place in the node table: the formulas left there, the quantifiers around it, and its word.
-#[derive(Drop)]
+#[derive(Clone, Copy)]
 pub(crate) struct Place {
     pub left: usize,
     pub depth: u32,

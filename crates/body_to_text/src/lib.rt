@@ -1,5 +1,6 @@
 // A body as text: "monitor x : ..", with the names x, y, z, u, v by nesting.
 #![tactic(auto)]
+
 mod formula;
 mod pieces;
 mod store;

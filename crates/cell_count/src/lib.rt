@@ -1,6 +1,8 @@
 // A rule's cells, counted in 16 bits. Above the limit it does not matter how many there are, so every count stops at 4,097. Each sum and product is
 // tested before it is worked out: no number on the way passes 16 bits. Only `capped` takes a wider number, a range's W, and tests it before it is
 // narrowed.
+#![tactic(auto)]
+
 mod products;
 mod sums;
 

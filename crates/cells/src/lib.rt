@@ -1,4 +1,6 @@
 // What the words of a cell say, four words of a rule's table: an outcome in two of them, or the head of a range.
+#![tactic(auto)]
+
 mod head;
 mod outcome;
 

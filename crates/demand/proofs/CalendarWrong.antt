@@ -1,8 +1,8 @@
 -- What the claim about a calendar does not allow, by computation: one run of words, and the stream of one byte with flag 0 up.
-use mathlib.Core.Path.{◌≡◌, refl, sym, ◌∙◌}
-use mathlib.Core.Bool.{true, false, false≢true}
+use mathlib.Core.Path.{sym}
+use mathlib.Core.Bool.{false≢true}
 use mathlib.Core.List.{List, [], ◌∷◌}
-use Prim.Native.Nat.{ℕ, ◌<◌}
+use Prim.Native.Nat.{ℕ}
 use native.Mathlib.Omega.{arith}
 use Rattle.rule.specs.Meaning.{up}
 use Rattle.calendar.specs.Calendar.{kept, run_word, up_at}

@@ -17,7 +17,6 @@ use Rattle.rule.specs.declared.Figures.{Figures}
 use Rattle.rule.specs.Formula.{Formula}
 use Rattle.rule.specs.Body.{body}
 use Rattle.rule.specs.Figures.{figures, body_figures}
-use Rattle.demand.specs.declared.Running.{Running}
 use Rattle.demand.specs.Contract.{must}
 use Rattle.demand.specs.SetContract.{SetOpening, no_rule, all_cells, largest, bodies_from, sheet_bodies, all_figures, set_figures, set_room, admit_set_lengths, admit_set, opened_rule, opened_rules}
 use Rattle.demand.specs.SetDemand.{no_figures, no_formula, SetAcceptable}

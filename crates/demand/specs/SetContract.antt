@@ -1,5 +1,5 @@
 -- What opening, step and batch of a set promise: document 02, point 4, "A whole sheet at once".
-use Rattle.std.specs.Prelude.{ℕ, zero, suc, ◌+◌, ◌*◌, ◌%◌, ◌≤◌, ◌<◌, max, ◌≡◌, Bool, true, false, not, cond, ◌&&◌, ◌||◌, ◌⊎◌, List, [], ◌∷◌, ◌++◌, map, leb, eqb, length, get_or, take, drop, set, replicate}
+use Rattle.std.specs.Prelude.{ℕ, zero, suc, ◌+◌, ◌*◌, ◌%◌, ◌≤◌, ◌<◌, max, ◌≡◌, Bool, false, not, cond, ◌&&◌, ◌||◌, ◌⊎◌, List, [], ◌∷◌, ◌++◌, map, leb, eqb, length, get_or, take, drop, set, replicate}
 use Rattle.refusal.specs.Answer.{Answer, refused, accepted, and_then}
 use Rattle.sheet.specs.Sheet.{rule_count, body_offset, extent, has_contents, laid_out}
 use Rattle.rule.specs.declared.Figures.{Figures}

@@ -10,12 +10,7 @@ use recording::Evaluated;
 use rule::{Outcome, Verdict};
 
 // The figures of a body: refusals 4 to 15, 23, 24.
-pub fn sw_figures(
-    body: &[u8],
-    history: &mut u64,
-    delay: &mut u64,
-    cells: &mut u64,
-) -> u32
+pub fn sw_figures(body: &[u8], history: &mut u64, delay: &mut u64, cells: &mut u64) -> u32
     ensures value { result ≡ number (body_figures body.now) }
     ensures history_after { history.new ≡ or_kept (λ figures. figures.history) (body_figures body.now) history.old }
     ensures delay_after { delay.new ≡ or_kept (λ figures. figures.delay) (body_figures body.now) delay.old }
@@ -33,8 +28,8 @@ pub fn sw_figures(
     }
 }
 
-fn verdict_number(outcome: Outcome) -> u32
-    ensures { result ≡ verdict_number outcome }
+fn verdict_number(outcome: &Outcome) -> u32
+    ensures { result ≡ verdict_number outcome.now }
 {
     match outcome {
         Outcome::Decided(verdict, _) => match verdict {
@@ -69,7 +64,7 @@ pub fn sw_outcome(
     let answer = recording::outcome_at(body, recording, tick);
     match answer {
         Evaluated::Answered(outcome) => {
-            *verdict = verdict_number(outcome);
+            *verdict = verdict_number(&outcome);
             *step = step_number(outcome);
             0
         }

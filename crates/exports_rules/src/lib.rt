@@ -1,6 +1,7 @@
 // The library for C and Rust (include/station_watch.h), its functions on sheets, bodies, recordings, rules as text and refusals: numbers and lent slices.
 // Each answers 0 or a refusal's number; on a refusal nothing lent is changed, answers included. `exports_watch` has those that watch a stream.
 #![tactic(auto)]
+
 mod bodies;
 mod lengths;
 mod rules;

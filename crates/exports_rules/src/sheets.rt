@@ -8,12 +8,7 @@ use crate::lengths::answer_length;
 use sheet::Found;
 
 // Where a rule's body lies in its sheet: refusals 1 to 3.
-pub fn sw_rule_place(
-    sheet: &[u8],
-    rule: usize,
-    start: &mut usize,
-    size: &mut usize,
-) -> u32
+pub fn sw_rule_place(sheet: &[u8], rule: usize, start: &mut usize, size: &mut usize) -> u32
     ensures value { result ≡ number (rule_place sheet.now rule) }
     ensures start_after { start.new ≡ or_kept (λ place. place.start) (rule_place sheet.now rule) start.old }
     ensures size_after { size.new ≡ or_kept (λ place. place.size) (rule_place sheet.now rule) size.old }
@@ -33,12 +28,7 @@ pub fn sw_rule_place(
 }
 
 // Writes the sheet of these bodies at the start of the buffer and answers its length: refusals 1, 2, 22.
-pub fn sw_write_sheet(
-    lengths: &[u16],
-    bodies: &[u8],
-    out: &mut [u8],
-    written: &mut usize,
-) -> u32
+pub fn sw_write_sheet(lengths: &[u16], bodies: &[u8], out: &mut [u8], written: &mut usize) -> u32
     ensures value { result ≡ number (sheet_length lengths.now bodies.now (length out.old)) }
     ensures out_after { out.new ≡ buffer_after lengths.now bodies.now out.old }
     ensures written_after { written.new ≡ or_kept (λ size. size) (sheet_length lengths.now bodies.now (length out.old)) written.old }

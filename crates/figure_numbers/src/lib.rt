@@ -1,5 +1,7 @@
 // Numbers of figures, some of them infinite: the larger of two sizes, 01's N(u), and whether the pair of a range's variable leaves it always empty (02, point
 // 6).
+#![tactic(auto)]
+
 ghost use Rattle.std.specs.Prelude.{◌≡◌};
 ghost use Rattle.rule.specs.Figures.{larger, N, always_empty};
 

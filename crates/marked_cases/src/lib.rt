@@ -1,1 +1,3 @@
+#![tactic(auto)]
+
 // The cases of document 01, "Proving ground": theorems of the definitions (specs/, proofs/). There is no code here.

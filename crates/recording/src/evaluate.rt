@@ -37,30 +37,24 @@ fn flag_at(recording: &[u8], env: Env, variable: u32, k: u32, s: u64) -> Outcome
 }
 
 // Whether no formula started at this step or later can change an outcome beside it, since none is decided before it starts.
-fn settled(outcome: &Outcome, start: u64) -> bool
-    ensures { result ≡ false_by outcome.now start }
+fn settled(outcome: Outcome, start: u64) -> bool
+    ensures { result ≡ false_by outcome start }
 {
     match outcome {
         Outcome::Decided(verdict, step) => match verdict {
             Verdict::True => false,
-            Verdict::False => *step <= start,
+            Verdict::False => step <= start,
         },
         Outcome::Open => false,
     }
 }
 
 // The outcome, at step s or later.
-fn raise(s: u64, outcome: &Outcome) -> Outcome
-    ensures { result ≡ raise s outcome.now }
+fn raise(s: u64, outcome: Outcome) -> Outcome
+    ensures { result ≡ raise s outcome }
 {
     match outcome {
-        Outcome::Decided(verdict, step) => {
-            let raised = outcomes::later(s, *step);
-            match verdict {
-                Verdict::True => Outcome::Decided(Verdict::True, raised),
-                Verdict::False => Outcome::Decided(Verdict::False, raised),
-            }
-        }
+        Outcome::Decided(verdict, step) => Outcome::Decided(verdict, outcomes::later(s, step)),
         Outcome::Open => Outcome::Open,
     }
 }
@@ -109,14 +103,13 @@ pub(crate) fn evaluate(
         };
     }
     if code == BESIDE_CODE {
-        let outcome = evaluate(nodes, left - 1, node + NODE_WORDS, recording, t, env, s);
-        let first = &outcome;
+        let first = evaluate(nodes, left - 1, node + NODE_WORDS, recording, t, env, s);
         if settled(first, s) {
-            return outcome;
+            return first;
         }
         let second_node = node_word(nodes, node, SECOND_PART) as usize;
         let other = evaluate(nodes, left - 1, second_node, recording, t, env, s);
-        return outcomes::both(outcome, other);
+        return outcomes::both(first, other);
     }
     if code == FORALL_CODE {
         return walk_range(nodes, left - 1, node, recording, t, env, s);
@@ -148,16 +141,15 @@ fn walk_range(
     let pos = env.pos;
     let plan = ranges::plan_up_to(ranges::range_at(nodes, node, &pos), t, s);
     let alike = alike(nodes, left, env.depth, node, plan.count);
-    let mut so_far = plan.end;
+    let mut acc = plan.end;
     let mut q = plan.first;
     let mut count = plan.count;
     while 0 < count {
         let start = outcomes::later(s, q);
-        let acc = &so_far;
         if settled(acc, start) {
-            return so_far;
+            return acc;
         }
-        let here = evaluate(
+        let outcome = evaluate(
             nodes,
             left,
             node + NODE_WORDS,
@@ -166,14 +158,12 @@ fn walk_range(
             enter(env, q),
             start,
         );
-        let outcome = &here;
+        acc = outcomes::both(outcome, acc);
         if alike {
-            let last = raise(q + (count - 1), outcome);
-            return outcomes::both(last, outcomes::both(here, so_far));
+            return outcomes::both(raise(q + (count - 1), outcome), acc);
         }
-        so_far = outcomes::both(here, so_far);
         q += 1;
         count -= 1;
     }
-    so_far
+    acc
 }

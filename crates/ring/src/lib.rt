@@ -1,4 +1,6 @@
 // The history as a ring: tick q has its byte at q mod L.
+#![tactic(auto)]
+
 ghost use Rattle.std.specs.Prelude.{◌≡◌, ◌%◌, length, set, replicate};
 ghost use Rattle.ring.specs.Ring.{byte_of};
 

@@ -1,5 +1,7 @@
 // Which openings, steps and batches of a set are refused, and with which number: what all rules of a sheet need together, what an opening and a step are lent,
 // and whether records are those of running rules.
+#![tactic(auto)]
+
 mod records;
 mod sheet_figures;
 

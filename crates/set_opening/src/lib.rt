@@ -1,4 +1,6 @@
 // Opening a set: all the rules of a sheet over one history and one cell table, with a record for each.
+#![tactic(auto)]
+
 ghost use Rattle.std.specs.Prelude.{◌≡◌, List, ◌++◌, ◌≤◌, length, drop};
 ghost use Rattle.refusal.specs.Answer.{accepted, and_then};
 ghost use Rattle.sheet.specs.Sheet.{rule_body};

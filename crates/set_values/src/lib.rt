@@ -1,4 +1,5 @@
 // A set by value: its records in one struct, and thin functions over it.
+#![tactic(auto)]
 ghost use Rattle.std.specs.Prelude.{◌≡◌, min};
 ghost use Rattle.demand.specs.SetContract.{no_rule};
 ghost use Rattle.set_values.specs.Values.{empty_values, rule_of_values, values_with};
@@ -16,7 +17,7 @@ pub use stepping::{SteppedSet, step_set};
 pub const MOST_RULES: usize = 32;
 
 // The records of a set: the first `lent` of the 32, all of them where `lent` is above 32.
-#[derive(Drop)]
+#[derive(Clone, Copy)]
 pub struct RuleSet {
     pub rules: [Running; MOST_RULES],
     pub lent: usize,

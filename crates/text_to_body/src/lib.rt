@@ -1,5 +1,6 @@
 // A rule's text turned into its body, without recursion: the text is read from left to right, with the open brackets and quantifiers in a table.
 #![tactic(auto)]
+
 mod begin;
 mod codes;
 mod cursor;

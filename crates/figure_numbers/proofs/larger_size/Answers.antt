@@ -1,6 +1,5 @@
 -- `figure_numbers::larger_size` meets its contract.
 use mathlib.Core.Path.{ap}
-use borrow.Author.Rules.{rules}
 use Rattle.rule.specs.Figures.{larger}
 use Rattle.rule.specs.declared.Size.TheVariants.{Finite}
 use Rattle.figure_numbers.proofs.larger_size.Goals as goal

@@ -1,7 +1,6 @@
 -- `nodes::is_flag` meets its contract.
 use mathlib.Core.Path.{sym}
 use borrow.Author.Tests.{eq-eqb, ne_eqb, lt-ltb, le-ltb}
-use borrow.Author.Rules.{rules}
 use Rattle.nodes.specs.Table.{is_flag}
 use Rattle.nodes.proofs.is_flag.Goals as goal
 

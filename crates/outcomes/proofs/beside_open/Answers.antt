@@ -1,7 +1,6 @@
 -- `outcomes::beside_open` meets its contract.
 --
 use Rattle.rule.specs.Meaning.{both}
-use borrow.Author.Rules.{rules}
 use Rattle.outcomes.proofs.beside_open.Goals as goal
 
 pub returns-in-True : goal.returns-in-True

@@ -1,6 +1,5 @@
 -- `outcomes::is_false` meets its contract.
 --
-use borrow.Author.Rules.{rules}
 use Rattle.outcomes.specs.Asked.{is_false}
 use Rattle.outcomes.proofs.is_false.Goals as goal
 

@@ -4,7 +4,6 @@ use mathlib.Core.Path.{refl, sym}
 use native.Mathlib.Omega.{arith}
 use Rattle.rule.specs.Meaning.{up}
 use Rattle.outcomes.proofs.Flags.{no_flag}
-use borrow.Author.Rules.{rules}
 use Rattle.outcomes.proofs.is_up.Goals as goal
 
 pub returns-then-k-lt8 : goal.returns-then-k-lt8

@@ -3,7 +3,6 @@ use mathlib.Core.Path.{refl}
 use native.Mathlib.Omega.{arith}
 use Rattle.rule.specs.Steps.{is_open}
 use Rattle.outcomes.specs.Asked.{open_count}
-use borrow.Author.Rules.{rules}
 use Rattle.outcomes.proofs.one_if_open.Goals as goal
 
 pub returns-in-Open : goal.returns-in-Open

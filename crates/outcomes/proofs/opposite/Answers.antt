@@ -1,7 +1,6 @@
 -- `outcomes::opposite` meets its contract.
 --
 use Rattle.rule.specs.Meaning.{opposite}
-use borrow.Author.Rules.{rules}
 use Rattle.outcomes.proofs.opposite.Goals as goal
 
 pub returns-in-True : goal.returns-in-True

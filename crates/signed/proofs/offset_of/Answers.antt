@@ -4,7 +4,6 @@ use mathlib.Core.Path.{sym, ◌∙◌, subst}
 use native.Mathlib.Omega.{arith}
 use mir.Syntax.{w64}
 use mir.Val.{SFits}
-use borrow.Author.Rules.{rules}
 use Rattle.signed.proofs.Signed64.{back, small, signed_low, signed_high, signed_past, offset_difference, fits_small}
 use Rattle.signed.proofs.offset_of.Goals as goal
 

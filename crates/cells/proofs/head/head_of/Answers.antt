@@ -1,7 +1,6 @@
 -- `cells::head::head_of` meets its contract: one law for each way out.
 use native.Mathlib.Omega.{arith}
 use Rattle.cells.proofs.Heads.{head_start, head_none, head_far, head_there}
-use borrow.Author.Rules.{rules}
 use Rattle.cells.proofs.head.head_of.Goals as goal
 
 pub returns-then-t-s : goal.returns-then-t-s

@@ -4,7 +4,6 @@ use borrow.Author.Tests.{eq-eqb, ne_eqb}
 use Rattle.rule.specs.declared.Verdict.TheVariants.{True, False}
 use Rattle.rule.specs.declared.Outcome.TheVariants.{Decided}
 use Rattle.cells.specs.Cells.{held}
-use borrow.Author.Rules.{rules}
 use Rattle.cells.proofs.outcome.outcome_of.Goals as goal
 
 pub returns-then-verdict-eq1 : goal.returns-then-verdict-eq1

@@ -1,5 +1,4 @@
 -- `figures::scope::pair_at` meets its contract.
--- what is read back of an offset's bits
 use Prim.Native.Nat.{ℕ, ◌+◌, ◌≤◌}
 use mathlib.Core.Path.{◌≡◌, refl, sym, ap, subst, ◌∙◌}
 use native.Mathlib.Omega.{arith}
@@ -15,6 +14,7 @@ use Rattle.figures.proofs.Numbers.{bits, bits_are}
 use Rattle.figures.proofs.Distances.{signed_abs, near_more}
 use Rattle.figures.proofs.scope.pair_at.Goals as goal
 
+-- what is read back of an offset's bits
 offset-bits : (n : ℤ) (x w : ℕ) → x ≡ w → n ≡ signed x → bits n ≡ signed w
 offset-bits n x w e f = bits_are n (subst (λ (z : ℤ). nat_abs z ≤ 4000000) (sym f) (omega (arith, signed_abs x))) ∙ f ∙ ap signed e
 

@@ -1,8 +1,6 @@
 -- `formula_bytes::bounds::bound_check` meets its contract: its tests are the definition's, in the definition's order.
 use mathlib.Core.Path.{sym, ◌∙◌}
 use native.Mathlib.Omega.{arith}
-use borrow.Author.Tests.{not-true, not-false}
-use borrow.Author.Rules.{rules}
 use Rattle.formula_bytes.proofs.Refusals.{bound_5, bound_6, bound_23, bound_24, bound_8, bound_fine}
 use Rattle.formula_bytes.proofs.bounds.bound_check.Goals as goal
 

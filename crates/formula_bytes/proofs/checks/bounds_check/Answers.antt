@@ -3,7 +3,6 @@ use mathlib.Core.Path.{sym, ap, ◌∙◌}
 use Rattle.formula_bytes.specs.Checks.{check_number}
 use Rattle.refusal.proofs.Positive.{not_zero}
 use Rattle.formula_bytes.proofs.Refusals.{contents_first, contents_second}
-use borrow.Author.Rules.{rules}
 use Rattle.formula_bytes.proofs.checks.bounds_check.Goals as goal
 
 pub returns-in-Refused : goal.returns-in-Refused

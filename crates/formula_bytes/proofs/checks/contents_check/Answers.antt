@@ -2,7 +2,6 @@
 use mathlib.Core.Path.{sym}
 use native.Mathlib.Omega.{arith}
 use Rattle.formula_bytes.proofs.Refusals.{contents_plain}
-use borrow.Author.Rules.{rules}
 use Rattle.formula_bytes.proofs.checks.contents_check.Goals as goal
 
 pub returns : goal.returns

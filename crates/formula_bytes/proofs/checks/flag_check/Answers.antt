@@ -2,7 +2,6 @@
 use mathlib.Core.Path.{sym}
 use native.Mathlib.Omega.{arith}
 use Rattle.formula_bytes.proofs.Refusals.{contents_6, contents_7, contents_flag}
-use borrow.Author.Rules.{rules}
 use Rattle.formula_bytes.proofs.checks.flag_check.Goals as goal
 
 pub returns-then-depth-byte_after : goal.returns-then-depth-byte_after

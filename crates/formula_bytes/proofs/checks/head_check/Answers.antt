@@ -9,9 +9,8 @@ use Rattle.words.specs.Words.{byte}
 use Rattle.rule.specs.Body.{fixed}
 use Rattle.refusal.proofs.Bools.{and_true}
 use Rattle.rule.proofs.Reading.{fixed_forall}
-use borrow.Author.Tests.{not-true, not-false, eq-eqb, ne_eqb, leb-true}
+use borrow.Author.Tests.{eq-eqb, ne_eqb, leb-true}
 use Rattle.formula_bytes.proofs.Refusals.{head_4, head_5, head_9, head_4b, head_contents}
-use borrow.Author.Rules.{rules}
 use Rattle.formula_bytes.proofs.checks.head_check.Goals as goal
 
 pub returns-then-body-at : goal.returns-then-body-at

@@ -60,14 +60,14 @@ evaluate-returns-then-settled t c =
     beside_settled c.args.recording.now c.args.t (bound_positions c.args.env) c.args.s
     (beside_in c.args.left c.args.nodes.now c.args.env.depth c.args.node c.if-left-eq0.false (sym c.node_word-code.ensures ∙ c.if-code-eq-BESIDE_CODE.true)
     refl)
-    c.evaluate-outcome-then-code-eq-BESIDE_CODE.ensures c.settled.ensures c.if-settled.true
+    c.evaluate-first-then-code-eq-BESIDE_CODE.ensures c.settled.ensures c.if-settled.true
 
 pub evaluate-returns-then-code-eq-BESIDE_CODE : goal.evaluate-returns-then-code-eq-BESIDE_CODE
 evaluate-returns-then-code-eq-BESIDE_CODE t c =
     by_beside c.args.recording.now c.args.t (bound_positions c.args.env) c.args.s
     (beside_in c.args.left c.args.nodes.now c.args.env.depth c.args.node c.if-left-eq0.false (sym c.node_word-code.ensures ∙ c.if-code-eq-BESIDE_CODE.true)
     c.node_word-second_node-then-code-eq-BESIDE_CODE.ensures)
-    c.evaluate-outcome-then-code-eq-BESIDE_CODE.ensures c.evaluate-other.ensures c.both.ensures
+    c.evaluate-first-then-code-eq-BESIDE_CODE.ensures c.evaluate-other.ensures c.both.ensures
 
 pub evaluate-returns-then-code-eq-FORALL_CODE : goal.evaluate-returns-then-code-eq-FORALL_CODE
 evaluate-returns-then-code-eq-FORALL_CODE t c =
@@ -100,17 +100,17 @@ pub walk_range-returns-then-settled : goal.walk_range-returns-then-settled
 walk_range-returns-then-settled t c =
     sym (c.loop-count.invariant.1
     ∙ body_settled (formula_in c.args.left c.args.nodes.now (c.args.env.depth + 1) (c.args.node + 12)) c.args.recording.now c.args.t
-    (bound_positions c.args.env) c.args.s c.loop-count.count c.loop-count.q c.loop-count.so_far c.later-start.ensures c.settled.ensures c.if-settled.true)
+    (bound_positions c.args.env) c.args.s c.loop-count.count c.loop-count.q c.loop-count.acc c.later-start.ensures c.settled.ensures c.if-settled.true)
 
 pub walk_range-returns-then-alike : goal.walk_range-returns-then-alike
 walk_range-returns-then-alike t c =
     let shallow : c.args.env.depth < 4 = omega arith in
     sym (c.loop-count.invariant.1
     ∙ body_alike c.args.left c.args.nodes.now c.args.node c.args.recording.now c.args.t c.args.env c.args.s c.loop-count.count c.loop-count.q
-    c.plan_up_to-plan.result.count c.loop-count.so_far c.requires.five shallow c.loop-count-test.true c.loop-count.invariant.0 c.alike-alike.ensures c.if-alike.true
+    c.plan_up_to-plan.result.count c.loop-count.acc c.requires.five shallow c.loop-count-test.true c.loop-count.invariant.0 c.alike-alike.ensures c.if-alike.true
     (body_here c.args.left c.args.nodes.now c.args.node c.args.recording.now c.args.t c.args.env c.args.s c.loop-count.q c.requires.five shallow (omega arith)
-    c.enter.ensures c.later-start.ensures c.evaluate-here.ensures)
-    c.both.ensures c.raise-last.ensures c.both-then-alike.ensures)
+    c.enter.ensures c.later-start.ensures c.evaluate-outcome.ensures)
+    c.both-acc.ensures c.raise.ensures c.both.ensures)
 
 pub walk_range-loop-count-preserved : goal.walk_range-loop-count-preserved
 walk_range-loop-count-preserved t c = (
@@ -118,10 +118,10 @@ walk_range-loop-count-preserved t c = (
   c.loop-count.invariant.1
       ∙ walk_step (body_at (formula_in c.args.left c.args.nodes.now (c.args.env.depth + 1) (c.args.node + 12)) c.args.recording.now c.args.t
       (bound_positions c.args.env) c.args.s)
-      c.loop-count.count c.loop-count.q c.loop-count.so_far c.loop-count-test.true
+      c.loop-count.count c.loop-count.q c.loop-count.acc c.loop-count-test.true
       (body_here c.args.left c.args.nodes.now c.args.node c.args.recording.now c.args.t c.args.env c.args.s c.loop-count.q c.requires.five (omega arith)
-      (omega arith) c.enter.ensures c.later-start.ensures c.evaluate-here.ensures)
-      c.both-so_far.ensures,
+      (omega arith) c.enter.ensures c.later-start.ensures c.evaluate-outcome.ensures)
+      c.both-acc.ensures,
 )
 
 pub walk_range-returns : goal.walk_range-returns
@@ -129,4 +129,4 @@ walk_range-returns t c =
     sym (c.loop-count.invariant.1
     ∙ walk_none (body_at (formula_in c.args.left c.args.nodes.now (c.args.env.depth + 1) (c.args.node + 12)) c.args.recording.now c.args.t
     (bound_positions c.args.env) c.args.s)
-    c.loop-count.count c.loop-count.q c.loop-count.so_far (omega arith))
+    c.loop-count.count c.loop-count.q c.loop-count.acc (omega arith))

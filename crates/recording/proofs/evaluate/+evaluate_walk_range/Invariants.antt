@@ -18,7 +18,7 @@ decreases-walk_range l = 2 * l.left + 1
 abbrev pub invariant-walk_range-loop-count : goal.invariant-walk_range-loop-count
 invariant-walk_range-loop-count l =
     (l.count ≤ suc l.t - l.q) × (outcome (forall_of_node l.left l.nodes l.env.depth l.node) (recorded l.recording) l.t (bound_positions l.env) l.s
-    ≡ walk (body_at (formula_in l.left l.nodes (l.env.depth + 1) (l.node + 12)) l.recording l.t (bound_positions l.env) l.s) l.count l.q l.so_far)
+    ≡ walk (body_at (formula_in l.left l.nodes (l.env.depth + 1) (l.node + 12)) l.recording l.t (bound_positions l.env) l.s) l.count l.q l.acc)
 
 abbrev pub decreases-walk_range-loop-count : goal.decreases-walk_range-loop-count
 decreases-walk_range-loop-count l = l.count

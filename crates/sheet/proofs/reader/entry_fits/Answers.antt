@@ -1,7 +1,6 @@
 -- `sheet::entry_fits` meets its contract: its tests are the definition's, in the same order.
 --
 use native.Mathlib.Omega.{arith}
-use borrow.Author.Rules.{rules}
 use borrow.Author.Tests.{eq-eqb, ne_eqb, le-leb, lt-leb}
 use Rattle.sheet.specs.Sheet.{body_offset, extent, entry_fits}
 use Rattle.sheet.proofs.reader.entry_fits.Goals as goal

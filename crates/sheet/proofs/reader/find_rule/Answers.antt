@@ -1,12 +1,8 @@
 -- `sheet::find_rule` meets its contract: each way out is one line of the definition.
 -- past the first test the table of contents is there, and past the second the layout is right
-use Prim.Native.Nat.{◌+◌, ◌*◌}
-use mathlib.Core.Path.{◌≡◌, sym, ◌∙◌}
-use mathlib.Core.Bool.{true}
+use mathlib.Core.Path.{sym, ◌∙◌}
 use native.Mathlib.Omega.{arith}
-use borrow.Author.Rules.{rules}
-use borrow.Author.Tests.{not-true, not-false}
-use Rattle.sheet.specs.Sheet.{body_offset, extent, has_contents, laid_out}
+use Rattle.sheet.specs.Sheet.{body_offset, extent}
 use Rattle.sheet.proofs.Entries.{place_uncounted, place_broken, place_beyond, place_here}
 use Rattle.sheet.proofs.reader.find_rule.Goals as goal
 

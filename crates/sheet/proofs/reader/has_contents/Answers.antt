@@ -2,7 +2,6 @@
 --
 use native.Mathlib.Omega.{arith}
 use lib.ListN.{length}
-use borrow.Author.Rules.{rules}
 use borrow.Author.Tests.{le-leb, lt-leb}
 use Rattle.sheet.specs.Sheet.{has_contents}
 use Rattle.sheet.proofs.reader.has_contents.Goals as goal

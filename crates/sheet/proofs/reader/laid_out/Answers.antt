@@ -1,12 +1,8 @@
 -- `sheet::laid_out` meets its contract. The loop's invariant: what is left to find out of the entries from `index` on decides all.
 --
-use Prim.Native.Nat.{◌≤◌, ◌+◌, ◌*◌, ◌-◌}
-use mathlib.Core.Path.{◌≡◌, sym, ◌∙◌}
+use mathlib.Core.Path.{sym, ◌∙◌}
 use native.Mathlib.Omega.{arith}
-use native.Mathlib.Nat.{sub-zero}
-use borrow.Author.Rules.{rules}
-use borrow.Author.Tests.{not-true, not-false}
-use Rattle.sheet.specs.Sheet.{extent, laid_out}
+use Rattle.sheet.specs.Sheet.{extent}
 use Rattle.sheet.proofs.Entries.{layout_on, layout_broken, layout_end}
 use Rattle.sheet.proofs.reader.laid_out.Goals as goal
 

@@ -1,13 +1,8 @@
 -- `sheet::laid_out` meets its contract. The loop's invariant: what is left to find out of the entries from `index` on decides all.
 --
 use Prim.Native.Nat.{◌≤◌, ◌+◌, ◌*◌, ◌-◌}
-use mathlib.Core.Path.{◌≡◌, sym, ◌∙◌}
-use native.Mathlib.Omega.{arith}
-use native.Mathlib.Nat.{sub-zero}
-use borrow.Author.Rules.{rules}
-use borrow.Author.Tests.{not-true, not-false}
-use Rattle.sheet.specs.Sheet.{extent, laid_out}
-use Rattle.sheet.proofs.Entries.{layout_on, layout_broken, layout_end}
+use mathlib.Core.Path.{◌≡◌}
+use Rattle.sheet.specs.Sheet.{laid_out}
 use Rattle.sheet.proofs.reader.laid_out.Given as goal
 
 abbrev pub invariant-loop-index : goal.invariant-loop-index
