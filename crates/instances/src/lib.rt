@@ -1,4 +1,6 @@
 // The instances of a rule, each in its own run of cells, moved by one tick at a time: for one step, or for each of many flag bytes.
+#![tactic(auto)]
+
 mod advance;
 mod batch;
 mod flags;

@@ -1,59 +1,54 @@
 // Outcomes as lines of text, for the programs that run cases. What is written no contract can say: the programs' files `stdout` hold it.
-use libc::STDOUT_FILENO;
+#![tactic(auto)]
+
 use recording::Evaluated;
 use rule::{Outcome, Verdict};
+use std::io;
 
 // Writes bytes as they are.
-pub fn text(text: &[u8]) {
-    io::write_all(STDOUT_FILENO, text);
+pub fn text(out: &impl Print, text: &[u8]) -> io::Result<()> {
+    out.write_all(text)
 }
 
 // Writes a number's digits.
-pub fn number(value: u64) {
-    io::print_decimal(STDOUT_FILENO, value);
+pub fn number(out: &impl Print, value: u64) -> io::Result<()> {
+    out.print(value)
 }
 
 // A name and then bytes, each as a space and two digits.
-pub fn bytes(name: &[u8], content: &[u8]) {
-    text(name);
-    let mut at = 0;
-    while at < content.len() {
-        text(b" ");
-        io::print_hex(STDOUT_FILENO, as_number(content[at]), 2);
-        at += 1;
+pub fn bytes(out: &impl Print, name: &[u8], content: &[u8]) -> io::Result<()> {
+    text(out, name)?;
+    for byte in content {
+        print!(out; " {byte:02x}")?;
     }
-    text(b"\n");
+    text(out, b"\n")
 }
 
 // The outcome of a body at a tick, as `5: false at 7`, `5: open` or `5: refused 16`.
-pub fn outcome(body: &[u8], flags: &[u8], tick: usize) {
-    number(tick as u64);
-    text(b": ");
-    answer(recording::outcome_at(body, flags, tick));
-    text(b"\n");
+pub fn outcome(out: &impl Print, body: &[u8], flags: &[u8], tick: usize) -> io::Result<()> {
+    number(out, tick as u64)?;
+    text(out, b": ")?;
+    answer(out, recording::outcome_at(body, flags, tick))?;
+    text(out, b"\n")
 }
 
-fn answer(answer: Evaluated) {
+fn answer(out: &impl Print, answer: Evaluated) -> io::Result<()> {
     match answer {
         Evaluated::Answered(outcome) => match outcome {
-            Outcome::Decided(verdict, step) => decided(verdict, step),
-            Outcome::Open => text(b"open"),
+            Outcome::Decided(verdict, step) => decided(out, verdict, step),
+            Outcome::Open => text(out, b"open"),
         },
         Evaluated::Refused(why) => {
-            text(b"refused ");
-            number(refusal::number(why) as u64);
+            text(out, b"refused ")?;
+            number(out, refusal::number(why) as u64)
         }
     }
 }
 
-fn decided(verdict: Verdict, step: u64) {
+fn decided(out: &impl Print, verdict: Verdict, step: u64) -> io::Result<()> {
     match verdict {
-        Verdict::True => text(b"true at "),
-        Verdict::False => text(b"false at "),
+        Verdict::True => text(out, b"true at ")?,
+        Verdict::False => text(out, b"false at ")?,
     }
-    number(step);
-}
-
-fn as_number(byte: u8) -> u64 {
-    byte as u64
+    number(out, step)
 }
