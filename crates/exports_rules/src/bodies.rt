@@ -28,8 +28,8 @@ pub fn sw_figures(body: &[u8], history: &mut u64, delay: &mut u64, cells: &mut u
     }
 }
 
-fn verdict_number(outcome: &Outcome) -> u32
-    ensures { result ≡ verdict_number outcome.now }
+fn verdict_number(outcome: Outcome) -> u32
+    ensures { result ≡ verdict_number outcome }
 {
     match outcome {
         Outcome::Decided(verdict, _) => match verdict {
@@ -64,7 +64,7 @@ pub fn sw_outcome(
     let answer = recording::outcome_at(body, recording, tick);
     match answer {
         Evaluated::Answered(outcome) => {
-            *verdict = verdict_number(&outcome);
+            *verdict = verdict_number(outcome);
             *step = step_number(outcome);
             0
         }

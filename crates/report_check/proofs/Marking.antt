@@ -1,15 +1,15 @@
 -- Marks: what a marked tick adds, and that the ticks of a list are the ones that are marked by it.
 use Prim.{⊥}
-use Prim.Native.Nat.{ℕ, zero, suc, ◌+◌, ◌*◌, ◌/◌, ◌%◌, ◌≤◌, ◌<◌}
+use Prim.Native.Nat.{ℕ, zero, suc, ◌*◌, ◌/◌, ◌%◌, ◌≤◌, ◌<◌}
 use mathlib.Core.Path.{◌≡◌, refl, sym, ap, ◌∙◌}
 use mathlib.Core.Bool.{Bool, true, false, ◌||◌}
 use mathlib.Core.List.{List, [], ◌∷◌}
 use native.Mathlib.Nat.{div-add-mod}
 use native.Mathlib.Omega.{arith}
 use lib.Dec.{eqb}
-use lib.ListN.{length, get_or, set, take, replicate, get_or-eq_default, length-set}
+use lib.ListN.{length, get_or, set, replicate, get_or-eq_default, length-set}
 use lib.Seq.{get_or-set_same, get_or-set_other}
-use borrow.Author.Tests.{eq-eqb, ne_eqb, eqb-true, eqb-false}
+use borrow.Author.Tests.{eqb-true, eqb-false}
 use Rattle.rule.specs.Meaning.{up}
 use Rattle.calendar.specs.Calendar.{with_bit}
 use Rattle.calendar.proofs.Marking.{with_bit_here, with_bit_other}

@@ -41,7 +41,7 @@ pub(crate) fn agree(
     claimed: &[[u64; VIOLATION_WORDS]],
     marks: &mut [u64],
 ) -> usize
-    ensures value { result ≡ agreed (false_step (formula_in 64 nodes.now 0 0) recording.now) (length recording.now) (λ v. true) (violations_in claimed.now) }
+    ensures value { result ≡ agreed (false_step (formula_in 64 nodes.now 0 0) recording.now) (length recording.now) (λ any. true) (violations_in claimed.now) }
     ensures marks_after { marks.new ≡ all_marked marks.old (take result (violations_in claimed.now)) }
 {
     let mut index = 0;

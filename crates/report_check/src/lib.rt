@@ -1,5 +1,7 @@
 // Checking what another monitor claims (document 02, point 8): a list of violations beside the complete report of a recording. Each tick is evaluated once, and one of
 // them a second time where the list is wrong: the ticks that the list names first, in its order, as long as it is right; then the others.
+#![tactic(auto)]
+
 mod agreeing;
 mod marks;
 mod missing;
