@@ -14,7 +14,7 @@ use Rattle.refusal.specs.Answer.{refused, and_then}
 use Rattle.rule.specs.declared.Figures.{Figures}
 use Rattle.rule.specs.Body.{require, head, parts, formula, formula_at, whole, body}
 use Rattle.rule.specs.Figures.{body_figures}
-use Rattle.demand.specs.Contract.{State, state_at, step_of, batch_of, must, as_21, admit_lengths, StepPromise, BatchPromise}
+use Rattle.demand.specs.Contract.{state_at, step_of, batch_of, must, as_21, admit_lengths, StepPromise, BatchPromise}
 use Rattle.demand.proofs.Admission.{step_admitted}
 use Rattle.demand.proofs.Lines.{chain_low}
 use Rattle.instances.specs.declared.stepping.StepAnswer.{StepAnswer}

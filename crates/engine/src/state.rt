@@ -5,7 +5,7 @@ ghost use Rattle.engine.specs.States.{fresh_code, blank_code, moved_code};
 use sheet::MAX_BODY;
 
 // The rule's body in the first `size` bytes, the length of the opened history, the tick to be taken, and how many ticks are live.
-#[derive(Drop)]
+#[derive(Clone, Copy)]
 pub struct State {
     pub body: [u8; MAX_BODY],
     pub size: usize,

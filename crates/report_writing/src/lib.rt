@@ -1,5 +1,7 @@
 // Writing the complete report of a recording (document 02, point 8): its violations are stored tick by tick, and then put into order. A list with an entry for each
 // tick is long enough, and then each tick is evaluated once; for a shorter one they are counted first.
+#![tactic(auto)]
+
 ghost use Rattle.std.specs.Prelude.{◌≡◌, cond, ◌+◌, ◌≤◌, ◌<◌, leb, ltb, length, set};
 ghost use Rattle.refusal.specs.Answer.{written};
 ghost use Rattle.nodes.specs.Table.{formula_in};

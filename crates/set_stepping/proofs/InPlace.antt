@@ -4,7 +4,6 @@ use mathlib.Core.Path.{◌≡◌, refl, sym, ap, ◌∙◌}
 use mathlib.Core.List.{List, [], ◌∷◌, ◌++◌, append_assoc}
 use native.Mathlib.Omega.{arith}
 use native.Mathlib.Numerals.{add-one}
-use native.Mathlib.Nat.{add-suc}
 use lib.ListN.{length, get_or, take, drop, set, length-take, drop_of_length-le}
 use lib.Seq.{sets, sets-eq, take-take, take_at, drop_at, drop-cons, get_or-take, length-take-le}
 use Rattle.demand.specs.SetContract.{numbered, timed}

@@ -1,20 +1,19 @@
 -- After a step the records are still those of running rules: the next step of the set is admitted too, while tick numbers last.
 use Prim.Native.Nat.{ℕ, suc, ◌+◌, ◌*◌, ◌≤◌, ◌<◌}
-use mathlib.Core.Path.{◌≡◌, refl, sym, ap, subst, ◌∙◌}
+use mathlib.Core.Path.{◌≡◌, sym, ap, subst, ◌∙◌}
 use mathlib.Core.Bool.{true}
-use mathlib.Core.List.{List, [], ◌∷◌, ◌++◌, map}
+use mathlib.Core.List.{List, map}
 use native.Mathlib.Nat.{zero-add}
 use native.Mathlib.Omega.{arith}
-use lib.Dec.{leb, eqb}
 use lib.ListN.{length, get_or, take, drop, length-map, length-append, length-drop, get_or-map, get_or-append}
-use lib.Seq.{take_at, get_or-take, length-take-le, ext_get_or}
+use lib.Seq.{take_at, get_or-take, ext_get_or}
 use borrow.Author.Tests.{le-leb, lt-leb, eq-eqb, ne_eqb}
 use Rattle.refusal.specs.Answer.{accepted}
 use Rattle.sheet.specs.Sheet.{rule_count}
 use Rattle.rule.specs.declared.Figures.{Figures}
 use Rattle.demand.specs.declared.Running.{Running}
 use Rattle.demand.specs.Contract.{Invariant, must}
-use Rattle.demand.specs.SetContract.{SetTaken, SetStep, no_rule, next_rule, running_rules, opened_length, next_tick, all_live, all_cells, all_delays, needs, all_run, fit_set, admit_records, SetTakes}
+use Rattle.demand.specs.SetContract.{SetTaken, SetStep, no_rule, next_rule, running_rules, opened_length, next_tick, all_cells, all_delays, needs, all_run, fit_set, admit_records, SetTakes}
 use Rattle.demand.proofs.SetAdmission.{SetAdmitted, Placed, AllPlaced, all_run_there, rules_count, rule_placed}
 use Rattle.demand.proofs.SetAlong.{placed_next}
 

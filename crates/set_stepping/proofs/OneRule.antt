@@ -1,16 +1,15 @@
 -- One rule of a set takes its tick: from what a tick of the rule by itself promises, on the part of the cells and of the report that it is lent.
-use Prim.Native.Nat.{ℕ, suc, ◌+◌, ◌*◌, ◌-◌, ◌≤◌, ◌<◌}
-use mathlib.Core.Path.{◌≡◌, refl, sym, ap, subst, ◌∙◌}
-use mathlib.Core.List.{List, [], ◌∷◌, ◌++◌}
+use Prim.Native.Nat.{ℕ, ◌+◌, ◌*◌, ◌≤◌}
+use mathlib.Core.Path.{◌≡◌, sym, ap, subst, ◌∙◌}
+use mathlib.Core.List.{List, ◌++◌}
 use native.Mathlib.Omega.{arith}
 use lib.ListN.{length, take, drop, length-append, length-drop, take-append-drop}
 use lib.Seq.{length-take-le, take-append-le, drop-append-le, drop-drop}
-use Rattle.refusal.specs.declared.Refusal.{Refusal}
-use Rattle.refusal.specs.Answer.{Answer, refused, accepted}
+use Rattle.refusal.specs.Answer.{accepted}
 use Rattle.refusal.proofs.Answers.{not_accepted, same_value}
 use Rattle.rule.specs.declared.Figures.{Figures}
 use Rattle.demand.specs.declared.Running.{Running}
-use Rattle.demand.specs.Contract.{State, state_at, Taken, Step, step_of, admit_step, admit_lengths, Takes, Stepped}
+use Rattle.demand.specs.Contract.{State, Step, step_of, admit_step, Takes, Stepped}
 use Rattle.demand.specs.SetContract.{body_at, rule_state, own_cells, next_rule, numbered, needs, Ticked}
 use Rattle.demand.proofs.SetTicks.{ticked}
 use Rattle.cell_runs.specs.Moves.{Stands}

@@ -1,14 +1,13 @@
 -- One flag of a batch: its pairs become triples in place, and the words after them are as they were.
-use Prim.Native.Nat.{ℕ, zero, suc, ◌+◌, ◌*◌, ◌≤◌, ◌<◌}
+use Prim.Native.Nat.{ℕ, zero, suc, ◌+◌, ◌*◌, ◌≤◌}
 use mathlib.Core.Path.{◌≡◌, refl, sym, ap, ◌∙◌}
 use mathlib.Core.List.{List, [], ◌∷◌, ◌++◌}
 use native.Mathlib.Omega.{arith}
 use lib.ListN.{length, get_or, take, drop, length-append, length-drop, take-append-drop}
 use lib.Seq.{length-take-le, take-append-le, drop-append-le, drop_at, drop-drop, take-nil}
 use Rattle.refusal.specs.Answer.{accepted}
-use Rattle.rule.specs.declared.Figures.{Figures}
 use Rattle.demand.specs.declared.Running.{Running}
-use Rattle.demand.specs.SetContract.{next_tick, all_numbered, timed, admit_records, no_rule, set_step_of, SetTakes, all_live}
+use Rattle.demand.specs.SetContract.{all_numbered, timed, admit_records, no_rule, set_step_of, SetTakes, all_live}
 use Rattle.demand.proofs.SetLists.{all_numbered_length}
 use Rattle.cell_runs.specs.Moves.{Stands}
 use Rattle.set_stepping.specs.Answers.{set_taken}

@@ -1,10 +1,10 @@
 -- What moving the rules of a set by one tick requires and gives.
-use Rattle.std.specs.Prelude.{ℕ, suc, ◌+◌, ◌*◌, ◌%◌, ◌≤◌, ◌<◌, ◌≡◌, List, ◌++◌, length, take, drop, set}
+use Rattle.std.specs.Prelude.{ℕ, ◌+◌, ◌*◌, ◌%◌, ◌≤◌, ◌<◌, ◌≡◌, List, ◌++◌, length, take, drop, set}
 use Rattle.refusal.specs.Answer.{accepted}
 use Rattle.rule.specs.declared.Figures.{Figures}
 use Rattle.demand.specs.declared.Running.{Running}
 use Rattle.demand.specs.Contract.{admit_lengths}
-use Rattle.demand.specs.SetContract.{body_at, rule_state, own_cells, next_rule, opened_length, next_tick, numbered, timed, needs, all_delays, admit_records, set_step_of, Ticked, SetTakes}
+use Rattle.demand.specs.SetContract.{body_at, rule_state, own_cells, next_rule, opened_length, next_tick, numbered, needs, admit_records, set_step_of, Ticked, SetTakes}
 use Rattle.cell_runs.specs.Moves.{Stands}
 use Rattle.instances.specs.declared.stepping.StepAnswer.{StepAnswer}
 use Rattle.instances.specs.declared.stepping.StepAnswer.TheVariants as steps

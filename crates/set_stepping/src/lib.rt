@@ -1,5 +1,6 @@
 // Stepping a set: each flag byte is taken once, by all its running rules.
 #![tactic(auto)]
+
 mod batch;
 mod pairs;
 mod rules;

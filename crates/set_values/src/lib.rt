@@ -1,5 +1,6 @@
 // A set by value: its records in one struct, and thin functions over it.
 #![tactic(auto)]
+
 ghost use Rattle.std.specs.Prelude.{◌≡◌, min};
 ghost use Rattle.demand.specs.SetContract.{no_rule};
 ghost use Rattle.set_values.specs.Values.{empty_values, rule_of_values, values_with};

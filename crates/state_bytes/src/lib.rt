@@ -1,4 +1,6 @@
 // A state of the engine as 544 lent bytes: loading and storing it are inverse to each other (proofs/States.antt).
+#![tactic(auto)]
+
 mod number_bytes;
 mod state;
 

@@ -31,7 +31,7 @@ fn load_body(state: &[u8], body: &mut [u8])
     ensures { body.new ≡ take (length body.old) state.now }
 {
     let length = body.len();
-    bytes::copy(&state[..length], body);
+    body.copy_from_slice(&state[..length]);
 }
 
 // The engine's state that the bytes hold.
@@ -55,7 +55,7 @@ pub fn store(bytes: &mut [u8; STATE_BYTES], state: State)
     ensures { bytes.new ≡ stored state }
 {
     let body = state.body;
-    bytes::copy(&body, bytes);
+    bytes[..MAX_BODY].copy_from_slice(&body);
     put_number(bytes, SIZE_AT, state.size);
     put_number(bytes, OPENED_AT, state.opened);
     put_number(bytes, NEXT_AT, state.next as usize);

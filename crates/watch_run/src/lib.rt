@@ -2,9 +2,12 @@
 // prints what document 01 says. It is a library, so that a program for each test case can run it. Its functions answer nothing and read and write
 // outside of the program: no contract can say what, so they have none beyond being safe and ending. What they print, the engine's contracts and
 // watch_lines say; the programs' files `stdout` hold the two to document 01's words. Standard error has a line for each ending that is not the end of
-// the input, which begins with `watch: `: bin/watch makes the exit status of it, since a proved program has none.
+// the input, which begins with `watch: `: bin/watch makes the exit status of it.
+#![tactic(auto)]
+
 mod output;
 mod reading;
+mod saying;
 mod sheet_file;
 mod waiting;
 mod watching;
@@ -18,6 +21,7 @@ use output::{close_output, print_figures, print_refusal};
 use rule::Figures;
 use sheet::Found;
 use sheet_file::load;
+use std::rt::Runtime;
 use watching::watch_input;
 
 // Room for the 4,096 cells that a rule may need.
@@ -35,7 +39,8 @@ fn report_words() -> [u64; 4096]
 }
 
 // Opens rule 0 over lent memory and takes the input. Like the functions below, it answers whether every line was written.
-fn watch_over(
+fn watch_over<R: Runtime>(
+    rt: &R,
     sheet: &[u8],
     figures: Figures,
     history: &mut [u8],
@@ -46,19 +51,19 @@ fn watch_over(
     let answer = opened.answer;
     let state = opened.state;
     match answer {
-        OpenAnswer::Refused(refusal) => print_refusal(refusal),
+        OpenAnswer::Refused(refusal) => print_refusal(rt, refusal),
         OpenAnswer::Opened => {
-            if !print_figures(figures) {
+            if !print_figures(rt, figures) {
                 return false;
             }
-            watch_input(state, history, cells, report)
+            watch_input(rt, state, history, cells, report)
         }
     }
 }
 
 // Lends the history that the figure asks for, at most 4,096 bytes, and as much of the rest as a rule may need.
-fn watch_rule(sheet: &[u8], figures: Figures) -> bool {
-    let mut history = io::buffer();
+fn watch_rule<R: Runtime>(rt: &R, sheet: &[u8], figures: Figures) -> bool {
+    let mut history = [0u8; 4096];
     let mut cells = cell_table();
     let mut report = report_words();
     let length = figures.history as usize;
@@ -66,6 +71,7 @@ fn watch_rule(sheet: &[u8], figures: Figures) -> bool {
         return false;
     }
     watch_over(
+        rt,
         sheet,
         figures,
         &mut history[..length],
@@ -76,30 +82,30 @@ fn watch_rule(sheet: &[u8], figures: Figures) -> bool {
 
 // Runs rule 0 of a sheet over standard input. The first line shows the figures, so they are read before the rule is opened; the refusals of sheet
 // and figures are those of opening.
-fn run_sheet(sheet: &[u8]) -> bool {
+fn run_sheet<R: Runtime>(rt: &R, sheet: &[u8]) -> bool {
     let place = sheet::find_rule(sheet, 0);
     match place {
-        Found::Refused(refusal) => print_refusal(refusal),
+        Found::Refused(refusal) => print_refusal(rt, refusal),
         Found::At { start, size } => {
             let answer = figures::figures(&sheet[start..start + size]);
             match answer {
-                FigureAnswer::Refused(refusal) => print_refusal(refusal),
-                FigureAnswer::Sized(figures) => watch_rule(sheet, figures),
+                FigureAnswer::Refused(refusal) => print_refusal(rt, refusal),
+                FigureAnswer::Sized(figures) => watch_rule(rt, sheet, figures),
             }
         }
     }
 }
 
 // The program over a sheet that is at hand.
-pub fn watch_sheet(sheet: &[u8]) {
-    run_sheet(sheet);
+pub fn watch_sheet<R: Runtime>(rt: &R, sheet: &[u8]) {
+    run_sheet(rt, sheet);
 }
 
 // The whole program.
-pub fn watch() {
-    let mut buf = io::large_buffer();
-    let count = load(&mut buf);
-    if run_sheet(&buf[..count]) {
-        close_output();
+pub fn watch<R: Runtime>(rt: &R) {
+    let mut buf = [0u8; 65536];
+    let count = load(rt, &mut buf);
+    if run_sheet(rt, &buf[..count]) {
+        close_output(rt);
     }
 }

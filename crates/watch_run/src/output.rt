@@ -1,32 +1,38 @@
 // The lines of `watch` on standard output. A function that prints one answers whether it was written whole; where it was not, standard error says why
 // and nothing more may be printed. What is written no contract can say; what a line is, watch_lines says.
+use crate::saying::say_failed;
 use crate::writing::write_line;
-use libc::{STDERR_FILENO, STDOUT_FILENO};
 use refusal::Refusal;
 use rule::Figures;
+use std::fs::{OpenFile, OpenOptions};
+use std::io::ErrorKind;
+use std::rt::Runtime;
+use std::{fs, str};
+
+// Standard output, as a file that may be opened once more.
+const STANDARD_OUTPUT: &str = "/proc/self/fd/1";
 
 // Says a refusal in words on standard error, behind the program's name: there stands each ending that is not the end of the input.
-fn say_refusal(number: u32) {
+fn say_refusal<R: Runtime>(rt: &R, number: u32) {
     let mut sentence = [0u8; 128];
     let length = refusal_text::sentence(number, &mut sentence);
-    io::write_all(STDERR_FILENO, b"watch: refused ");
-    io::print_decimal(STDERR_FILENO, number as u64);
-    io::write_all(STDERR_FILENO, b": ");
-    io::write_all(STDERR_FILENO, &sentence[..length]);
-    io::write_all(STDERR_FILENO, b"\n");
+    let _ = match str::from_utf8(&sentence[..length]) {
+        Ok(words) => eprintln!(rt; "watch: refused {number}: {words}"),
+        Err(_) => eprintln!(rt; "watch: refused {number}"),
+    };
 }
 
 // The line of a refusal, with its number.
-pub(crate) fn print_refusal(refusal: Refusal) -> bool {
+pub(crate) fn print_refusal<R: Runtime>(rt: &R, refusal: Refusal) -> bool {
     let number = refusal::number(refusal);
-    say_refusal(number);
+    say_refusal(rt, number);
     let mut line = [0u8; 128];
     let length = watch_lines::refused_line(number as u64, &mut line);
-    write_line(&line[..length])
+    write_line(rt, &line[..length])
 }
 
 // The line of a rule's figures.
-pub(crate) fn print_figures(figures: Figures) -> bool {
+pub(crate) fn print_figures<R: Runtime>(rt: &R, figures: Figures) -> bool {
     let mut line = [0u8; 128];
     let length = watch_lines::figures_line(
         figures.history,
@@ -34,26 +40,41 @@ pub(crate) fn print_figures(figures: Figures) -> bool {
         figures.cells,
         &mut line,
     );
-    write_line(&line[..length])
+    write_line(rt, &line[..length])
 }
 
 // The line of a tick that broke the rule, and of the step that said so.
-pub(crate) fn print_violation(tick: u64, step: u64) -> bool {
+pub(crate) fn print_violation<R: Runtime>(rt: &R, tick: u64, step: u64) -> bool {
     let mut line = [0u8; 128];
     let length = watch_lines::violation_line(tick, step, &mut line);
-    write_line(&line[..length])
+    write_line(rt, &line[..length])
 }
 
 // The last line: how many steps and violations there were, and how many ticks are live.
-pub(crate) fn print_end(ticks: u64, violations: u64, live: usize) -> bool {
+pub(crate) fn print_end<R: Runtime>(rt: &R, ticks: u64, violations: u64, live: usize) -> bool {
     let mut line = [0u8; 128];
     let length = watch_lines::end_line(ticks, violations, live as u64, &mut line);
-    write_line(&line[..length])
+    write_line(rt, &line[..length])
 }
 
-// Closes standard output once every line is written: a file system may say only now that it could not keep them.
-pub(crate) fn close_output() {
-    if libc::close(STDOUT_FILENO) < 0 {
-        os::fail(b"watch: standard output");
+// Asks for a file on standard output to be kept, once every line is written: a file system may say only now that it could not keep them. What is no file,
+// or may not be opened once more, is not asked.
+pub(crate) fn close_output<R: Runtime>(rt: &R) {
+    let Ok(found) = fs::metadata(rt, STANDARD_OUTPUT) else {
+        return;
+    };
+    if !found.is_file() {
+        return;
+    }
+    let Ok(output) = OpenOptions::new().append(true).open(rt, STANDARD_OUTPUT) else {
+        return;
+    };
+    match output.sync_data() {
+        Ok(()) => {}
+        Err(error) => {
+            if error.kind() != ErrorKind::InvalidInput {
+                say_failed(rt, "standard output", &error);
+            }
+        }
     }
 }

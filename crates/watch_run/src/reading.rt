@@ -1,36 +1,29 @@
-// Reading what a descriptor has now. A read that failed is told apart from the end of the input.
-ghost use Rattle.io.specs.Counts.{IsPrefixLen};
+// Reading what a file or standard input has now. A read that failed is told apart from the end of the input.
+ghost use Rattle.std.specs.Io.{ReadsAtMost};
 
 use crate::waiting::is_to_be_repeated;
+use std::io;
+use std::io::{ErrorKind, Read};
+use std::time::Clock;
 
-// What a read came to: how many bytes stand at the front of the buffer, 0 at the end of the input, or that it failed, and errno says why.
-#[derive(Drop)]
-pub(crate) struct Got {
-    pub count: usize,
-    pub failed: bool,
-}
-
-// Reads at least one byte, unless the input has ended or the read fails. A proved loop has to end, so it counts its turns down from a number that no
-// run uses up.
-pub(crate) fn read_some(fd: i32, buf: &mut [u8]) -> Got
-    ensures { IsPrefixLen result.count buf.new }
+// Reads at least one byte to the front of buf, unless the input has ended or the read fails, and answers how many: 0 at the end of the input. A proved
+// loop has to end, so it counts its turns up to a number that no run reaches.
+pub(crate) fn read_some<F: Read>(
+    clock: &impl Clock,
+    from: &mut F,
+    buf: &mut [u8],
+) -> io::Result<usize>
+    ensures { ReadsAtMost result buf.new }
 {
-    let mut turns = u64::MAX;
-    while 0 < turns {
-        turns -= 1;
-        let got = libc::read(fd, buf);
-        if 0 <= got {
-            return Got {
-                count: io::count(got, buf),
-                failed: false,
-            };
-        }
-        if !is_to_be_repeated() {
-            break;
+    for _ in 0..u64::MAX {
+        match from.read(buf) {
+            Ok(count) => return Ok(count),
+            Err(error) => {
+                if !is_to_be_repeated(clock, &error) {
+                    return Err(error);
+                }
+            }
         }
     }
-    Got {
-        count: 0,
-        failed: true,
-    }
+    Err(io::Error::from(ErrorKind::TimedOut))
 }

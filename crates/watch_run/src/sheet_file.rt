@@ -1,52 +1,50 @@
 // The file watch.sheet of the current folder.
-ghost use Rattle.io.specs.Counts.{IsPrefixLen};
+ghost use Rattle.std.specs.Prelude.{◌≤◌, length};
 
 use crate::reading::read_some;
-use libc::{ENOENT, STDERR_FILENO};
+use crate::saying::say_failed;
+use std::fs;
+use std::io::{Error, ErrorKind, Read};
+use std::rt::Runtime;
 
 // Says why the file was not opened: that it is missing, or what else.
-fn say_not_opened() {
-    if os::errno() == ENOENT {
-        io::write_all(
-            STDERR_FILENO,
-            b"watch: no file watch.sheet in the current folder: it counts as empty\n",
-        );
+fn say_not_opened<R: Runtime>(rt: &R, error: &Error) {
+    if error.kind() == ErrorKind::NotFound {
+        let _ = rt.eprintln("watch: no file watch.sheet in the current folder: it counts as empty");
     } else {
-        os::fail(b"watch: watch.sheet");
+        say_failed(rt, "watch.sheet", error);
     }
 }
 
 // The bytes of the opened file at the front of buf, and how many there are. A read that fails does not make a shorter sheet: standard error says
 // why, and there are 0.
-fn read_sheet(fd: i32, buf: &mut [u8]) -> usize
-    ensures { IsPrefixLen result buf.new }
+fn read_sheet<R: Runtime, F: Read>(rt: &R, file: &mut F, buf: &mut [u8]) -> usize
+    ensures { result ≤ length buf.new }
 {
     let mut count: usize = 0;
     while count < buf.len() {
-        let got = read_some(fd, &mut buf[count..]);
-        if got.failed {
-            os::fail(b"watch: watch.sheet");
-            return 0;
+        match read_some(rt, file, &mut buf[count..]) {
+            Ok(0) => return count,
+            Ok(more) => count += more,
+            Err(error) => {
+                say_failed(rt, "watch.sheet", &error);
+                return 0;
+            }
         }
-        if got.count == 0 {
-            return count;
-        }
-        count += got.count;
     }
     count
 }
 
 // The file's bytes at the front of buf, and how many there are: 0 where it is missing or cannot be read, and standard error says which. The largest
 // legal sheet has 16,513 bytes, so that a longer file is seen to be longer.
-pub(crate) fn load(buf: &mut [u8]) -> usize
-    ensures { IsPrefixLen result buf.new }
+pub(crate) fn load<R: Runtime>(rt: &R, buf: &mut [u8]) -> usize
+    ensures { result ≤ length buf.new }
 {
-    let fd = os::open_read(b"watch.sheet");
-    if fd < 0 {
-        say_not_opened();
-        return 0;
+    match fs::open(rt, "watch.sheet") {
+        Ok(mut file) => read_sheet(rt, &mut file, buf),
+        Err(error) => {
+            say_not_opened(rt, &error);
+            0
+        }
     }
-    let count = read_sheet(fd, buf);
-    libc::close(fd);
-    count
 }

@@ -3,13 +3,15 @@ ghost use Rattle.std.specs.Prelude.{◌≡◌, ◌+◌, min};
 
 use crate::output::{print_end, print_refusal, print_violation};
 use crate::reading::read_some;
+use crate::saying::say_failed;
 use engine::State;
 use instances::BatchAnswer;
-use libc::STDIN_FILENO;
+use std::io::Read;
+use std::rt::Runtime;
 
 // How a run stands: it goes on; or the input has ended; or it was stopped by a refusal, a line that could not be written or a read that failed, which
 // standard error has said.
-#[derive(Drop)]
+#[derive(Clone, Copy)]
 enum Run {
     GoesOn,
     InputEnded,
@@ -39,13 +41,14 @@ fn after_lines(written: bool) -> Run {
     if written { Run::GoesOn } else { Run::Stopped }
 }
 
-// How a run stands after a read that brought nothing.
-fn after_nothing(failed: bool) -> Run {
-    if failed {
-        os::fail(b"watch: standard input");
-        return Run::Stopped;
+// What the steps so far left, where nothing more was taken and no step is to follow.
+fn stopped(progress: Progress, run: Run) -> Progress {
+    Progress {
+        state: progress.state,
+        violations: progress.violations,
+        taken: 0,
+        run,
     }
-    Run::InputEnded
 }
 
 // A count that stays at its largest value.
@@ -60,7 +63,7 @@ fn more_by(count: u64, more: u64) -> u64
 }
 
 // Prints the first `count` pairs of a report, each a tick and the step that decided it, and answers whether that was done.
-fn print_pairs(report: &[u64], count: usize) -> bool {
+fn print_pairs<R: Runtime>(rt: &R, report: &[u64], count: usize) -> bool {
     let mut at: usize = 0;
     let mut left = count;
     while 0 < left {
@@ -70,7 +73,7 @@ fn print_pairs(report: &[u64], count: usize) -> bool {
         if report.len() - 2 < at {
             return false;
         }
-        if !print_violation(report[at], report[at + 1]) {
+        if !print_violation(rt, report[at], report[at + 1]) {
             return false;
         }
         at += 2;
@@ -80,7 +83,8 @@ fn print_pairs(report: &[u64], count: usize) -> bool {
 }
 
 // Takes as many flag bytes as the report has room for. A refused batch prints its number and ends the run.
-fn take_flags(
+fn take_flags<R: Runtime>(
+    rt: &R,
     progress: Progress,
     flags: &[u8],
     history: &mut [u8],
@@ -94,7 +98,7 @@ fn take_flags(
     let state = stepped.state;
     match answer {
         BatchAnswer::Refused(refusal) => {
-            print_refusal(refusal);
+            print_refusal(rt, refusal);
             Progress {
                 state,
                 violations,
@@ -103,7 +107,7 @@ fn take_flags(
             }
         }
         BatchAnswer::Taken(taken, pairs, _) => {
-            let run = after_lines(print_pairs(report, pairs));
+            let run = after_lines(print_pairs(rt, report, pairs));
             Progress {
                 state,
                 violations: more_by(violations, pairs as u64),
@@ -115,7 +119,8 @@ fn take_flags(
 }
 
 // Takes the bytes of one chunk. A batch takes at least one of them, since the report has room for every step; a proved loop is told so by a test.
-fn take_chunk(
+fn take_chunk<R: Runtime>(
+    rt: &R,
     progress: Progress,
     chunk: &[u8],
     history: &mut [u8],
@@ -125,7 +130,7 @@ fn take_chunk(
     let mut so_far = progress;
     let mut at: usize = 0;
     while at < chunk.len() {
-        so_far = take_flags(so_far, &chunk[at..], history, cells, report);
+        so_far = take_flags(rt, so_far, &chunk[at..], history, cells, report);
         let run = so_far.run;
         if !goes_on(run) {
             return so_far;
@@ -143,43 +148,44 @@ fn take_chunk(
 }
 
 // One read of what the input has now, so that a pipe is followed.
-fn take_some(
+fn take_some<R: Runtime, I: Read>(
+    rt: &R,
+    input: &mut I,
     progress: Progress,
     history: &mut [u8],
     cells: &mut [u32],
     report: &mut [u64],
 ) -> Progress {
-    let mut buf = io::buffer();
-    let got = read_some(STDIN_FILENO, &mut buf);
-    let count = got.count;
-    if count == 0 {
-        let state = progress.state;
-        let run = after_nothing(got.failed);
-        return Progress {
-            state,
-            violations: progress.violations,
-            taken: 0,
-            run,
-        };
+    let mut buf = [0u8; 4096];
+    match read_some(rt, input, &mut buf) {
+        Ok(0) => stopped(progress, Run::InputEnded),
+        Ok(count) => take_chunk(rt, progress, &buf[..count], history, cells, report),
+        Err(error) => {
+            say_failed(rt, "standard input", &error);
+            stopped(progress, Run::Stopped)
+        }
     }
-    take_chunk(progress, &buf[..count], history, cells, report)
 }
 
-// Takes the whole input. A proved loop has to end, so it counts its turns down from a number that no run uses up: each turn but the last takes a
-// tick, and there are 2^62 of them.
-fn take_all(state: State, history: &mut [u8], cells: &mut [u32], report: &mut [u64]) -> Progress {
+// Takes the whole input. A proved loop has to end, so it counts its turns up to a number that no run reaches: each turn but the last takes a tick, and
+// there are 2^62 of them.
+fn take_all<R: Runtime, I: Read>(
+    rt: &R,
+    input: &mut I,
+    state: State,
+    history: &mut [u8],
+    cells: &mut [u32],
+    report: &mut [u64],
+) -> Progress {
     let mut progress = Progress {
         state,
         violations: 0,
         taken: 0,
         run: Run::GoesOn,
     };
-    let mut turns = u64::MAX;
-    while 0 < turns {
-        turns -= 1;
-        progress = take_some(progress, history, cells, report);
-        let run = progress.run;
-        if !goes_on(run) {
+    for _ in 0..u64::MAX {
+        progress = take_some(rt, input, progress, history, cells, report);
+        if !goes_on(progress.run) {
             return progress;
         }
     }
@@ -187,17 +193,19 @@ fn take_all(state: State, history: &mut [u8], cells: &mut [u32], report: &mut [u
 }
 
 // Takes the whole input and prints the end line at its end, and nowhere else. Answers whether that was done.
-pub(crate) fn watch_input(
+pub(crate) fn watch_input<R: Runtime>(
+    rt: &R,
     state: State,
     history: &mut [u8],
     cells: &mut [u32],
     report: &mut [u64],
 ) -> bool {
-    let progress = take_all(state, history, cells, report);
+    let mut input = rt.reader();
+    let progress = take_all(rt, &mut input, state, history, cells, report);
     let end = progress.state;
     let run = progress.run;
     match run {
-        Run::InputEnded => print_end(end.next, progress.violations, end.live),
+        Run::InputEnded => print_end(rt, end.next, progress.violations, end.live),
         Run::GoesOn => false,
         Run::Stopped => false,
     }
