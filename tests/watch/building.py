@@ -116,7 +116,7 @@ class Building(Repository):
         self.assertEqual(self.calls(), ["rt run"])
 
 
-PARTS = ["exports_%s_c" % part for part in ("rules", "watch", "sets", "calendar", "questions")]
+PARTS = ["exports_%s_c" % part for part in ("rules", "watch", "sets", "calendar", "questions", "reports")]
 LIBRARY_CRATES = "words:\n" + "".join("%s staticlib: words\n" % part for part in PARTS)
 
 # Each part has a function of its own and one that is local to it and called the same in each.
@@ -134,7 +134,7 @@ ar rcs "lib$part.a" ./*.o
 rm ./*.o
 """
 
-PART_BEGUN = "library: building: 1 of 6 crates proved (words)\n"
+PART_BEGUN = "library: building: 1 of 7 crates proved (words)\n"
 LIBRARY_BEGIN = BEGIN.replace("watch", "library") + PART_BEGUN
 LIBRARY_BUILT = "library: built target/lib/libstation_watch.a and target/lib/libstation_watch.so\n"
 ALL_PARTS = LIBRARY_BEGIN + LIBRARY_BUILT
@@ -159,8 +159,8 @@ class Library(Repository):
     def test_the_parts_are_one_library(self):
         """And the archive is the same from build to build."""
         self.ends(0, "", ALL_PARTS)
-        self.assertEqual(self.calls(), ["rt lib"] * 5)
-        parts = ["sw_exports_calendar_c", "sw_exports_questions_c", "sw_exports_rules_c", "sw_exports_sets_c", "sw_exports_watch_c"]
+        self.assertEqual(self.calls(), ["rt lib"] * 6)
+        parts = ["sw_exports_calendar_c", "sw_exports_questions_c", "sw_exports_reports_c", "sw_exports_rules_c", "sw_exports_sets_c", "sw_exports_watch_c"]
         self.assertEqual(self.functions("--extern-only", self.archive), parts)
         self.assertEqual(self.functions("--dynamic", self.path("target", "lib", "libstation_watch.so")), parts)
         self.assertEqual(os.readlink(self.path("target", "lib", "libstation_watch.so.9.8")), "libstation_watch.so")

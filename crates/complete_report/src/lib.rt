@@ -18,7 +18,7 @@ pub struct Violation {
 
 // A list beside the complete report: the same; or the first entry that differs, counted from 0, and what stands there in the complete report: a violation, or nothing,
 // as it has ended.
-#[derive(Drop)]
+#[derive(Clone, Copy)]
 pub enum Comparison {
     Same,
     Differs(usize, Violation),
