@@ -9,9 +9,17 @@ use std::mem::{align_of, offset_of, size_of};
 
 const HEADER: &str = include_str!("../../../include/station_watch.h");
 
-/// What only C has: the answer that is no refusal, and the parts of the version, which
-/// tests/c/boundary.c compares with the whole.
-const ONLY_IN_C: [&str; 4] = ["SW_OK", "SW_VERSION_MAJOR", "SW_VERSION_MINOR", "SW_VERSION_PATCH"];
+/// What only C has: the answer that is no refusal, what a comparison of two reports tells, which is
+/// an enum in Rust, and the parts of the version, which tests/c/boundary.c compares with the whole.
+const ONLY_IN_C: [&str; 7] = [
+    "SW_OK",
+    "SW_REPORT_SAME",
+    "SW_REPORT_DIFFERS",
+    "SW_REPORT_ENDS",
+    "SW_VERSION_MAJOR",
+    "SW_VERSION_MINOR",
+    "SW_VERSION_PATCH",
+];
 
 /// What the header defines.
 fn defined() -> BTreeMap<String, String> {
