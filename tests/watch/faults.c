@@ -39,9 +39,10 @@ ssize_t read(int fd, void *bytes, size_t size) {
     return real(fd, bytes, size ? 1 : 0);
 }
 
-int close(int fd) {
-    int (*real)(int) = (int (*)(int))dlsym(RTLD_NEXT, "close");
-    if (fd != STDOUT_FILENO || !fault("close")) return real(fd);
+/* The program asks for the file on standard output to be kept before it ends, by a descriptor of its own. */
+int fdatasync(int fd) {
+    int (*real)(int) = (int (*)(int))dlsym(RTLD_NEXT, "fdatasync");
+    if (!fault("close")) return real(fd);
     errno = EIO;
     return -1;
 }

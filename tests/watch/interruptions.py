@@ -19,9 +19,9 @@ def setUpModule():
 
 
 class Faults(Station):
-    def ends_with(self, fault, printed, said, flags=b"\0\1\0"):
+    def ends_with(self, fault, printed, said, flags=b"\0\1\0", **options):
         environment = {**os.environ, "LD_PRELOAD": LIBRARY, "FAULTS": fault}
-        self.ends(0, printed, said, [PROGRAM], flags, env=environment)
+        self.ends(0, printed, said, [PROGRAM], flags, env=environment, **options)
 
     def test_no_fault(self):
         self.ends_with("", lines(FLAG_UP, b"\0\1\0"), "")
@@ -34,8 +34,12 @@ class Faults(Station):
         self.ends_with("nothing", b"", "watch: standard output: it takes nothing\n")
 
     def test_closing_fails(self):
-        """A file system may say so late that it could not keep what was written."""
-        self.ends_with("close", lines(FLAG_UP, b"\0\1\0"), "watch: standard output: Input/output error\n")
+        """A file system may say so late that it could not keep what was written. Only a file is asked; nothing is said where it was kept."""
+        for fault, said in ("", ""), ("close", "watch: standard output: Input/output error\n"):
+            with self.subTest(fault=fault), open(self.path("printed"), "w+b") as printed:
+                self.ends_with(fault, b"", said, stdout=printed)
+                printed.seek(0)
+                self.assertEqual(printed.read(), lines(FLAG_UP, b"\0\1\0"))
 
     def test_sheet_fails_in_the_middle(self):
         """What was read so far is a legal sheet, and is not run."""

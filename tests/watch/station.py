@@ -7,7 +7,7 @@ import unittest
 
 ROOT = os.path.realpath(os.path.join(os.path.dirname(__file__), "..", ".."))
 COMMAND = os.path.join(ROOT, "bin", "watch")
-PROGRAM = os.path.join(ROOT, "target", "bin", "watch")
+PROGRAM = os.path.join(ROOT, "crates", "watch", "out", "watch")
 
 sys.path.insert(0, os.path.join(ROOT, "tests", "oracle"))
 from sentences import SENTENCES  # noqa: E402

@@ -2,39 +2,39 @@
 // tests/oracle/figures.py works out the same.
 use figure_limits::FigureAnswer;
 use outcome_text::{number, text};
+use std::io;
 
-fn answer(answer: FigureAnswer) {
+fn answer(out: &impl Print, answer: FigureAnswer) -> io::Result<()> {
     match answer {
         FigureAnswer::Sized(figures) => {
-            text(b"history ");
-            number(figures.history);
-            text(b" delay ");
-            number(figures.delay);
-            text(b" cells ");
-            number(figures.cells);
+            text(out, b"history ")?;
+            number(out, figures.history)?;
+            text(out, b" delay ")?;
+            number(out, figures.delay)?;
+            text(out, b" cells ")?;
+            number(out, figures.cells)
         }
         FigureAnswer::Refused(refusal) => {
-            text(b"refused ");
-            number(refusal::number(refusal) as u64);
+            text(out, b"refused ")?;
+            number(out, refusal::number(refusal) as u64)
         }
     }
 }
 
 // One line: a body's name and its figures or refusal.
-fn show(name: &[u8], body: &[u8]) {
-    text(name);
-    text(b": ");
-    answer(figures::figures(body));
-    text(b"\n");
+fn show(out: &impl Print, name: &[u8], body: &[u8]) -> io::Result<()> {
+    text(out, name)?;
+    text(out, b": ")?;
+    answer(out, figures::figures(body))?;
+    text(out, b"\n")
 }
 
-pub(crate) fn take_case(line: &[u8]) {
-    let mut space = io::buffer();
+pub(crate) fn take_case(out: &impl Print, line: &[u8]) -> io::Result<()> {
+    let mut space = [0u8; 4096];
     let body = case_file::read_bytes(case_file::past_bar(line), &mut space);
     if body.malformed {
-        case_file::say_malformed(line);
-        return;
+        return case_file::say_malformed(out, line);
     }
     let count = body.count;
-    show(case_file::name(line), &space[..count]);
+    show(out, case_file::name(line), &space[..count])
 }

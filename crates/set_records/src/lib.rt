@@ -1,5 +1,6 @@
-// The records of a set as a lent slice of structs. The borrow checker covers no function that has a reference to a struct, so each of these is proved by a walk of
-// its code: they are few and thin, and every decision stands in `set_values`.
+// The records of a set as a lent slice of structs: these functions are few and thin, and every decision stands in `set_values`.
+#![tactic(auto)]
+
 ghost use Rattle.std.specs.Prelude.{◌≡◌, length, get_or, set};
 ghost use Rattle.demand.specs.SetContract.{no_rule, set_opening_of, set_step_of, SetOpenPromise, SetStepPromise};
 ghost use Rattle.cell_runs.specs.Moves.{Stands};

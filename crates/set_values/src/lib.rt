@@ -8,8 +8,8 @@ ghost use Rattle.set_values.specs.Values.{empty_values, rule_of_values, values_w
 use demand::Running;
 
 mod opening;
+mod record_words;
 mod stepping;
-mod words;
 
 pub use opening::{OpenedSet, open_set};
 pub use stepping::{SteppedSet, step_set};

@@ -5,7 +5,7 @@ ghost use Rattle.cell_runs.specs.Moves.{Stands};
 ghost use Rattle.set_stepping.specs.Answers.{set_step_answer};
 ghost use Rattle.set_values.specs.Values.{held_rules, OthersKept};
 
-use crate::words::{read_words, write_words};
+use crate::record_words::{read_words, write_words};
 use crate::{MOST_RULES, RuleSet, held_count};
 use running::RECORD_WORDS;
 use set_stepping::SetStepAnswer;

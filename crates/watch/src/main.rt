@@ -1,4 +1,6 @@
 // The program. Its files data/, stdin and stdout are the example of document 01, "Proving ground".
-fn main() {
-    watch_run::watch();
+#![tactic(auto)]
+
+fn main(rt: HostRuntime) {
+    watch_run::watch(&rt);
 }

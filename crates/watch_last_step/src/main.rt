@@ -1,5 +1,7 @@
 // The program on "flag 0 at X+1 beside flag 1 at X+3" and a stream that ends at a step which makes an older tick true and another false, while two ticks
 // stay open: only these are live.
-fn main() {
-    watch_run::watch();
+#![tactic(auto)]
+
+fn main(rt: HostRuntime) {
+    watch_run::watch(&rt);
 }

@@ -7,7 +7,7 @@ use Rattle.running.specs.Records.{rule_in, rules_in}
 use Rattle.set_values.specs.declared.RuleSet.{RuleSet}
 use Rattle.set_values.proofs.Lists.{length_mapped, mixed_turn}
 use borrow.Author.Rules.{rules}
-use Rattle.set_values.proofs.words.write_words.Goals as goal
+use Rattle.set_values.proofs.record_words.write_words.Goals as goal
 
 pub loop-index-preserved : goal.loop-index-preserved
 loop-index-preserved c =

@@ -11,7 +11,7 @@ use Rattle.running.specs.Records.{rule_in, rules_in}
 use Rattle.set_values.specs.declared.RuleSet.{RuleSet}
 use Rattle.set_values.proofs.Lists.{length_mapped, mixed, mixed_turn}
 use borrow.Author.Rules.{rules}
-use Rattle.set_values.proofs.words.read_words.Goals as goal
+use Rattle.set_values.proofs.record_words.read_words.Goals as goal
 
 values-turn : (front : List Running) (values₀ values : RuleSet) (n : ℕ) (rule : Running) → n < length front → n < length values₀.rules
     → values ≡ record { rules = mixed front values₀.rules n; lent = values₀.lent } → rule ≡ get_or front n no_rule
