@@ -6,11 +6,11 @@ use Rattle.recorded_rule.proofs.read_rule.Goals as goal
 
 pub overflow_add-start : goal.overflow_add-start
 overflow_add-start c =
-    let h = part_inside c.args.sheet.now c.args.rule c.find_rule-place.result c.find_rule-place.ensures c.in-At.is in
+    let h = part_inside _ _ _ c.find_rule-place.ensures c.in-At.is in
     omega arith
 
 pub slice_bounds-read_recorded-end : goal.slice_bounds-read_recorded-end
-slice_bounds-read_recorded-end c = part_inside c.args.sheet.now c.args.rule c.find_rule-place.result c.find_rule-place.ensures c.in-At.is
+slice_bounds-read_recorded-end c = part_inside _ _ _ c.find_rule-place.ensures c.in-At.is
 
 pub returns-in-At : goal.returns-in-At
 returns-in-At c =

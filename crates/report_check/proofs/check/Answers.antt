@@ -9,7 +9,7 @@ use Rattle.report_check.proofs.check.Goals as goal
 
 pub compare-requires : goal.compare-requires
 compare-requires c =
-    recorded_short c.args.sheet.now c.args.rule c.args.recording.now (formula_in 64 c.read_rule-reading.new.nodes 0 0) (sym c.in-Stored.ensures)
+    recorded_short _ _ _ _ (sym c.in-Stored.ensures)
 
 pub returns-in-Stored : goal.returns-in-Stored
 returns-in-Stored c =

@@ -12,7 +12,7 @@ use Rattle.report_writing.proofs.write.Goals as goal
 
 pub write_report-requires : goal.write_report-requires
 write_report-requires c =
-    recorded_short c.args.sheet.now c.args.rule c.args.recording.now (formula_in 64 c.read_rule-reading.new.nodes 0 0) (sym c.in-Stored.ensures)
+    recorded_short _ _ _ _ (sym c.in-Stored.ensures)
 
 pub returns-in-Stored-clause-result_value : goal.returns-in-Stored-clause-result_value
 returns-in-Stored-clause-result_value c =
