@@ -10,7 +10,7 @@ const BAR: u8 = 124;
 fn place_of(text: &[u8], byte: u8) -> Option<usize>
     ensures { result ≡ position (λ b. b == byte) text.now }
 {
-    text.iter().position(|b| *b == byte)
+    text.iter().position(|each| *each == byte)
 }
 
 // The place of the first such byte; the text's length where there is none.
