@@ -1,5 +1,6 @@
 // Bytes that are written as hexadecimal digits.
 ghost use Rattle.std.specs.Prelude.{◌+◌, ◌<◌, ◌≤◌, length};
+ghost use Rattle.io.specs.Counts.{IsPrefixLen};
 
 use crate::number::{digit, number_at};
 use words::byte_after;
@@ -87,7 +88,7 @@ fn fill(out: &mut [u8], from: usize, byte: u8, times: usize)
 
 // The bytes of a text, at the front of out.
 pub fn read_bytes(text: &[u8], out: &mut [u8]) -> Bytes
-    ensures { result.count ≤ length out.new }
+    ensures { IsPrefixLen result.count out.new }
 {
     let mut at: usize = 0;
     let mut count: usize = 0;

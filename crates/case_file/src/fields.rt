@@ -1,6 +1,7 @@
 // Lines of a file and fields of a line.
 ghost use Rattle.std.specs.Prelude.{◌≡◌, ◌≤◌, ◌==◌, suc, ltb, length, take, drop, position};
 ghost use Rattle.case_file.specs.Places.{index_of};
+ghost use Rattle.io.specs.Counts.{IsPrefixLen};
 
 const LINE_END: u8 = 10;
 
@@ -44,7 +45,7 @@ pub fn is_case(line: &[u8]) -> bool {
 // The position of the first bar; the text's length where there is none.
 fn bar(text: &[u8]) -> usize
     ensures value { result ≡ index_of 124 text.now }
-    ensures prefix_len { result ≤ length text.now }
+    ensures prefix_len { IsPrefixLen result text.now }
 {
     index_of(text, BAR)
 }
