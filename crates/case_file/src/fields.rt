@@ -9,7 +9,7 @@ const BAR: u8 = 124;
 
 // The place of the first such byte, if there is one.
 fn place_of(text: &[u8], byte: u8) -> Option<usize>
-    ensures { result ≡ position (λ b. b == byte) text.now }
+    ensures { result ≡ position (λ each. each == byte) text.now }
 {
     text.iter().position(|each| *each == byte)
 }
