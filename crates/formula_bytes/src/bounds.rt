@@ -58,6 +58,7 @@ fn offset_in_range(bits: usize) -> bool
 }
 
 // The bound whose 4 bytes start at a position, inside `depth` quantifiers.
+#[tactic(auto, using(crate::proofs::Refusals::bound_5))]
 pub(crate) fn bound_check(body: &[u8], at: usize, depth: usize) -> Check
     requires { at + 4 ≤ length body.now }
     ensures { check_number result ≡ head_number (require_bound body.now at depth negate_head) }

@@ -149,6 +149,12 @@ module _ (fs : List Figures) (sums : Sums) (are : SumsAre fs sums) (n L t histor
           unfolding fit_set must and_then
           fit_all h = rw (e, enough_cells, le-leb n records h₂, enough_words, lt-leb 4611686018427387904 t h) (ap accepted are.pairs_are)
 
+-- `fit_20` as the tactics apply it, by what the sums are.
+pub late_20 : (fs : List Figures) (n L t history cells report records : ℕ) → (eqb records 0 || eqb history L) ≡ true → 4 * all_cells fs ≤ cells → n ≤ records
+    → 2 * all_delays fs ≤ report → 4611686018427387904 ≤ t → most_pairs (fit_set fs n L t history cells report records) ≡ refused 20
+unfolding fit_set must and_then
+late_20 fs n L t history cells report records e h₁ h₂ h₃ h = rw (e, le-leb (4 * all_cells fs) cells h₁, le-leb n records h₂, le-leb (2 * all_delays fs) report h₃, le-leb 4611686018427387904 t h)
+
 -- ---- 21 before them, by n rules and the first of m records
 
 module _ (s : List ℕ) (rules : List Running) (history cells report n : ℕ) (n_is : n ≡ rule_count s) where

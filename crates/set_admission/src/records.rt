@@ -117,6 +117,7 @@ fn history_fits(opened: u16, history: usize, records: usize) -> bool
 }
 
 // 17 to 20 of a set of so many rules with these sums, whose first record is `lead`.
+#[tactic(auto, using(crate::proofs::Recorded::late_20))]
 fn fit_set(sums: Sums, lead: Running, rules: usize, lent: Lent) -> SetFit
     requires { (sums.cells ≤ 131072) × (sums.pairs ≤ 8192) }
     ensures { (figures : List Figures) → SumsAre figures sums → fit_answer result ≡ most_pairs (fit_set figures rules lead.opened lead.next lent.history lent.cells lent.report lent.records) }

@@ -104,6 +104,7 @@ fn sum_figures(sheet: &[u8]) -> SetFiguresAnswer
 }
 
 // 27 for more cells in all than a set can have.
+#[tactic(auto, unfolding(refusal::specs::Answer::and_then, demand::specs::Contract::must))]
 fn limit_all_cells(answer: SetFiguresAnswer) -> SetFiguresAnswer
     ensures { set_figures_answer result ≡ and_then (set_figures_answer answer) few_cells }
 {
@@ -130,6 +131,7 @@ pub fn set_figures(sheet: &[u8]) -> SetFiguresAnswer
 }
 
 // The opening of rules that need this, with a history, a table and records of these lengths: 17, 18.
+#[tactic(auto, using(crate::proofs::Judged::opening_long))]
 fn fit_set_opening(
     sums: SetFigures,
     history: usize,

@@ -3,7 +3,7 @@
 use Prim.Native.Nat.{◌≤◌, ◌<◌}
 use mathlib.Core.Path.{sym, ◌∙◌}
 use native.Mathlib.Omega.{arith}
-use Rattle.set_admission.proofs.Recorded.{fit_17, fit_18_cells, fit_18_records, fit_19, fit_20, fit_all}
+use Rattle.set_admission.proofs.Recorded.{fit_17, fit_18_cells, fit_18_records, fit_19, fit_all}
 use Rattle.set_admission.proofs.records.fit_set.Goals as goal
 
 pub returns-then-not-history_fits : goal.returns-then-not-history_fits
@@ -18,12 +18,7 @@ returns-then-lent-rules c figures are = fit_18_records figures _ are _ _ _ _ _ _
 pub returns-then-lent-sums-2 : goal.returns-then-lent-sums-2
 returns-then-lent-sums-2 c figures are = fit_19 figures _ are _ _ _ _ _ _ _ (sym c.history_fits.ensures ∙ c.if-not-history_fits.false) c.if-lent-sums.false c.if-lent-rules.false c.if-lent-sums-2.true
 
-pub returns-then-lead-ge-FIRST_UNTAKEN : goal.returns-then-lead-ge-FIRST_UNTAKEN
-returns-then-lead-ge-FIRST_UNTAKEN c figures are =
-    let late : 4611686018427387904 ≤ c.args.lead.next = omega (arith, c.if-lead-ge-FIRST_UNTAKEN.true) in
-    fit_20 figures _ are _ _ _ _ _ _ _ (sym c.history_fits.ensures ∙ c.if-not-history_fits.false) c.if-lent-sums.false c.if-lent-rules.false c.if-lent-sums-2.false late
-
 pub returns : goal.returns
 returns c figures are =
-    let timely : c.args.lead.next < 4611686018427387904 = omega (arith, c.if-lead-ge-FIRST_UNTAKEN.false) in
+    let timely : c.args.lead.next < 4611686018427387904 = omega arith in
     fit_all figures _ are _ _ _ _ _ _ _ (sym c.history_fits.ensures ∙ c.if-not-history_fits.false) c.if-lent-sums.false c.if-lent-rules.false c.if-lent-sums-2.false timely
