@@ -48,6 +48,7 @@ fn offset_allowed(kind: u8, bits: usize) -> bool
 }
 
 // The offset that the 16 bits say lies from -4,095 to 4,095.
+#[tactic(auto, unfolding(rule::specs::Body::signed))]
 fn offset_in_range(bits: usize) -> bool
     ensures { result ≡ leb (nat_abs (signed bits)) 4095 }
 {
