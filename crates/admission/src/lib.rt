@@ -18,6 +18,7 @@ use rule::{FIRST_UNTAKEN, Figures, MAX_HISTORY};
 const LONGEST_HISTORY: usize = MAX_HISTORY as usize;
 
 // The opening of a rule with these figures: its history must have from the figure's bytes up to 4,096, and its table the needed cells.
+#[tactic(auto, unfolding(demand::specs::Contract::room, demand::specs::Contract::must))]
 fn fit_opening(figures: Figures, history: usize, table: usize) -> FigureAnswer
     requires { FiguresWithin figures }
     ensures { figures_answer result ≡ room history table figures }
@@ -49,6 +50,7 @@ pub fn admit_opening(body: &[u8], history: usize, table: usize) -> FigureAnswer
 }
 
 // The step of a rule with these figures, whose history was opened with L bytes: refusals 17 to 20.
+#[tactic(auto, unfolding(demand::specs::Contract::fit_lengths, demand::specs::Contract::must))]
 fn fit_step(
     figures: Figures,
     opened: usize,
@@ -98,6 +100,7 @@ fn fit_state(
 
 // The figures with which a step goes on, or a refusal: 21, 17 to 20. The body's node table, with its sizes, is left in `nodes`; a refusal
 // leaves it all 0.
+#[tactic(auto, using(crate::proofs::Admits::step_above))]
 pub fn admit_step(
     body: &[u8],
     opened: usize,

@@ -60,6 +60,7 @@ fn limit_history(history: Size, delay: u16, cells: u16) -> FigureAnswer
 }
 
 // `cells` are its formula's.
+#[tactic(auto, unfolding(rule::specs::Figures::limit_delay))]
 pub fn limit_delay(history: Size, delay: Size, cells: u16) -> FigureAnswer
     ensures { figures_answer result ≡ limit_delay history delay (capped_needed delay cells) }
 {

@@ -40,6 +40,10 @@ module _ (ns : List ℕ) (j v : ℕ) {kind : ℕ} (e : kind ≡ get_or ns (j + 0
   unfolding bound_at bound_of bound_names
   variable_at h f = simp (ne_eqb (get_or ns (j + 0) 0) 0 (λ z. omega arith), ne_eqb (get_or ns (j + 0) 0) 1 (λ z. omega arith), f)
 
+-- as a fact of the definition
+pub none_named_at : (ns : List ℕ) (j v : ℕ) → get_or ns (j + 0) 0 ≤ 1 → bound_names v (bound_at ns j) ≡ false
+none_named_at ns j v h = sym (no_variable_at ns j v refl h)
+
 -- ---- a formula
 
 pub named_same : (v : ℕ) {F G : Formula} {b : Bool} → F ≡ G → b ≡ names v G → b ≡ names v F

@@ -31,6 +31,11 @@ module _ (s : List ℕ) (at : ℕ) where
 
 -- ---- names and numerals
 
+-- `numeral_long` as the tactics apply it, by the run's length.
+pub numeral_over : (t : List ℕ) → 4 < length (run digit t) → read_numeral t ≡ none
+unfolding read_numeral is_numeral
+numeral_over t k = rw (run_all digit t, le-leb 1 (length (run digit t)) (omega arith), lt-leb (length (run digit t)) 4 k)
+
 module _ (s : List ℕ) where
   pub name_short : length (run letter s) < 1 → false ≡ is_name (run letter s)
   unfolding is_name

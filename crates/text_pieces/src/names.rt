@@ -59,6 +59,7 @@ pub(crate) fn name_end(text: &[u8], at: usize) -> usize
 }
 
 // The position after the numeral at a position; 0 where there is none.
+#[tactic(auto, using(crate::proofs::Parsing::numeral_over))]
 pub(crate) fn numeral_end(text: &[u8], at: usize) -> usize
     ensures { Found text.now result (read_numeral (drop at text.now)) }
 {
