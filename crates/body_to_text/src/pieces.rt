@@ -85,6 +85,7 @@ fn below_zero(bits: u32) -> u32
 }
 
 // Stores an offset of 16 bits: nothing for 0.
+#[tactic(auto, unfolding(notation::specs::Notation::offset_text, notation::specs::Printing::offset_named, rule::specs::Body::signed))]
 fn put_offset(out: &mut [u8], at: usize, bits: u32) -> usize
     ensures { Wrote (offset_text (offset_named (signed bits)) []) out.old at out.new result }
 {

@@ -12,6 +12,7 @@ pub struct Head {
 }
 
 // What a head's words say at tick t of a range with so many positions: no leading ones where the range starts now.
+#[tactic(auto, unfolding(crate::specs::Heads::leading_of, crate::specs::Heads::latest_of))]
 pub fn head_of(trues: u32, steps: u32, p: u64, s: u64, t: u64, positions: u64) -> Head
     ensures { (result.leading ≡ leading_of s t positions trues) × (result.latest ≡ latest_of p s result.leading steps) }
 {

@@ -27,6 +27,7 @@ pub fn step_after(p: u64, steps: u32) -> u64
 }
 
 // The outcome that two words of a cell hold.
+#[tactic(auto, unfolding(crate::specs::Cells::held))]
 pub fn outcome_of(verdict: u32, steps: u32, p: u64) -> Outcome
     ensures { result ≡ held p verdict steps }
 {
