@@ -3,7 +3,7 @@
 #![tactic(auto)]
 
 // A tick at which a flag is up, or none.
-#[derive(Drop)]
+#[derive(Clone, Copy)]
 pub enum UpTick {
     At(u64),
     None,

@@ -11,14 +11,14 @@ use calendar_marks::kept_ticks;
 use refusal::Refusal;
 
 // A number of ups, or why there is none.
-#[derive(Drop)]
+#[derive(Clone, Copy)]
 pub enum CountAnswer {
     Counted(u64),
     Refused(Refusal),
 }
 
 // The tick that was sought, or that there is none; or why there is no answer.
-#[derive(Drop)]
+#[derive(Clone, Copy)]
 pub enum TickAnswer {
     Found(UpTick),
     Refused(Refusal),

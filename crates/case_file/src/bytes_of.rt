@@ -6,7 +6,7 @@ use crate::number::{digit, number_at};
 use words::byte_after;
 
 // What a text came to: how many bytes stand at the front of the buffer, or that it is malformed or has more of them than the buffer takes.
-#[derive(Drop)]
+#[derive(Clone, Copy)]
 pub struct Bytes {
     pub count: usize,
     pub malformed: bool,
@@ -14,7 +14,7 @@ pub struct Bytes {
 
 // One piece of the text: a byte, how many times it is meant, and the position after the piece. A blank is a byte no times; a piece that is malformed
 // ends where it begins.
-#[derive(Drop)]
+#[derive(Clone, Copy)]
 struct Piece {
     byte: u8,
     times: usize,

@@ -5,7 +5,7 @@ ghost use Rattle.case_file.specs.Digits.{digit_value};
 use words::byte_after;
 
 // A number that was read, and the position after it: the position where it was to begin if there is none.
-#[derive(Drop)]
+#[derive(Clone, Copy)]
 pub struct Number {
     pub value: usize,
     pub end: usize,

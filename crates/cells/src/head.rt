@@ -5,7 +5,7 @@ ghost use Rattle.cells.specs.Heads.{leading_of, latest_of};
 use crate::outcome::step_after;
 
 // What a head cell says.
-#[derive(Drop)]
+#[derive(Clone, Copy)]
 pub struct Head {
     pub leading: u64,
     pub latest: u64,

@@ -11,14 +11,14 @@ use refusal::Refusal;
 use sheet::Found;
 
 // Whether the rule was opened.
-#[derive(Drop)]
+#[derive(Clone, Copy)]
 pub enum OpenAnswer {
     Opened,
     Refused(Refusal),
 }
 
 // An enum cannot hold a state, which holds an array: the state stands beside the answer.
-#[derive(Drop)]
+#[derive(Clone, Copy)]
 pub struct OpenResult {
     pub answer: OpenAnswer,
     pub state: State,

@@ -10,14 +10,14 @@ use refusal::Refusal;
 use sheet::MAX_BODY;
 
 // The state after a step stands beside its answer; a refused step gives its own state back.
-#[derive(Drop)]
+#[derive(Clone, Copy)]
 pub struct StepResult {
     pub answer: StepAnswer,
     pub state: State,
 }
 
 // The same of a batch.
-#[derive(Drop)]
+#[derive(Clone, Copy)]
 pub struct BatchResult {
     pub answer: BatchAnswer,
     pub state: State,

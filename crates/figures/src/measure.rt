@@ -17,7 +17,7 @@ use nodes::{
 use rule::{Limit, Pair, Size};
 
 // A formula's figures; its cells are counted up to 4,097.
-#[derive(Drop)]
+#[derive(Clone, Copy)]
 pub(crate) struct Figure {
     pub(crate) delay: Size,
     pub(crate) history: Size,

@@ -11,7 +11,7 @@ use refusal::Refusal;
 use words::byte_after;
 
 // No refusal, or one.
-#[derive(Drop)]
+#[derive(Clone, Copy)]
 pub enum Check {
     Fine,
     Refused(Refusal),

@@ -15,14 +15,14 @@ use rule::Figures;
 const REPORT_WORDS: usize = 256;
 
 // How many flags were taken, how many pairs of a tick and its deciding step were written and how many ticks are live, or why the batch was refused.
-#[derive(Drop)]
+#[derive(Clone, Copy)]
 pub enum BatchAnswer {
     Taken(usize, usize, usize),
     Refused(Refusal),
 }
 
 // How many flags were taken, how many pairs were written, and how many ticks are live.
-#[derive(Drop)]
+#[derive(Clone, Copy)]
 pub(crate) struct BatchCounts {
     pub taken: usize,
     pub pairs: usize,

@@ -13,7 +13,7 @@ use ring::remember;
 use rule::{Figures, Outcome, Verdict};
 
 // How many ticks were reported, and how many are live.
-#[derive(Drop)]
+#[derive(Clone, Copy)]
 pub(crate) struct Moved {
     pub reported: usize,
     pub live: usize,

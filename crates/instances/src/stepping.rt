@@ -8,7 +8,7 @@ use refusal::Refusal;
 use ring::remember;
 
 // How many ticks were reported and how many are live, or why the step was refused.
-#[derive(Drop)]
+#[derive(Clone, Copy)]
 pub enum StepAnswer {
     Taken(usize, usize),
     Refused(Refusal),

@@ -5,7 +5,7 @@ ghost use Rattle.nodes.specs.Nots.{past_nots};
 use crate::{CODE, NODE_WORDS, NOT_CODE, node_word};
 
 // The formula under a run of nots: its word, the formulas left there, and whether the nots are odd in number.
-#[derive(Drop)]
+#[derive(Clone, Copy)]
 pub struct Operand {
     pub left: usize,
     pub node: usize,

@@ -13,14 +13,14 @@ use refusal::Refusal;
 use writer::{node_place, write_head, write_second};
 
 // A formula's refusal; or the position after it and the formulas left.
-#[derive(Drop)]
+#[derive(Clone, Copy)]
 enum Part {
     Refused(Refusal),
     Ended(usize, usize),
 }
 
 // The body's formula stands in the table; or the body's refusal.
-#[derive(Drop)]
+#[derive(Clone, Copy)]
 pub enum Reading {
     Stored,
     Refused(Refusal),

@@ -18,7 +18,7 @@ use refusal::Refusal;
 use rule::Outcome;
 
 // An outcome, or why there is none.
-#[derive(Drop)]
+#[derive(Clone, Copy)]
 pub enum Evaluated {
     Answered(Outcome),
     Refused(Refusal),

@@ -22,7 +22,7 @@ use reader::Reading;
 use refusal::Refusal;
 
 // How a list compares with the complete report, or why there is none.
-#[derive(Drop)]
+#[derive(Clone, Copy)]
 pub enum CheckAnswer {
     Compared(Comparison),
     Refused(Refusal),

@@ -16,7 +16,7 @@ use sheet::MAX_RULES;
 use words::byte_after;
 
 // The most pairs that a step can report, the sum of all delay + 1; or why the step is refused.
-#[derive(Drop)]
+#[derive(Clone, Copy)]
 pub enum SetFit {
     Fits(usize),
     Refused(Refusal),
@@ -62,7 +62,7 @@ fn rule_runs(sheet: &[u8], lead: Running, rule: Running, first: usize) -> bool
 }
 
 // Whether all records are of running rules, and then the sums over them: their cells, and the most pairs of a step.
-#[derive(Drop)]
+#[derive(Clone, Copy)]
 struct Sums {
     pub run: bool,
     pub cells: usize,
@@ -98,7 +98,7 @@ fn sum_records(sheet: &[u8], records: &[[u32; RECORD_WORDS]], lead: Running, cou
 }
 
 // How long each part is that a step is lent.
-#[derive(Drop)]
+#[derive(Clone, Copy)]
 struct Lent {
     pub history: usize,
     pub cells: usize,

@@ -19,7 +19,7 @@ use words::byte_after;
 
 // What all rules need together: how many there are, the largest history figure, the sum of their cells, and the most pairs that a step can report, which
 // is the sum of all delay + 1.
-#[derive(Drop)]
+#[derive(Clone, Copy)]
 pub struct SetFigures {
     pub rules: usize,
     pub history: u64,
@@ -28,7 +28,7 @@ pub struct SetFigures {
 }
 
 // That, or a refusal.
-#[derive(Drop)]
+#[derive(Clone, Copy)]
 pub enum SetFiguresAnswer {
     Sized(SetFigures),
     Refused(Refusal),

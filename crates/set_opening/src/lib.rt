@@ -19,7 +19,7 @@ use set_admission::SetFiguresAnswer;
 use sheet::Found;
 
 // Whether the set was opened.
-#[derive(Drop)]
+#[derive(Clone, Copy)]
 pub enum SetOpenAnswer {
     Opened,
     Refused(Refusal),

@@ -18,14 +18,14 @@ use words::byte_after;
 const SET_REPORT_WORDS: usize = 8192;
 
 // How many flags were taken, how many triples were written and how many ticks are live in all, or why the batch was refused.
-#[derive(Drop)]
+#[derive(Clone, Copy)]
 pub enum SetBatchAnswer {
     Taken(usize, usize, usize),
     Refused(Refusal),
 }
 
 // How many flags were taken, how many triples were written and how many ticks are live.
-#[derive(Drop)]
+#[derive(Clone, Copy)]
 struct SetBatchCounts {
     pub taken: usize,
     pub triples: usize,

@@ -12,7 +12,7 @@ use running::{RECORD_WORDS, rule_at, store_rule};
 use words::byte_after;
 
 // How many pairs, or ticks of one rule, were reported, and how many ticks are live.
-#[derive(Drop)]
+#[derive(Clone, Copy)]
 pub(crate) struct StepCounts {
     pub reported: usize,
     pub live: usize,

@@ -10,7 +10,7 @@ use running::RECORD_WORDS;
 use set_admission::SetFit;
 
 // How many pairs were written and how many ticks are live in all, or why the step was refused.
-#[derive(Drop)]
+#[derive(Clone, Copy)]
 pub enum SetStepAnswer {
     Taken(usize, usize),
     Refused(Refusal),

@@ -11,7 +11,7 @@ use running::RECORD_WORDS;
 use set_opening::SetOpenAnswer;
 
 // Whether the set was opened, and the set as it is then.
-#[derive(Drop)]
+#[derive(Clone, Copy)]
 pub struct OpenedSet {
     pub answer: SetOpenAnswer,
     pub set: RuleSet,

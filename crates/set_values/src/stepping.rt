@@ -11,7 +11,7 @@ use running::RECORD_WORDS;
 use set_stepping::SetStepAnswer;
 
 // How many pairs were written and how many ticks are live in all, or why the step was refused; and the set as it is then.
-#[derive(Drop)]
+#[derive(Clone, Copy)]
 pub struct SteppedSet {
     pub answer: SetStepAnswer,
     pub set: RuleSet,

@@ -8,7 +8,7 @@ use crate::names::name_end;
 use crate::scan::{digit_end, starts_at};
 
 // How a formula starts, and the position after that.
-#[derive(Drop)]
+#[derive(Clone, Copy)]
 pub enum Piece {
     Wrong,
     Flag(usize),

@@ -4,7 +4,7 @@ ghost use Rattle.text_to_body.specs.Cursors.{Nowhere};
 
 // Before a formula (mode 0), after one (1), at the text's end with nothing open (2), or misspelt (3); the position in the text, how many frames are
 // open, how many names are in scope, how many bytes of the body are written, and whether all names so far are bound.
-#[derive(Drop)]
+#[derive(Clone, Copy)]
 pub(crate) struct Cursor {
     pub mode: u8,
     pub at: usize,

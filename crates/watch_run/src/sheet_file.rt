@@ -1,5 +1,5 @@
 // The file watch.sheet of the current folder.
-ghost use Rattle.std.specs.Prelude.{◌≤◌, length};
+ghost use Rattle.io.specs.Counts.{IsPrefixLen};
 
 use crate::reading::read_some;
 use crate::saying::say_failed;
@@ -19,7 +19,7 @@ fn say_not_opened<R: Runtime>(rt: &R, error: &Error) {
 // The bytes of the opened file at the front of buf, and how many there are. A read that fails does not make a shorter sheet: standard error says
 // why, and there are 0.
 fn read_sheet<R: Runtime, F: Read>(rt: &R, file: &mut F, buf: &mut [u8]) -> usize
-    ensures { result ≤ length buf.new }
+    ensures { IsPrefixLen result buf.new }
 {
     let mut count: usize = 0;
     while count < buf.len() {
@@ -38,7 +38,7 @@ fn read_sheet<R: Runtime, F: Read>(rt: &R, file: &mut F, buf: &mut [u8]) -> usiz
 // The file's bytes at the front of buf, and how many there are: 0 where it is missing or cannot be read, and standard error says which. The largest
 // legal sheet has 16,513 bytes, so that a longer file is seen to be longer.
 pub(crate) fn load<R: Runtime>(rt: &R, buf: &mut [u8]) -> usize
-    ensures { result ≤ length buf.new }
+    ensures { IsPrefixLen result buf.new }
 {
     match fs::open(rt, "watch.sheet") {
         Ok(mut file) => read_sheet(rt, &mut file, buf),

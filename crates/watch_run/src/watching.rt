@@ -19,7 +19,7 @@ enum Run {
 }
 
 // What the steps so far left, and how many flag bytes the last batch took.
-#[derive(Drop)]
+#[derive(Clone, Copy)]
 struct Progress {
     state: State,
     violations: u64,
