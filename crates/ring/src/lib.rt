@@ -8,11 +8,7 @@ ghost use Rattle.ring.specs.Ring.{byte_of};
 pub fn zero(history: &mut [u8])
     ensures { history.new ≡ replicate (length history.old) 0 }
 {
-    let mut at: usize = 0;
-    while at < history.len() {
-        history[at] = 0;
-        at += 1;
-    }
+    history.fill(0);
 }
 
 // The byte of tick q: the flag byte given where q is t, else that of the history.
@@ -22,7 +18,7 @@ pub fn byte_of(history: &[u8], flag: u8, t: u64, q: u64) -> u8
     if q == t {
         return flag;
     }
-    if history.len() == 0 {
+    if history.is_empty() {
         return 0;
     }
     let length = history.len() as u64;
@@ -35,7 +31,7 @@ pub fn byte_of(history: &[u8], flag: u8, t: u64, q: u64) -> u8
 pub fn remember(history: &mut [u8], t: u64, flag: u8)
     ensures { history.new ≡ set history.old (t % length history.old) flag }
 {
-    if history.len() == 0 {
+    if history.is_empty() {
         return;
     }
     let length = history.len() as u64;
