@@ -3,18 +3,18 @@
 #![tactic(auto)]
 
 ghost use Rattle.std.specs.Prelude.{length};
-ghost use Rattle.refusal.specs.Answer.{written};
+ghost use Rattle.refusal.specs.Answer.{answer_of};
 ghost use Rattle.notation.specs.Bodies.{fitted, Writes};
 
-use refusal::{Refusal, Written};
+use refusal::Refusal;
 
 // Puts bytes at the start of a lent buffer and answers how many, or refuses with 22.
-pub fn deliver(bytes: &[u8], out: &mut [u8]) -> Written
-    ensures { Writes (fitted (length out.old) bytes.now) (written result) out.old out.new }
+pub fn deliver(bytes: &[u8], out: &mut [u8]) -> Result<usize, Refusal>
+    ensures { Writes (fitted (length out.old) bytes.now) (answer_of result) out.old out.new }
 {
     if out.len() < bytes.len() {
-        return Written::Refused(Refusal::BufferTooShort);
+        return Err(Refusal::BufferTooShort);
     }
     out[..bytes.len()].copy_from_slice(bytes);
-    Written::Length(bytes.len())
+    Ok(bytes.len())
 }
