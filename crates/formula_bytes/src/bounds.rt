@@ -1,10 +1,10 @@
 // The refusals of one bound, in the order 5, 6, 23, 24, 8 of document 02, point 1. The tests of 6 to 8 are functions of their own, each equal to the
 // definition's.
 ghost use Rattle.std.specs.Prelude.{◌≡◌, not, ◌||◌, ◌+◌, ◌≤◌, leb, eqb, length, nat_abs};
+ghost use Rattle.refusal.specs.Answer.{number, answer_of};
 ghost use Rattle.rule.specs.Body.{signed, require_bound, negate_head};
-ghost use Rattle.formula_bytes.specs.Checks.{check_number, head_number};
+ghost use Rattle.formula_bytes.specs.Checks.{head_number};
 
-use crate::checks::Check;
 use nodes::{INFINITY_KIND_BYTE, VARIABLE_KIND_BYTE};
 use refusal::Refusal;
 use words::{byte_after, word_at};
@@ -60,9 +60,9 @@ fn offset_in_range(bits: usize) -> bool
 
 // The bound whose 4 bytes start at a position, inside `depth` quantifiers.
 #[tactic(auto, using(crate::proofs::Refusals::bound_5))]
-pub(crate) fn bound_check(body: &[u8], at: usize, depth: usize) -> Check
+pub(crate) fn bound_check(body: &[u8], at: usize, depth: usize) -> Result<(), Refusal>
     requires { at + 4 ≤ length body.now }
-    ensures { check_number result ≡ head_number (require_bound body.now at depth negate_head) }
+    ensures { number (answer_of result) ≡ head_number (require_bound body.now at depth negate_head) }
 {
     let kind = body[at];
     let variable = byte_after(body, at, 1);
@@ -72,19 +72,19 @@ pub(crate) fn bound_check(body: &[u8], at: usize, depth: usize) -> Check
     let allowed = offset_allowed(kind, bits);
     let in_range = offset_in_range(bits);
     if VARIABLE_KIND_BYTE < kind {
-        return Check::Refused(Refusal::UnknownCode);
+        return Err(Refusal::UnknownCode);
     }
     if !is_bound {
-        return Check::Refused(Refusal::UnboundVariable);
+        return Err(Refusal::UnboundVariable);
     }
     if !byte_fits {
-        return Check::Refused(Refusal::VariableByteNotZero);
+        return Err(Refusal::VariableByteNotZero);
     }
     if !allowed {
-        return Check::Refused(Refusal::OffsetOnInfinity);
+        return Err(Refusal::OffsetOnInfinity);
     }
     if !in_range {
-        return Check::Refused(Refusal::OffsetOutOfRange);
+        return Err(Refusal::OffsetOutOfRange);
     }
-    Check::Fine
+    Ok(())
 }

@@ -1,52 +1,43 @@
 // The refusals of one formula's own bytes, in 01's order: "code present (4), known (5), 9, its fixed bytes present (4), then for a flag 6, 7;
 // for each bound" what crate::bounds tests.
 ghost use Rattle.std.specs.Prelude.{◌≡◌, not, ◌&&◌, ◌||◌, ◌+◌, ◌≤◌, ◌<◌, leb, ltb, eqb, length};
+ghost use Rattle.refusal.specs.Answer.{number, answer_of};
 ghost use Rattle.words.specs.Words.{byte};
 ghost use Rattle.rule.specs.Body.{fixed, after_code, head};
-ghost use Rattle.formula_bytes.specs.Checks.{check_number, head_number};
+ghost use Rattle.formula_bytes.specs.Checks.{head_number};
 
 use crate::bounds::bound_check;
 use nodes::{FLAG_CODE_BYTE, FORALL_CODE_BYTE, NESTED};
 use refusal::Refusal;
 use words::byte_after;
 
-// No refusal, or one.
-#[derive(Clone, Copy)]
-pub enum Check {
-    Fine,
-    Refused(Refusal),
-}
-
 // A flag's variable and flag, inside `depth` quantifiers.
-fn flag_check(body: &[u8], at: usize, depth: usize) -> Check
+fn flag_check(body: &[u8], at: usize, depth: usize) -> Result<(), Refusal>
     requires { byte body.now at ≡ 1 }
-    ensures { check_number result ≡ head_number (after_code body.now at depth) }
+    ensures { number (answer_of result) ≡ head_number (after_code body.now at depth) }
 {
     if depth < byte_after(body, at, 1) {
-        return Check::Refused(Refusal::UnboundVariable);
+        return Err(Refusal::UnboundVariable);
     }
     if 7 < byte_after(body, at, 2) {
-        return Check::Refused(Refusal::NoSuchFlag);
+        return Err(Refusal::NoSuchFlag);
     }
-    Check::Fine
+    Ok(())
 }
 
 // A quantifier's two bounds, inside `depth` others.
-fn bounds_check(body: &[u8], at: usize, depth: usize) -> Check
+fn bounds_check(body: &[u8], at: usize, depth: usize) -> Result<(), Refusal>
     requires { (byte body.now at ≡ 5) × (at + 9 ≤ length body.now) }
-    ensures { check_number result ≡ head_number (after_code body.now at depth) }
+    ensures { number (answer_of result) ≡ head_number (after_code body.now at depth) }
 {
-    let first = bound_check(body, at + 1, depth);
-    match first {
-        Check::Refused(refusal) => Check::Refused(refusal),
-        Check::Fine => bound_check(body, at + 5, depth),
-    }
+    bound_check(body, at + 1, depth)?;
+    bound_check(body, at + 5, depth)
 }
 
 // What follows a known code, of which all fixed bytes are there.
-fn contents_check(body: &[u8], at: usize, depth: usize) -> Check
+fn contents_check(body: &[u8], at: usize, depth: usize) -> Result<(), Refusal>
     requires { (at < length body.now) × (byte body.now at ≡ 5 → at + 9 ≤ length body.now) × (1 ≤ byte body.now at) × (byte body.now at ≤ 5) }
-    ensures { check_number result ≡ head_number (after_code body.now at depth) }
+    ensures { number (answer_of result) ≡ head_number (after_code body.now at depth) }
 {
     let code = body[at];
     if code == FLAG_CODE_BYTE {
@@ -55,7 +46,7 @@ fn contents_check(body: &[u8], at: usize, depth: usize) -> Check
     if code == FORALL_CODE_BYTE {
         return bounds_check(body, at, depth);
     }
-    Check::Fine
+    Ok(())
 }
 
 // How many bytes a formula has before its parts.
@@ -95,21 +86,21 @@ fn formula_fits(code: u8, depth: usize, left: usize) -> bool
 }
 
 // The formula's own bytes at a position, inside `depth` quantifiers and with some formulas left.
-pub fn head_check(body: &[u8], at: usize, depth: usize, left: usize) -> Check
-    ensures { check_number result ≡ head_number (head body.now at depth left) }
+pub fn head_check(body: &[u8], at: usize, depth: usize, left: usize) -> Result<(), Refusal>
+    ensures { number (answer_of result) ≡ head_number (head body.now at depth left) }
 {
     if body.len() <= at {
-        return Check::Refused(Refusal::BodyEndsEarly);
+        return Err(Refusal::BodyEndsEarly);
     }
     let code = body[at];
     if !code_known(code) {
-        return Check::Refused(Refusal::UnknownCode);
+        return Err(Refusal::UnknownCode);
     }
     if !formula_fits(code, depth, left) {
-        return Check::Refused(Refusal::BodyTooLarge);
+        return Err(Refusal::BodyTooLarge);
     }
     if body.len() - at < fixed_bytes(code) {
-        return Check::Refused(Refusal::BodyEndsEarly);
+        return Err(Refusal::BodyEndsEarly);
     }
     contents_check(body, at, depth)
 }

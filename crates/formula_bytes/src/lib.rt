@@ -4,4 +4,4 @@
 mod bounds;
 mod checks;
 
-pub use checks::{Check, head_check};
+pub use checks::head_check;
