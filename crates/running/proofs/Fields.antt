@@ -2,9 +2,10 @@
 -- read and stored again.
 use Prim.Native.Nat.{ℕ, ◌+◌, ◌*◌, ◌%◌, ◌/◌, ◌<◌}
 use native.Mathlib.Omega.{arith}
-use mathlib.Core.Path.{◌≡◌, refl}
-use mathlib.Core.List.{List, [], ◌∷◌}
-use lib.ListN.{length, get_or}
+use mathlib.Core.Path.{◌≡◌, refl, ap, ◌∙◌}
+use mathlib.Core.List.{List, [], ◌∷◌, map}
+use lib.ListN.{length, get_or, set}
+use Rattle.std.proofs.lemmas.List.{map-set}
 use Rattle.demand.specs.declared.Running.{Running}
 use Rattle.running.specs.Records.{rule_in, words_of}
 
@@ -19,6 +20,12 @@ both_words t = omega arith
 
 pub read_again : (rule : Running) → rule.delay < 65536 → rule_in (words_of rule) ≡ rule
 read_again rule low = rw (low_half rule.delay rule.opened low, high_half rule.delay rule.opened low, both_words rule.next) refl
+
+-- Words that a rule is stored as, put in a record's place, are read as the rule there.
+pub stored : (records : List (List ℕ)) (index : ℕ) (rule : Running) (words : List ℕ) → words ≡ words_of rule → rule.delay < 65536
+    → map rule_in (set records index words) ≡ set (map rule_in records) index rule
+stored records index rule words e low =
+    map-set rule_in records index words ∙ ap (set (map rule_in records) index) (ap rule_in e ∙ read_again rule low)
 
 both_halves : (w : ℕ) → w % 65536 + 65536 * (w / 65536) ≡ w
 both_halves w = omega arith

@@ -3,7 +3,7 @@
 
 ghost use Rattle.std.specs.Prelude.{◌+◌, ◌*◌, ◌%◌, ◌/◌, ◌≡◌, get_or, set};
 ghost use Rattle.demand.specs.SetContract.{no_rule};
-ghost use Rattle.running.specs.Records.{rules_in};
+ghost use Rattle.running.specs.Records.{rule_in, words_of, rules_in};
 
 use demand::Running;
 
@@ -33,52 +33,55 @@ fn high_half(word: u32) -> u16
 fn tick_of(low: u32, high: u32) -> u64
     ensures { result ≡ low + 4294967296 * high }
 {
-    low as u64 + WORD_VALUES * high as u64
+    u64::from(low) + WORD_VALUES * u64::from(high)
+}
+
+// The rule that a record's words hold.
+// Kept: no `From`, since the struct `Running` and the array are of other crates.
+fn rule_of(words: &[u32; RECORD_WORDS]) -> Running
+    ensures { result ≡ rule_in words.now }
+{
+    Running {
+        start: words[0],
+        size: words[1],
+        first: words[2],
+        cells: words[3],
+        delay: low_half(words[4]),
+        opened: high_half(words[4]),
+        live: words[5],
+        next: tick_of(words[6], words[7]),
+    }
+}
+
+// The words that a rule is stored as.
+fn record_of(rule: Running) -> [u32; RECORD_WORDS]
+    ensures { result ≡ words_of rule }
+{
+    [
+        rule.start,
+        rule.size,
+        rule.first,
+        rule.cells,
+        u32::from(rule.delay) + HALF_VALUES * u32::from(rule.opened),
+        rule.live,
+        (rule.next % WORD_VALUES) as u32,
+        (rule.next / WORD_VALUES) as u32,
+    ]
 }
 
 // The rule of the record at a place; one of no rule past the end.
 pub fn rule_at(records: &[[u32; RECORD_WORDS]], index: usize) -> Running
     ensures { result ≡ get_or (rules_in records.now) index no_rule }
 {
-    if index < records.len() {
-        let words = records[index];
-        return Running {
-            start: words[0],
-            size: words[1],
-            first: words[2],
-            cells: words[3],
-            delay: low_half(words[4]),
-            opened: high_half(words[4]),
-            live: words[5],
-            next: tick_of(words[6], words[7]),
-        };
-    }
-    Running {
-        start: 0,
-        size: 0,
-        first: 0,
-        cells: 0,
-        delay: 0,
-        opened: 0,
-        live: 0,
-        next: 0,
-    }
+    records.get(index).map_or(Running::default(), rule_of)
 }
 
 // Stores a rule in the record at a place, and nothing past the end.
+#[tactic(auto, using(crate::proofs::Fields::stored))]
 pub fn store_rule(records: &mut [[u32; RECORD_WORDS]], index: usize, rule: Running)
     ensures { rules_in records.new ≡ set (rules_in records.old) index rule }
 {
     if index < records.len() {
-        records[index] = [
-            rule.start,
-            rule.size,
-            rule.first,
-            rule.cells,
-            rule.delay as u32 + HALF_VALUES * rule.opened as u32,
-            rule.live,
-            (rule.next % WORD_VALUES) as u32,
-            (rule.next / WORD_VALUES) as u32,
-        ];
+        records[index] = record_of(rule);
     }
 }
