@@ -15,20 +15,6 @@ const HALF_VALUES: u32 = 65536;
 
 const WORD_VALUES: u64 = 4294967296;
 
-// The low half of a word: the delay.
-fn low_half(word: u32) -> u16
-    ensures { result ≡ word % 65536 }
-{
-    (word % HALF_VALUES) as u16
-}
-
-// The high half of a word: the history's opened length.
-fn high_half(word: u32) -> u16
-    ensures { result ≡ word / 65536 }
-{
-    (word / HALF_VALUES) as u16
-}
-
 // The tick of a low and a high word.
 fn tick_of(low: u32, high: u32) -> u64
     ensures { result ≡ low + 4294967296 * high }
@@ -46,8 +32,8 @@ fn rule_of(words: &[u32; RECORD_WORDS]) -> Running
         size: words[1],
         first: words[2],
         cells: words[3],
-        delay: low_half(words[4]),
-        opened: high_half(words[4]),
+        delay: (words[4] % HALF_VALUES) as u16,
+        opened: (words[4] / HALF_VALUES) as u16,
         live: words[5],
         next: tick_of(words[6], words[7]),
     }
