@@ -6,13 +6,15 @@ use mathlib.Core.List.{List}
 use native.Mathlib.Omega.{arith}
 use Rattle.words.specs.Words.{byte}
 use Rattle.refusal.specs.Answer.{Answer, refused, accepted}
+use Rattle.refusal.proofs.Answers.{same_value}
 use Rattle.rule.specs.Formula.{Formula, negate, then, beside, forall}
 use Rattle.rule.specs.Body.{Head, refuse, flag_head, negate_head, then_head, beside_head, forall_head, bound, after_code, head, Read, stop, read, one, two, parts, formula_at}
 use Rattle.rule.proofs.Order.{by_order}
 use Rattle.rule.proofs.Reading.{require_holds, bound_holds, formula_step, Advances, advances}
 use Rattle.rule.proofs.Heads.{Only, Accepts, accepts_reads, Positive, head_positive}
 use Rattle.formula_bytes.specs.Checks.{head_number}
-use Rattle.reader.specs.Filled.{FormulaEnd, ending, formula_end}
+use Rattle.reader.specs.declared.FormulaEnd.{FormulaEnd}
+use Rattle.reader.specs.Filled.{ending, formula_end}
 
 pub head_accepts : (s : List ℕ) (at m left : ℕ) → head_number (head s at m left) ≡ 0 → Accepts (head s at m left)
 head_accepts s at m left e = go (head s at m left) (head_positive s at m left) e
@@ -24,6 +26,10 @@ head_accepts s at m left e = go (head s at m left) (head_positive s at m left) e
     go then_head p e = tt
     go beside_head p e = tt
     go (forall_head B₁ B₂) p e = tt
+
+-- the same end
+pub same_ends : {x y next rest : ℕ} → accepted (ending x y) ≡ accepted (ending next rest) → (x ≡ next) × (y ≡ rest)
+same_ends e = let q = same_value e in (ap (λ (z : FormulaEnd). z.next) q, ap (λ (z : FormulaEnd). z.left) q)
 
 pub refused_end : (s : List ℕ) (at m left n : ℕ) → n ≡ head_number (head s at m left) → (n ≡ 0 → ⊥) → refused n ≡ formula_end (formula_at s at m left)
 unfolding parts
@@ -83,8 +89,8 @@ module _ (s : List ℕ) (at m left : ℕ) (a : Accepts (head s at m left)) where
         go : (r : Read) → accepted (ending x y) ≡ formula_end r → formula_end (formula_at s x m y) ≡ formula_end (two (two_shape i j).0 (λ next rest. formula_at s next m rest) r)
         go (stop k) h = let z : ◌≡◌ {A = ℕ} 0 1 = cc in absurd (omega arith)
         go (read F next rest) h =
-            let u : x ≡ next = cc in
-            let v : y ≡ rest = cc in
+            let u = (same_ends h).0 in
+            let v = (same_ends h).1 in
             ap (λ (k : ℕ). formula_end (formula_at s k m y)) u ∙ ap (λ (k : ℕ). formula_end (formula_at s next m k)) v ∙ sym (one_end ((two_shape i j).0 F) (formula_at s next m rest))
 
     pub second_below : {x y : ℕ} → o ≡ accepted (ending x y) → y < left
@@ -93,4 +99,4 @@ module _ (s : List ℕ) (at m left : ℕ) (a : Accepts (head s at m left)) where
       where
         go : (r : Read) → Advances s (at + 1) m (left - 1) r → accepted (ending x y) ≡ formula_end r → y < left
         go (stop k) w h = let z : ◌≡◌ {A = ℕ} 0 1 = cc in absurd (omega arith)
-        go (read F next rest) w h = let v : y ≡ rest = cc in omega (arith, w.2)
+        go (read F next rest) w h = let v = (same_ends h).1 in omega (arith, w.2)

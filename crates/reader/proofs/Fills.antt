@@ -7,7 +7,8 @@ use native.Mathlib.Omega.{arith}
 use lib.ListN.{length, get_or, set}
 use lib.Seq.{get_or-set_same, get_or-set_other}
 use Rattle.words.specs.Words.{byte}
-use Rattle.refusal.specs.Answer.{refused, accepted}
+use Rattle.std.specs.Prelude.{Result, Ok, Err}
+use Rattle.refusal.specs.Answer.{refused, accepted, answer_of}
 use Rattle.refusal.specs.Numbers.{number_of}
 use Rattle.refusal.specs.declared.Refusal.{Refusal}
 use Rattle.refusal.proofs.Positive.{not_zero}
@@ -18,15 +19,14 @@ use Rattle.rule.proofs.Reading.{require_holds, bound_holds, formula_step}
 use Rattle.rule.proofs.Heads.{Only, Accepts, accepts_tested, accepts_reads}
 use Rattle.nodes.specs.Table.{bound_of, bound_at, Holds}
 use Rattle.nodes.proofs.Nodes.{frame}
-use Rattle.reader.specs.declared.Part.{Part}
-use Rattle.reader.specs.declared.Part.TheVariants.{Refused, Ended}
+use Rattle.reader.specs.declared.FormulaEnd.{FormulaEnd}
 use Rattle.formula_bytes.specs.Checks.{head_number}
 use Rattle.reader.specs.Written.{node_start, head_word, Headed}
-use Rattle.reader.specs.Filled.{ending, formula_end, ended, Placed, Filled}
-use Rattle.reader.proofs.Ends.{refused_end, flag_end, negate_end, forall_end, first_refused, second_end, second_below}
+use Rattle.reader.specs.Filled.{ending, formula_end, Placed, Filled}
+use Rattle.reader.proofs.Ends.{same_ends, refused_end, flag_end, negate_end, forall_end, first_refused, second_end, second_below}
 
 -- a refusal of the head
-pub refused_fill : (s : List ℕ) (at m left : ℕ) (ns : List ℕ) (x : Refusal) → number_of x ≡ head_number (head s at m left) → Filled s at m left ns (Refused x) ns
+pub refused_fill : (s : List ℕ) (at m left : ℕ) (ns : List ℕ) (x : Refusal) → number_of x ≡ head_number (head s at m left) → Filled s at m left ns (Err x) ns
 unfolding parts
 refused_fill s at m left ns x e =
     record {
@@ -85,7 +85,7 @@ module _ (s : List ℕ) (at m left : ℕ) (bounded : left ≤ 64) (a : Accepts (
   step : node_start (left - 1) ≡ node_start left + 12
   step = omega (arith, some)
 
-  pub flag_fill : byte s at ≡ 1 → Filled s at m left n₀ (Ended (at + 3) (left - 1)) n₁
+  pub flag_fill : byte s at ≡ 1 → Filled s at m left n₀ (Ok (ending (at + 3) (left - 1))) n₁
   unfolding after_code parts Holds
   flag_fill e =
       record {
@@ -101,7 +101,7 @@ module _ (s : List ℕ) (at m left : ℕ) (bounded : left ≤ 64) (a : Accepts (
   kept : (n₂ : List ℕ) → ((k : ℕ) → k < node_start (left - 1) → get_or n₂ k 0 ≡ get_or n₁ k 0) → (k : ℕ) → k < node_start left → get_or n₂ k 0 ≡ get_or n₀ k 0
   kept n₂ b k h = b k (omega (arith, step)) ∙ w.below k h
 
-  pub negate_fill : byte s at ≡ 2 → (p : Part) (n₂ : List ℕ) → Filled s (at + 1) m (left - 1) n₁ p n₂ → Filled s at m left n₀ p n₂
+  pub negate_fill : byte s at ≡ 2 → (p : Result FormulaEnd Refusal) (n₂ : List ℕ) → Filled s (at + 1) m (left - 1) n₁ p n₂ → Filled s at m left n₀ p n₂
   unfolding after_code parts one Holds
   negate_fill e p n₂ f =
       record {
@@ -115,7 +115,7 @@ module _ (s : List ℕ) (at m left : ℕ) (bounded : left ≤ 64) (a : Accepts (
       go (read F next rest) p =
           (f.below (node_start left + 0) (omega (arith, step)) ∙ code_word s at (node_start left) n₀ n₁ w ∙ e, subst (λ (j : ℕ). Holds F n₂ m j (node_start rest)) step p)
 
-  pub forall_fill : byte s at ≡ 5 → (p : Part) (n₂ : List ℕ) → Filled s (at + 9) (m + 1) (left - 1) n₁ p n₂ → Filled s at m left n₀ p n₂
+  pub forall_fill : byte s at ≡ 5 → (p : Result FormulaEnd Refusal) (n₂ : List ℕ) → Filled s (at + 9) (m + 1) (left - 1) n₁ p n₂ → Filled s at m left n₀ p n₂
   unfolding after_code parts one Holds bound_at
   forall_fill e p n₂ f =
       record {
@@ -166,31 +166,31 @@ module _ (s : List ℕ) (at m left : ℕ) (bounded : left ≤ 64) (a : Accepts (
       go (inr k) = let e : byte s at ≡ 4 = omega arith in
           record { make = beside; shape = accepts_reads beside_head s at m left (rw e refl) a; makes = λ F G ns z c f g. (c ∙ e, (f, g)) }
 
-  module _ (i : 3 ≤ byte s at) (j : byte s at ≤ 4) (p : Part) (n₂ : List ℕ) (f : Filled s (at + 1) m (left - 1) n₁ p n₂) where
-    pub first_fill : (x : Refusal) → p ≡ Refused x → Filled s at m left n₀ (Refused x) n₂
+  module _ (i : 3 ≤ byte s at) (j : byte s at ≤ 4) (p : Result FormulaEnd Refusal) (n₂ : List ℕ) (f : Filled s (at + 1) m (left - 1) n₁ p n₂) where
+    pub first_fill : (x : Refusal) → p ≡ Err x → Filled s at m left n₀ (Err x) n₂
     unfolding two
     first_fill x e =
         record {
-          answer = first_refused s at m left a i j f.answer (ap ended e);
+          answer = first_refused s at m left a i j f.answer (ap answer_of e);
           below = kept n₂ f.below;
-          placed = subst (Placed n₂ m left) (sym (two_of i j).shape) (go (formula_at s (at + 1) m (left - 1)) (sym (ap ended e) ∙ f.answer));
+          placed = subst (Placed n₂ m left) (sym (two_of i j).shape) (go (formula_at s (at + 1) m (left - 1)) (sym (ap answer_of e) ∙ f.answer));
         }
       where
         go : (q : Read) → refused (number_of x) ≡ formula_end q → Placed n₂ m left (two (two_of i j).make (λ next rest. formula_at s next m rest) q)
         go (stop k) y = tt
         go (read F next rest) y = let z : ◌≡◌ {A = ℕ} 0 1 = cc in absurd (omega arith)
 
-    pub second_left : (x y : ℕ) → p ≡ Ended x y → y < left
-    second_left x y e = second_below s at m left a i j f.answer (ap ended e)
+    pub second_left : (x y : ℕ) → p ≡ Ok (ending x y) → y < left
+    second_left x y e = second_below s at m left a i j f.answer (ap answer_of e)
 
-    pub second_fill : (x y : ℕ) → p ≡ Ended x y → node_start left + 12 ≤ length n₂ → (r : Part) (n₄ : List ℕ)
+    pub second_fill : (x y : ℕ) → p ≡ Ok (ending x y) → node_start left + 12 ≤ length n₂ → (r : Result FormulaEnd Refusal) (n₄ : List ℕ)
         → Filled s x m y (set n₂ (node_start left + 7) (node_start y)) r n₄ → Filled s at m left n₀ r n₄
     unfolding two one
     second_fill x y e room r n₄ g =
         record {
-          answer = g.answer ∙ second_end s at m left a i j f.answer (ap ended e);
+          answer = g.answer ∙ second_end s at m left a i j f.answer (ap answer_of e);
           below = λ k h. early k (omega (arith, less)) (omega arith) (λ q. omega arith) ∙ kept n₂ f.below k h;
-          placed = subst (Placed n₄ m left) (sym (two_of i j).shape) (go (formula_at s (at + 1) m (left - 1)) f.placed (sym (ap ended e) ∙ f.answer));
+          placed = subst (Placed n₄ m left) (sym (two_of i j).shape) (go (formula_at s (at + 1) m (left - 1)) f.placed (sym (ap answer_of e) ∙ f.answer));
         }
       where
         less : y < left
@@ -211,8 +211,8 @@ module _ (s : List ℕ) (at m left : ℕ) (bounded : left ≤ 64) (a : Accepts (
         go : (q : Read) → Placed n₂ m (left - 1) q → accepted (ending x y) ≡ formula_end q → Placed n₄ m left (two (two_of i j).make (λ next rest. formula_at s next m rest) q)
         go (stop k) z h = let z : ◌≡◌ {A = ℕ} 0 1 = cc in absurd (omega arith)
         go (read F next rest) z h =
-            let u : x ≡ next = cc in
-            let v : y ≡ rest = cc in
+            let u = (same_ends h).0 in
+            let v = (same_ends h).1 in
             let first : Holds F n₄ m (node_start left + 12) (node_start y) = frame F n₂ n₄ m (node_start left + 12) (node_start y) (λ k b c. later k c b)
             (subst (λ (k : ℕ). Holds F n₂ m k (node_start y)) step (subst (λ (k : ℕ). Holds F n₂ m (node_start (left - 1)) (node_start k)) (sym v) z)) in
             ho (formula_at s next m rest) F first (subst (λ (k : ℕ). Placed n₄ m k (formula_at s next m rest)) v
