@@ -1,2 +1,1 @@
-mod Quotients
 pub mod Saturation

@@ -1,33 +1,22 @@
-// A rule's cells, counted in 16 bits. Above the limit it does not matter how many there are, so every count stops at 4,097. Each sum and product is
-// tested before it is worked out: no number on the way passes 16 bits. Only `capped` takes a wider number, a range's W, and tests it before it is
-// narrowed.
+// A rule's cells, counted in 16 bits. Above the limit it does not matter how many there are, so every count stops at 4,097. Sums and products saturate: no
+// number on the way passes 16 bits. Only `capped` takes a wider number, a range's W, and caps it before it is narrowed.
 #![tactic(auto)]
-
-mod products;
-mod sums;
 
 ghost use Rattle.std.specs.Prelude.{◌≡◌, leb};
 ghost use Rattle.rule.specs.declared.Size.TheVariants.{Finite};
-ghost use Rattle.cell_count.specs.Counts.{cap, then_cells, beside_cells, range_cells, rule_cells};
-
-use products::product;
-use sums::{larger, sum};
+ghost use Rattle.cell_count.specs.Counts.{cap, sum, product, then_cells, beside_cells, range_cells, rule_cells};
 
 // 01: "Limits: .. cells 4,096."
-pub(crate) const LIMIT: u16 = 4096;
+const LIMIT: u16 = 4096;
 
 // The count of every number above the limit.
-pub const ABOVE_LIMIT: u16 = 4097;
+pub const ABOVE_LIMIT: u16 = LIMIT + 1;
 
 // The count of a number.
 pub fn capped(number: u64) -> u16
     ensures { result ≡ cap (Finite number) }
 {
-    if number <= LIMIT as u64 {
-        number as u16
-    } else {
-        ABOVE_LIMIT
-    }
+    number.min(u64::from(ABOVE_LIMIT)) as u16
 }
 
 // Whether a count is within the limit.
@@ -37,11 +26,25 @@ pub fn within_limit(cells: u16) -> bool
     cells <= LIMIT
 }
 
+// The sum of two counts.
+fn sum(first: u16, second: u16) -> u16
+    ensures { result ≡ sum first second }
+{
+    first.saturating_add(second).min(ABOVE_LIMIT)
+}
+
+// Their product.
+fn product(first: u16, second: u16) -> u16
+    ensures { result ≡ product first second }
+{
+    first.saturating_mul(second).min(ABOVE_LIMIT)
+}
+
 // The cells of "F then G" from its parts'.
 pub fn then_cells(first: u16, second: u16) -> u16
     ensures { result ≡ then_cells first second }
 {
-    sum(1, larger(first, second))
+    sum(1, first.max(second))
 }
 
 // The cells of "F beside G" from its parts'.

@@ -5,24 +5,22 @@
 ghost use Rattle.std.specs.Prelude.{◌≡◌};
 ghost use Rattle.rule.specs.Figures.{larger, N, always_empty};
 
-use outcomes::later;
 use rule::{Limit, Pair, Size};
 use signed::at_least_zero;
 
 // The larger of two sizes: infinite where one is.
+#[tactic(auto, unfolding(rule::specs::Figures::larger))]
 pub fn larger_size(first: Size, second: Size) -> Size
     ensures { result ≡ larger first second }
 {
-    match first {
-        Size::Unbounded => Size::Unbounded,
-        Size::Finite(one) => match second {
-            Size::Unbounded => Size::Unbounded,
-            Size::Finite(other) => Size::Finite(later(one, other)),
-        },
+    match (first, second) {
+        (Size::Finite(one), Size::Finite(other)) => Size::Finite(one.max(other)),
+        _ => Size::Unbounded,
     }
 }
 
 // N(u), a range's own delay.
+#[tactic(auto, unfolding(rule::specs::Figures::N))]
 pub fn range_delay(u: Limit) -> Size
     ensures { result ≡ N u }
 {
@@ -34,18 +32,15 @@ pub fn range_delay(u: Limit) -> Size
 }
 
 // Whether l is infinity, or greater than u: a range whose variable has this pair has no position at any tick.
+#[tactic(auto, unfolding(rule::specs::Figures::always_empty, rule::specs::Figures::none_between))]
 pub fn always_empty(pair: Pair) -> bool
     ensures { result ≡ always_empty pair }
 {
-    let l = pair.lower;
-    let u = pair.upper;
-    match l {
-        Limit::Lowest => false,
-        Limit::At(lower) => match u {
-            Limit::Lowest => true,
-            Limit::At(upper) => upper < lower,
-            Limit::Highest => false,
-        },
-        Limit::Highest => true,
+    match (pair.lower, pair.upper) {
+        (Limit::Lowest, _) => false,
+        (Limit::Highest, _) => true,
+        (Limit::At(_), Limit::Lowest) => true,
+        (Limit::At(lower), Limit::At(upper)) => upper < lower,
+        (Limit::At(_), Limit::Highest) => false,
     }
 }
