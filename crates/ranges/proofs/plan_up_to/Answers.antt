@@ -1,5 +1,4 @@
 -- `ranges::plan_up_to` meets its contract.
---
 use mathlib.Core.Path.{refl, sym}
 use Rattle.ranges.proofs.Planning.{plans_none, plans_same}
 use Rattle.ranges.proofs.plan_up_to.Goals as goal
