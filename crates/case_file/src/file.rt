@@ -1,5 +1,7 @@
 // A file of cases, and what is said of it on standard output. A program's file `stdout` has none of these lines, so a file that is not read whole does
 // not pass.
+ghost use Rattle.io.specs.Counts.{IsPrefixLen};
+ghost use Rattle.std.specs.Prelude.{IfOk, IfSome};
 ghost use Rattle.std.specs.Io.{ReadsAtMost};
 
 use std::io::{ErrorKind, Read};
@@ -29,9 +31,9 @@ fn read_full<F: Read>(file: &mut F, buf: &mut [u8]) -> io::Result<usize>
     Ok(count)
 }
 
-// The bytes of a file at the front of buf, and how many there are. Says so where the file cannot be opened, or is not shorter than buf.
-pub fn load<R: Files + Print>(rt: &R, name: &[u8], buf: &mut [u8]) -> io::Result<usize>
-    ensures { ReadsAtMost result buf.new }
+// The bytes of a file at the front of buf, and how many there are. None where the file cannot be opened, or is not shorter than buf, and it says so.
+pub fn load<R: Files + Print>(rt: &R, name: &[u8], buf: &mut [u8]) -> io::Result<Option<usize>>
+    ensures { IfOk result (λ loaded. IfSome loaded (λ count. IsPrefixLen count buf.new)) }
 {
     let opened = match str::from_utf8(name) {
         Ok(path) => fs::open(rt, path),
@@ -39,14 +41,14 @@ pub fn load<R: Files + Print>(rt: &R, name: &[u8], buf: &mut [u8]) -> io::Result
     };
     let Ok(mut file) = opened else {
         say(rt, b"cannot be opened: ", name)?;
-        return Ok(0);
+        return Ok(None);
     };
     let count = read_full(&mut file, buf)?;
     if count == buf.len() {
         say(rt, b"too long: ", name)?;
-        return Ok(0);
+        return Ok(None);
     }
-    Ok(count)
+    Ok(Some(count))
 }
 
 // Says that a line is no case.

@@ -6,9 +6,11 @@
 mod bytes_of;
 mod fields;
 mod file;
+mod lines;
 mod number;
 
-pub use bytes_of::{Bytes, read_bytes};
-pub use fields::{has_bar, is_case, line_at, name, past_bar, to_bar};
+pub use bytes_of::{Malformed, read_bytes};
+pub use fields::{is_case, split_bar, split_name};
 pub use file::{load, say_malformed};
-pub use number::{Number, number_at};
+pub use lines::{Lines, lines_of};
+pub use number::split_number;

@@ -1,11 +1,9 @@
--- `case_file::read_bytes` is safe and ends.
-use Prim.Native.Nat.{◌-◌, ◌≤◌}
-use mathlib.Core.Path.{◌≡◌}
-use lib.ListN.{length}
+-- `case_file::read_bytes` meets its contract and ends: each turn takes a piece of the text.
+use Rattle.std.proofs.Common.{◌≡◌, ◌≤◌, length}
 use Rattle.case_file.proofs.bytes_of.read_bytes.Given as goal
 
-abbrev pub invariant-loop-at : goal.invariant-loop-at
-invariant-loop-at l = (l.count ≤ length l.out) × (length l.out ≡ length l.initial.out)
+abbrev pub invariant-loop-left : goal.invariant-loop-left
+invariant-loop-left l = (l.count ≤ length l.out) × (length l.out ≡ length l.initial.out)
 
-abbrev pub decreases-loop-at : goal.decreases-loop-at
-decreases-loop-at l = length l.text - l.at
+abbrev pub decreases-loop-left : goal.decreases-loop-left
+decreases-loop-left l = length l.left
