@@ -1,15 +1,15 @@
 -- `admission::admit_step` meets its contract. What comes of a history that is too long is found by the lemma that its attribute names.
-use native.Mathlib.Omega.{arith}
+use Rattle.std.proofs.Common.{arith}
 use Rattle.admission.proofs.Admits.{sized_small, step_no_rule, step_fits}
 use Rattle.admission.proofs.admit_step.Goals as goal
 
-pub fit_state-fit-requires : goal.fit_state-fit-requires
-fit_state-fit-requires c = sized_small _ _ c.prepare-answer.ensures.answer c.in-Sized.is
+pub fit-fit-requires : goal.fit-fit-requires
+fit-fit-requires c = sized_small _ _ c.prepare.ensures.answer c.in-Ok.is
 
-pub returns-in-Refused : goal.returns-in-Refused
-returns-in-Refused c = step_no_rule _ _ _ _ _ _ _ _ (omega arith) c.prepare-answer.ensures c.in-Refused.is
+pub returns-in_default : goal.returns-in_default
+returns-in_default c = step_no_rule _ _ _ _ _ _ _ _ (omega arith) c.prepare.ensures c.in_default.is
 
-pub returns-in-Sized : goal.returns-in-Sized
-returns-in-Sized c =
-    step_fits _ _ _ _ _ _ _ _ (omega arith) c.prepare-answer.ensures _ _ c.in-Sized.is c.fit_state-fit.ensures
+pub returns : goal.returns
+returns c =
+    step_fits _ _ _ _ _ _ _ _ (omega arith) c.prepare.ensures _ _ c.in-Ok.is c.fit-fit.ensures
     c.clear_if_refused.ensures
