@@ -1,1 +1,1 @@
-mod Putting
+mod Others

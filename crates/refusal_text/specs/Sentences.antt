@@ -1,5 +1,5 @@
 -- The sentence of each refusal, for people who read its number.
-use Rattle.std.specs.Prelude.{ℕ, ◌<◌, ◌≡◌, ◌⊎◌, List, [], ◌∷◌, get_or}
+use Rattle.std.specs.Prelude.{ℕ, List, [], ◌∷◌, get_or}
 use Prim.Native.Char.{code}
 use Prim.Native.String.{String, [] as empty, ◌∷◌ as ◌then◌}
 
@@ -47,7 +47,3 @@ sentences =
 -- The sentence of a number; every other number has that of 0.
 unfoldable pub sentence_of : ℕ → List ℕ
 sentence_of number = ascii (get_or sentences number unknown)
-
--- A number is none of 1 to `last`.
-abbrev pub Past : ℕ → ℕ → Type 0
-Past last number = (number ≡ 0) ⊎ (last < number)
