@@ -1,10 +1,11 @@
 -- Laws of a run of nots.
-use Prim.Native.Nat.{ℕ, zero, suc, ◌+◌, ◌≤◌, ◌<◌}
+use Prim.Native.Nat.{ℕ, zero, suc, ◌+◌, ◌-◌, ◌≤◌, ◌<◌}
 use mathlib.Core.Path.{◌≡◌, refl, sym, ap, ◌∙◌, subst}
 use mathlib.Core.Bool.{Bool, not}
 use mathlib.Core.List.{List}
 use native.Mathlib.Omega.{arith}
 use native.Mathlib.Decide.{ℕ_discrete}
+use native.Mathlib.Numerals.{unary_clauses}
 use lib.ListN.{get_or}
 use borrow.Author.Tests.{eq-eqb, ne_eqb}
 use Rattle.nodes.specs.declared.operand.Operand.{Operand}
@@ -23,6 +24,20 @@ module _ (ns : List ℕ) where
   pub at_end : (i : ℕ) (odd : Bool) → past_nots zero ns i odd ≡ record { left = zero; node = i; odd = odd }
   unfolding past_nots
   at_end i odd = refl
+
+  -- The same of formulas left as the code counts them: a not is passed; under the nots, and with none left, the run ends.
+  pub one_passed : (left i : ℕ) (odd : Bool) → 0 < left → get_or ns (i + 0) 0 ≡ 2 → past_nots left ns i odd ≡ past_nots (left - 1) ns (i + 12) (not odd)
+  one_passed zero i odd h c = absurd (omega arith)
+  one_passed (suc left) i odd h c = simp unary_clauses (at_not left i odd c)
+
+  pub run_over : (u : Operand) → (get_or ns (u.node + 0) 0 ≡ 2 → ⊥) → past_nots u.left ns u.node u.odd ≡ u
+  run_over u c = elim u.left as (λ (n : ℕ). past_nots n ns u.node u.odd ≡ record { left = n; node = u.node; odd = u.odd }) [
+    | zero ↦ at_end u.node u.odd
+    | suc n ↦ at_other n u.node u.odd c
+  ]
+
+  pub none_left : (u : Operand) → u.left ≡ 0 → past_nots u.left ns u.node u.odd ≡ u
+  none_left u e = rw e (at_end u.node u.odd)
 
   -- What one not passes on upward, a run of nots passes on: from the formula u under it to the one at word i.
   pub over_nots : (P : Bool → ℕ → ℕ → Type 0) → ((odd : Bool) (left i : ℕ) → get_or ns (i + 0) 0 ≡ 2 → P (not odd) left (i + 12) → P odd (suc left) i)

@@ -2,7 +2,7 @@
 ghost use Rattle.std.specs.Prelude.{◌≡◌, false};
 ghost use Rattle.nodes.specs.Nots.{past_nots};
 
-use crate::{CODE, NODE_WORDS, NOT_CODE, node_word};
+use crate::{Code, NODE_WORDS, code_at};
 
 // The formula under a run of nots: its word, the formulas left there, and whether the nots are odd in number.
 #[derive(Clone, Copy)]
@@ -16,24 +16,17 @@ pub struct Operand {
 pub fn skip_nots(nodes: &[u32], left: usize, node: usize) -> Operand
     ensures { result ≡ past_nots left nodes.now node false }
 {
-    let mut remaining = left;
-    let mut at = node;
-    let mut odd = false;
-    while 0 < remaining {
-        if node_word(nodes, at, CODE) != NOT_CODE {
-            return Operand {
-                left: remaining,
-                node: at,
-                odd,
-            };
-        }
-        remaining -= 1;
-        at += NODE_WORDS;
-        odd = !odd;
+    let mut under = Operand {
+        left,
+        node,
+        odd: false,
+    };
+    while 0 < under.left && matches!(code_at(nodes, under.node), Code::Not) {
+        under = Operand {
+            left: under.left - 1,
+            node: under.node + NODE_WORDS,
+            odd: !under.odd,
+        };
     }
-    Operand {
-        left: remaining,
-        node: at,
-        odd,
-    }
+    under
 }

@@ -1,28 +1,26 @@
 -- `nodes::operand::skip_nots` meets its contract: what is left to skip is skipped to the same formula.
-use Prim.Native.Nat.{ℕ, suc, ◌-◌}
-use mathlib.Core.Path.{◌≡◌, sym, ap, ◌∙◌}
+use mathlib.Core.Path.{◌≡◌, sym, ◌∙◌}
+use mathlib.Core.Bool.{true≢false}
 use native.Mathlib.Omega.{arith}
-use Rattle.nodes.specs.Nots.{past_nots}
-use Rattle.nodes.proofs.Nots.{at_not, at_other, at_end}
+use Rattle.nodes.proofs.OneCode.{not_2}
+use Rattle.nodes.proofs.Nots.{one_passed, run_over, none_left}
 use Rattle.nodes.proofs.operand.skip_nots.Goals as goal
+use Rattle.nodes.proofs.operand.skip_nots.Goals.{in-Not, in_default}
 
-pub returns-then-node_word-ne-NOT_CODE : goal.returns-then-node_word-ne-NOT_CODE
-returns-then-node_word-ne-NOT_CODE c =
-    let nodes = c.args.nodes.now in
-    let at-loop = c.loop-remaining in
-    let more : at-loop.remaining ≡ suc (at-loop.remaining - 1) = omega (arith, c.loop-remaining-test.true) in
-    sym (at-loop.invariant ∙ rw more (at_other nodes (at-loop.remaining - 1) at-loop.at at-loop.odd (λ h. c.if-node_word-ne-NOT_CODE.true (c.node_word.ensures ∙ h))))
+pub loop-under-preserved : goal.loop-under-preserved
+loop-under-preserved c =
+    let u = c.loop-under.under in
+    elim c.match-matches.branch [
+      | in-Not w ↦ c.loop-under.invariant ∙ one_passed c.args.nodes.now u.left u.node u.odd (omega arith) w.in-Not.ensures
+      | in_default w ↦ absurd (true≢false (sym c.if-matches.true ∙ w.matches-is))
+    ]
 
-pub loop-remaining-preserved : goal.loop-remaining-preserved
-loop-remaining-preserved c =
-    let nodes = c.args.nodes.now in
-    let at-loop = c.loop-remaining in
-    let more : at-loop.remaining ≡ suc (at-loop.remaining - 1) = omega (arith, c.loop-remaining-test.true) in
-    at-loop.invariant ∙ ap (λ (n : ℕ). past_nots n nodes at-loop.at at-loop.odd) more
-    ∙ at_not nodes (at-loop.remaining - 1) at-loop.at at-loop.odd (sym c.node_word.ensures ∙ c.if-node_word-ne-NOT_CODE.false)
+pub returns-else-matches : goal.returns-else-matches
+returns-else-matches c =
+    elim c.match-matches.branch [
+      | in-Not w ↦ absurd (true≢false (sym w.matches-is ∙ c.if-matches.false))
+      | in_default w ↦ sym (c.loop-under.invariant ∙ run_over c.args.nodes.now c.loop-under.under (not_2 _ _ c.code_at.ensures w.in_default.not-Not))
+    ]
 
-pub returns : goal.returns
-returns c =
-    let at-loop = c.loop-remaining in
-    let none : at-loop.remaining ≡ 0 = omega (arith, c.loop-remaining-test.false) in
-    sym (at-loop.invariant ∙ rw none (at_end c.args.nodes.now at-loop.at at-loop.odd))
+pub returns-after-loop-under : goal.returns-after-loop-under
+returns-after-loop-under c = sym (c.loop-under.invariant ∙ none_left c.args.nodes.now c.loop-under.under (omega arith))

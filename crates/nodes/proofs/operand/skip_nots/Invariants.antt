@@ -4,8 +4,8 @@ use mathlib.Core.Bool.{false}
 use Rattle.nodes.specs.Nots.{past_nots}
 use Rattle.nodes.proofs.operand.skip_nots.Given as goal
 
-abbrev pub invariant-loop-remaining : goal.invariant-loop-remaining
-invariant-loop-remaining l = past_nots l.left l.nodes l.node false ≡ past_nots l.remaining l.nodes l.at l.odd
+abbrev pub invariant-loop-under : goal.invariant-loop-under
+invariant-loop-under l = past_nots l.left l.nodes l.node false ≡ past_nots l.under.left l.nodes l.under.node l.under.odd
 
-abbrev pub decreases-loop-remaining : goal.decreases-loop-remaining
-decreases-loop-remaining l = l.remaining
+abbrev pub decreases-loop-under : goal.decreases-loop-under
+decreases-loop-under l = l.under.left
