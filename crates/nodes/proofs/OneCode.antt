@@ -1,6 +1,6 @@
 -- A word stands for one code only.
 use Prim.Native.Nat.{ℕ}
-use mathlib.Core.Path.{◌≡◌, refl, sym, ◌∙◌}
+use mathlib.Core.Path.{◌≡◌, refl}
 use native.Mathlib.Omega.{arith}
 use Rattle.nodes.specs.declared.codes.Code.{Code}
 use Rattle.nodes.specs.declared.codes.Code.TheVariants.{Flag, Not, Then, Beside, ForAll}

@@ -1,5 +1,5 @@
 -- `nodes::operand::skip_nots` meets its contract: what is left to skip is skipped to the same formula.
-use mathlib.Core.Path.{◌≡◌, sym, ◌∙◌}
+use mathlib.Core.Path.{sym, ◌∙◌}
 use mathlib.Core.Bool.{true≢false}
 use native.Mathlib.Omega.{arith}
 use Rattle.nodes.proofs.OneCode.{not_2}
