@@ -1,5 +1,5 @@
-// A rule's cells, counted in 16 bits. Above the limit it does not matter how many there are, so every count stops at 4,097. Sums and products saturate: no
-// number on the way passes 16 bits. Only `capped` takes a wider number, a range's W, and caps it before it is narrowed.
+// A rule's cells, counted in 16 bits. Above the limit it does not matter how many there are, so every count stops at 4,097. Sums saturate, and a product is
+// tested before it is worked out: no number on the way passes 16 bits. Only `capped` takes a wider number, a range's W, and caps it before it is narrowed.
 #![tactic(auto)]
 
 ghost use Rattle.std.specs.Prelude.{◌≡◌, leb};
@@ -33,11 +33,20 @@ fn sum(first: u16, second: u16) -> u16
     first.saturating_add(second).min(ABOVE_LIMIT)
 }
 
-// Their product.
+// Their product. Whether `first` is 0 is tested before all else: the product is 0 whatever `second` is. Then whether it is within the limit; only then it is
+// worked out.
+// Kept: `saturating_mul` is shorter, but document 02, point 3, asks for 16 bits with the test before the multiplication (edit `test_after_the_product`).
+#[tactic(auto, using(crate::proofs::Quotients::none_is, crate::proofs::Quotients::above_is, crate::proofs::Quotients::within_is, crate::proofs::Quotients::within_fits))]
 fn product(first: u16, second: u16) -> u16
     ensures { result ≡ product first second }
 {
-    first.saturating_mul(second).min(ABOVE_LIMIT)
+    if first == 0 {
+        return 0;
+    }
+    if LIMIT / first < second {
+        return ABOVE_LIMIT;
+    }
+    first * second
 }
 
 // The cells of "F then G" from its parts'.
