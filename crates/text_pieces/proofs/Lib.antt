@@ -1,4 +1,3 @@
 pub mod Scanning
 pub mod Finding
-mod Parsing
-mod Starting
+pub mod Parsing

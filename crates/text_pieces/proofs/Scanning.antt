@@ -4,12 +4,20 @@ use mathlib.Core.Path.{◌≡◌, refl, ap, sym, ◌∙◌}
 use mathlib.Core.Bool.{Bool, true, false, cond, ◌&&◌}
 use mathlib.Core.List.{List, [], ◌∷◌, ◌++◌}
 use native.Mathlib.Omega.{arith}
+use native.Mathlib.Numerals.{add-one}
 use lib.Dec.{eqb}
-use lib.ListN.{length, drop, get_or, drop_of_length-le, length-drop, length-append}
+use lib.ListN.{length, take, drop, get_or, drop_of_length-le, length-drop, length-append}
 use lib.Seq.{drop-cons, drop_at, drop-drop}
 use borrow.Author.Tests.{ne_eqb, eq-eqb}
 use Rattle.notation.specs.Notation.{letter, digit, all, same}
-use Rattle.notation.specs.Reading.{none, got, starts, run, past, one_digit}
+use Rattle.notation.specs.Reading.{starts, run, past, one_digit}
+use Rattle.std.specs.Prelude.{None, nat_eq, slice_range}
+use Rattle.std.specs.Bool.{then_some}
+use Rattle.std.specs.List.{prefix_len, starts_with}
+use Rattle.std.proofs.lemmas.List.{take_all}
+use Rattle.std.proofs.lemmas.List.Folds.{length-prefix_len}
+use Rattle.std.proofs.lemmas.Bool.{eqb-true, eqb-false}
+use Rattle.text_pieces.specs.Spots.{Found}
 use Rattle.notation.proofs.Spelling.{run_past}
 
 module _ (p : ℕ → Bool) (s : List ℕ) (i : ℕ) where
@@ -36,35 +44,44 @@ module _ (p : ℕ → Bool) (s : List ℕ) (i : ℕ) where
       ∙ drop-drop (length (run p (drop i s))) i s
       ∙ ap (λ (n : ℕ). drop n s) (sym h)
 
+-- How long a run is, as the chain of iterators counts it.
+pub run_counts : (p : ℕ → Bool) (s : List ℕ) → length (take (prefix_len p s) s) ≡ length (run p s)
+unfolding run
+run_counts p s = length-prefix_len p s ∙ counted s
+  where
+    counted : (s : List ℕ) → prefix_len p s ≡ length (run p s)
+    counted [] = refl
+    counted (c ∷ s) = go (p c) (counted s)
+      where
+        go : (b : Bool) → prefix_len p s ≡ length (run p s) → cond b (1 + prefix_len p s) 0 ≡ length (cond b (c ∷ run p s) [])
+        go true e = omega arith
+        go false e = refl
+
 -- ---- words
 
-pub starts_short : (w s : List ℕ) → length s < length w → starts w s ≡ false
-unfolding starts
-starts_short [] s h = absurd (omega arith)
-starts_short (w ∷ ws) [] h = refl
-starts_short (w ∷ ws) (c ∷ s) h = go (eqb c w) (starts_short ws s (omega arith))
+-- A test of two numbers is one of them the other way round.
+same_way : (a b : ℕ) → eqb a b ≡ eqb b a
+same_way a b = go (eqb a b) refl
   where
-    go : (b : Bool) → starts ws s ≡ false → (b && starts ws s) ≡ false
-    go true e = e
-    go false e = refl
+    go : (t : Bool) → eqb a b ≡ t → eqb a b ≡ eqb b a
+    go true e = e ∙ sym (eq-eqb b a (sym (eqb-true a b e)))
+    go false e = e ∙ sym (ne_eqb b a (λ q. eqb-false a b e (sym q)))
 
-module _ (w s : List ℕ) (k i : ℕ) (h : k < length w) (j : i < length s) where
-  pub starts_on : get_or s i 0 ≡ get_or w k 0 → starts (drop k w) (drop i s) ≡ starts (drop (suc k) w) (drop (suc i) s)
-  unfolding starts
-  starts_on e = rw (drop-cons w k 0 h, drop-cons s i 0 j, eq-eqb (get_or s i 0) (get_or w k 0) e)
+starts_with_of : (w s : List ℕ) → starts_with nat_eq s w ≡ starts w s
+unfolding starts
+starts_with_of [] s = refl
+starts_with_of (w ∷ ws) [] = refl
+starts_with_of (w ∷ ws) (c ∷ s) = ap (λ (b : Bool). nat_eq w c && b) (starts_with_of ws s) ∙ ap (λ (b : Bool). b && starts ws s) (same_way w c)
 
-  pub starts_off : (get_or s i 0 ≡ get_or w k 0 → ⊥) → starts (drop k w) (drop i s) ≡ false
-  unfolding starts
-  starts_off e = rw (drop-cons w k 0 h, drop-cons s i 0 j, ne_eqb (get_or s i 0) (get_or w k 0) e)
+pub starts_rest : (w s t : List ℕ) (i : ℕ) (b : Bool) → t ≡ slice_range s i (length s) → b ≡ starts_with nat_eq t w → b ≡ starts w (drop i s)
+starts_rest w s t i b e f =
+    let m : t ≡ drop i s = e ∙ take_all (length s - i) (drop i s) (omega (arith, length-drop i s)) in
+    f ∙ starts_with_of w t ∙ ap (starts w) m
 
 pub starts_past : (w s : List ℕ) (i : ℕ) → length s ≤ i → starts w (drop i s) ≡ eqb (length w) 0
 unfolding starts
 starts_past [] s i h = refl
 starts_past (w ∷ ws) s i h = rw (drop_of_length-le s {i = i} h, ne_eqb (suc (length ws)) 0 (λ e. omega (arith, e)))
-
-pub starts_all : (w s : List ℕ) (k : ℕ) → length w ≤ k → starts (drop k w) s ≡ true
-unfolding starts
-starts_all w s k h = rw (drop_of_length-le w {i = k} h)
 
 -- A run of letters is a word where it is as long and the text starts with the word.
 pub same_word : (x t w : List ℕ) → length x ≡ length w → starts w (x ++ t) ≡ same x w
@@ -97,17 +114,14 @@ run_all p (c ∷ s) = go (p c) refl (run_all p s)
 -- ---- a digit
 
 module _ (s : List ℕ) (i : ℕ) where
-  pub digit_none : length s ≤ i → one_digit (drop i s) ≡ none
+  pub digit_none : length s ≤ i → Found s None (one_digit (drop i s))
   unfolding one_digit
-  digit_none h = rw (drop_of_length-le s {i = i} h)
+  digit_none h = rw (drop_of_length-le s {i = i} h) tt
 
-  pub digit_off : i < length s → digit (get_or s i 0) ≡ false → one_digit (drop i s) ≡ none
+  pub digit_found : (b : Bool) → i < length s → b ≡ digit (get_or s i 0) → Found s (then_some b (i + 1)) (one_digit (drop i s))
   unfolding one_digit
-  digit_off h e = rw (drop-cons s i 0 h, e)
-
-  pub digit_on : i < length s → digit (get_or s i 0) ≡ true → one_digit (drop i s) ≡ got (get_or s i 0) (drop (suc i) s)
-  unfolding one_digit
-  digit_on h e = rw (drop-cons s i 0 h, e)
+  digit_found true h e = rw (drop-cons s i 0 h, sym e, add-one) (omega arith, omega arith, refl)
+  digit_found false h e = rw (drop-cons s i 0 h, sym e) tt
 
 pub word_run : (s w : List ℕ) → length (run letter s) ≡ length w → starts w s ≡ same (run letter s) w
 word_run s w e = ap (starts w) (run_past letter s) ∙ same_word (run letter s) (past letter s) w e

@@ -5,96 +5,62 @@ ghost use Rattle.text_pieces.specs.Spots.{Found, Pieced};
 
 use crate::bounds::bound_end;
 use crate::names::name_end;
-use crate::scan::{digit_end, starts_at};
+use crate::scan::{digit_end, word_end};
 
 // How a formula starts, and the position after that.
-#[derive(Clone, Copy)]
+#[derive(Clone, Copy, Debug, PartialEq, Eq)]
 pub enum Piece {
-    Wrong,
     Flag(usize),
     Negate(usize),
     Open(usize),
     Forall(usize),
 }
 
-// The position after a name, a point and a digit; 0 where they are not there.
-fn flag_end(text: &[u8], at: usize) -> usize
+// The position after a name, a point and a digit, if they are there.
+#[tactic(auto, using(crate::proofs::Parsing::flag_1, crate::proofs::Parsing::flag_2, crate::proofs::Parsing::flag_3))]
+fn flag_end(text: &[u8], at: usize) -> Option<usize>
     ensures { Found text.now result (read_flag (drop at text.now)) }
 {
-    let after_name = name_end(text, at);
-    if after_name == 0 {
-        return 0;
-    }
-    if !starts_at(text, after_name, b".") {
-        return 0;
-    }
-    digit_end(text, after_name + 1)
+    let after_name = name_end(text, at)?;
+    let digit = word_end(text, after_name, b".")?;
+    digit_end(text, digit)
 }
 
-// The position after what stands between "forall " and its formula; 0 where it is not there.
-fn forall_end(text: &[u8], at: usize) -> usize
+// The position after what stands between "forall " and its formula, if it is there.
+#[tactic(auto, using(crate::proofs::Parsing::forall_1, crate::proofs::Parsing::forall_2, crate::proofs::Parsing::forall_3, crate::proofs::Parsing::forall_4, crate::proofs::Parsing::forall_5, crate::proofs::Parsing::forall_6))]
+fn forall_end(text: &[u8], at: usize) -> Option<usize>
     ensures { Found text.now result (read_forall (drop at text.now)) }
 {
-    let after_name = name_end(text, at);
-    if after_name == 0 {
-        return 0;
-    }
-    if !starts_at(text, after_name, b" in ") {
-        return 0;
-    }
-    let after_first = bound_end(text, after_name + 4);
-    if after_first == 0 {
-        return 0;
-    }
-    if !starts_at(text, after_first, b"..") {
-        return 0;
-    }
-    let after_second = bound_end(text, after_first + 2);
-    if after_second == 0 {
-        return 0;
-    }
-    if !starts_at(text, after_second, b" : ") {
-        return 0;
-    }
-    after_second + 3
+    let after_name = name_end(text, at)?;
+    let first = word_end(text, after_name, b" in ")?;
+    let after_first = bound_end(text, first)?;
+    let second = word_end(text, after_first, b"..")?;
+    let after_second = bound_end(text, second)?;
+    word_end(text, after_second, b" : ")
 }
 
-// The start of a formula at a position.
-pub fn piece_at(text: &[u8], at: usize) -> Piece
+// The start of a formula at a position, if there is one.
+#[tactic(auto, using(crate::proofs::Parsing::piece_1, crate::proofs::Parsing::piece_2, crate::proofs::Parsing::piece_3, crate::proofs::Parsing::piece_4, crate::proofs::Parsing::piece_5, crate::proofs::Parsing::piece_6, crate::proofs::Parsing::piece_7))]
+pub fn piece_at(text: &[u8], at: usize) -> Option<Piece>
     ensures { Pieced text.now at result (read_token (drop at text.now)) }
 {
-    if starts_at(text, at, b"@") {
-        let end = flag_end(text, at + 1);
-        if end == 0 {
-            return Piece::Wrong;
-        }
-        return Piece::Flag(end);
+    if let Some(name) = word_end(text, at, b"@") {
+        return Some(Piece::Flag(flag_end(text, name)?));
     }
-    if starts_at(text, at, b"~") {
-        return Piece::Negate(at + 1);
+    if let Some(part) = word_end(text, at, b"~") {
+        return Some(Piece::Negate(part));
     }
-    if starts_at(text, at, b"(") {
-        return Piece::Open(at + 1);
+    if let Some(part) = word_end(text, at, b"(") {
+        return Some(Piece::Open(part));
     }
-    if !starts_at(text, at, b"forall ") {
-        return Piece::Wrong;
-    }
-    let end = forall_end(text, at + 7);
-    if end == 0 {
-        return Piece::Wrong;
-    }
-    Piece::Forall(end)
+    let name = word_end(text, at, b"forall ")?;
+    Some(Piece::Forall(forall_end(text, name)?))
 }
 
-// The position after a connective; 0 where there is none.
-pub fn joint_end(text: &[u8], at: usize) -> usize
+// The position after a connective, if there is one.
+#[tactic(auto, using(crate::proofs::Parsing::joint_found))]
+pub fn joint_end(text: &[u8], at: usize) -> Option<usize>
     ensures { Found text.now result (joint (drop at text.now)) }
 {
-    if starts_at(text, at, b" && ") {
-        return at + 4;
-    }
-    if starts_at(text, at, b" /\\ ") {
-        return at + 4;
-    }
-    0
+    word_end(text, at, b" && ").or(word_end(text, at, b" /\\ "))
 }

@@ -1,64 +1,65 @@
 // Runs of bytes and fixed words in a text.
-ghost use Rattle.std.specs.Prelude.{◌≡◌, ◌+◌, length, drop};
+ghost use Rattle.std.specs.Prelude.{◌≡◌, ◌+◌, ◌≤◌, length, drop};
+ghost use Rattle.std.specs.List.{take_while};
 ghost use Rattle.notation.specs.Notation.{between};
 ghost use Rattle.notation.specs.Reading.{starts, run, one_digit};
-ghost use Rattle.text_pieces.specs.Spots.{Found};
+ghost use Rattle.text_pieces.specs.Spots.{Found, word_read};
 
 // A byte from lo to hi.
+#[tactic(auto, unfolding(notation::specs::Notation::between))]
 pub fn is_between(lo: u8, hi: u8, byte: u8) -> bool
     ensures { result ≡ between lo hi byte }
 {
-    if byte < lo {
-        return false;
-    }
-    byte <= hi
+    (lo..=hi).contains(&byte)
+}
+
+// How many bytes from lo to hi stand one after another at a position.
+fn run_length(text: &[u8], at: usize, lo: u8, hi: u8) -> usize
+    ensures { result ≡ length (take_while (between lo hi) (drop at text.now)) }
+{
+    text.iter()
+        .skip(at)
+        .take_while(|byte| is_between(lo, hi, **byte))
+        .count()
 }
 
 // The position after the longest run of bytes from lo to hi.
+#[tactic(auto, using(crate::proofs::Scanning::run_counts))]
 pub fn run_end(text: &[u8], at: usize, lo: u8, hi: u8) -> usize
     ensures { result ≡ at + length (run (between lo hi) (drop at text.now)) }
 {
-    let mut index = at;
-    while index < text.len() {
-        let byte = text[index];
-        if !is_between(lo, hi, byte) {
-            return index;
-        }
-        index += 1;
-    }
-    index
+    at + run_length(text, at, lo, hi)
 }
 
 // The text at a position starts with a word.
+#[tactic(auto, using(crate::proofs::Scanning::starts_rest, crate::proofs::Scanning::starts_past))]
 pub fn starts_at(text: &[u8], at: usize, word: &[u8]) -> bool
     ensures { result ≡ starts word.now (drop at text.now) }
 {
-    if text.len() < at {
-        return word.len() == 0;
+    match text.get(at..) {
+        Some(rest) => rest.starts_with(word),
+        None => word.is_empty(),
     }
-    if text.len() - at < word.len() {
-        return false;
-    }
-    let mut index: usize = 0;
-    while index < word.len() {
-        if text[at + index] != word[index] {
-            return false;
-        }
-        index += 1;
-    }
-    true
 }
 
-// The position after a digit; 0 where there is none.
-pub(crate) fn digit_end(text: &[u8], at: usize) -> usize
+// The position after a word, where it stands at a position.
+#[tactic(auto, using(crate::proofs::Finding::word_there, crate::proofs::Finding::word_none, crate::proofs::Finding::word_fits))]
+pub(crate) fn word_end(text: &[u8], at: usize, word: &[u8]) -> Option<usize>
+    requires { 1 ≤ length word.now }
+    ensures { Found text.now result (word_read word.now (drop at text.now)) }
+{
+    if starts_at(text, at, word) {
+        Some(at + word.len())
+    } else {
+        None
+    }
+}
+
+// The position after a digit, if there is one.
+#[tactic(auto, using(crate::proofs::Scanning::digit_none, crate::proofs::Scanning::digit_found))]
+pub(crate) fn digit_end(text: &[u8], at: usize) -> Option<usize>
     ensures { Found text.now result (one_digit (drop at text.now)) }
 {
-    if text.len() <= at {
-        return 0;
-    }
-    let byte = text[at];
-    if !is_between(b'0', b'9', byte) {
-        return 0;
-    }
-    at + 1
+    let byte = *text.get(at)?;
+    is_between(b'0', b'9', byte).then_some(at + 1)
 }
