@@ -10,10 +10,8 @@ use Rattle.refusal.proofs.Answers.{not_accepted, same_value, both_accepted}
 use Rattle.sheet.specs.Sheet.{body_offset, extent}
 use Rattle.rule.specs.declared.Figures.{Figures}
 use Rattle.rule.specs.Figures.{body_figures}
-use Rattle.figure_limits.specs.declared.FigureAnswer.TheVariants.{Sized}
 use Rattle.demand.specs.SetContract.{all_cells, all_delays, largest, bodies_from, all_figures}
-use Rattle.admission.specs.Admitted.{FiguresWithin}
-use Rattle.admission.proofs.Admits.{sized_small}
+use Rattle.admission.proofs.Admits.{small}
 use Rattle.set_admission.specs.declared.sheet_figures.SetFigures.{SetFigures}
 use Rattle.set_admission.specs.Together.{sums_of, summed, with_figures, SmallSums}
 
@@ -79,10 +77,15 @@ summed_next s i =
     let e : bodies_from (suc i) s 0 ≡ bodies_from i s 0 ++ (entry_body s i ∷ []) = rw z at (bodies_next i s 0) in
     rw (q, e, all_figures_next (bodies_from i s 0) (entry_body s i)) (summed_added (all_figures (bodies_from i s 0)) (body_figures (entry_body s i)))
 
--- ---- how large they are
+-- A refusal among the first bodies is the answer of all.
+pub refused_before : (s : List ℕ) (i d n : ℕ) → summed (all_figures (bodies_from i s 0)) ≡ refused n → summed (all_figures (bodies_from (i + d) s 0)) ≡ refused n
+unfolding and_then
+refused_before s i zero n e = rw (add-zero i) e
+refused_before s i (suc d) n e =
+    let q : i + suc d ≡ (i + d) + 1 = omega arith in
+    rw (q, summed_next s (i + d), refused_before s i d n e) refl
 
-pub within : (b : List ℕ) (f : Figures) → body_figures b ≡ accepted f → FiguresWithin f
-within b f e = sized_small b (Sized f) (sym e) refl
+-- ---- how large they are
 
 pub record Small (n : ℕ) (fs : List Figures) : Type 0 where
   pub as_many : length fs ≡ n
@@ -95,7 +98,7 @@ all_small [] fs e = rw (← same_value e) (record { as_many = refl; some_cells =
 all_small (b ∷ bs) fs e =
     let x = both_accepted (body_figures b) (λ (f : Figures). and_then (all_figures bs) (λ rest. accepted (f ∷ rest))) fs e in
     let y = both_accepted (all_figures bs) (λ (rest : List Figures). accepted (x.0 ∷ rest)) fs x.2 in
-    let w = within b x.0 x.1 in
+    let w = small b x.0 x.1 in
     let m = all_small bs y.0 y.1 in
     rw (← same_value y.2)
     (record {

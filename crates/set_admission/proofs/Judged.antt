@@ -1,23 +1,24 @@
 -- What the figures of a sheet's rules and an opening of them answer, by what their parts answered.
-use Prim.Native.Nat.{ℕ, ◌+◌, ◌*◌, ◌≤◌, ◌<◌}
+use Prim.Native.Nat.{ℕ, ◌+◌, ◌-◌, ◌≤◌, ◌<◌}
+use native.Mathlib.Omega.{arith}
 use mathlib.Core.Path.{◌≡◌, refl, sym, ap, ◌∙◌}
 use mathlib.Core.Bool.{Bool, true, false}
 use mathlib.Core.List.{List}
 use lib.Dec.{leb}
 use lib.ListN.{length}
-use borrow.Author.Tests.{le-leb, lt-leb}
 use Rattle.refusal.specs.Answer.{Answer, refused, accepted, and_then}
 use Rattle.refusal.proofs.Answers.{both_accepted}
 use Rattle.sheet.specs.Sheet.{rule_count, rule_body}
 use Rattle.rule.specs.declared.Figures.{Figures}
 use Rattle.rule.specs.Figures.{body_figures}
 use Rattle.demand.specs.Contract.{must}
-use Rattle.demand.specs.SetContract.{all_cells, largest, bodies_from, sheet_bodies, all_figures, set_figures, set_room, admit_set_lengths}
+use Rattle.demand.specs.SetContract.{all_cells, bodies_from, sheet_bodies, all_figures, set_figures, set_room, admit_set_lengths}
 use Rattle.demand.proofs.SetRules.{bodies_length, figures_told}
 use Rattle.admission.specs.Admitted.{FiguresWithin}
+use Rattle.admission.proofs.Admits.{small}
 use Rattle.set_admission.specs.declared.sheet_figures.SetFigures.{SetFigures}
 use Rattle.set_admission.specs.Together.{sums_of, summed, few_cells, with_figures, SmallSums, Laid}
-use Rattle.set_admission.proofs.Added.{summed_next, within, all_small, small_sums, summed_accepted}
+use Rattle.set_admission.proofs.Added.{summed_next, refused_before, all_small, small_sums, summed_accepted}
 use Rattle.set_admission.proofs.Laying.{LaidOut, laid_told, entry_is}
 
 -- ---- the rules one after another
@@ -26,19 +27,29 @@ module _ (s : List ℕ) (i : ℕ) where
   pub rule_small : (b : Answer Figures) → b ≡ and_then (rule_body s i) body_figures → (f : Figures) → b ≡ accepted f → FiguresWithin f
   rule_small b e f h =
       let x = both_accepted (rule_body s i) body_figures f (sym e ∙ h) in
-      within x.0 f x.2
+      small x.0 f x.2
 
-  module _ (a : Answer SetFigures) (sofar : a ≡ summed (all_figures (bodies_from i s 0))) where
-    pub sums_small : i ≤ 32 → (sums : SetFigures) → a ≡ accepted sums → SmallSums sums
-    sums_small low sums e =
+  module _ (sums : SetFigures) (sofar : accepted sums ≡ summed (all_figures (bodies_from i s 0))) where
+    pub sums_small : i ≤ 32 → SmallSums sums
+    sums_small low =
         let bodies = bodies_from i s 0 in
-        let x = summed_accepted (all_figures bodies) (sym e ∙ sofar) in
+        let x = summed_accepted (all_figures bodies) sofar in
         rw x.2 (small_sums (length bodies) x.0 (all_small bodies x.0 x.1) (rw (bodies_length i s 0) low))
 
-    pub one_rule_more : LaidOut s → i < rule_count s → (b : Answer Figures) (r : Answer SetFigures) → b ≡ and_then (rule_body s i) body_figures
-        → r ≡ and_then a (λ sums. and_then b (λ f. accepted (with_figures sums f))) → r ≡ summed (all_figures (bodies_from (i + 1) s 0))
-    unfolding and_then
-    one_rule_more l h b r e g = g ∙ rw (sofar, e, entry_is s l i h, summed_next s i) refl
+    module _ (l : LaidOut s) (h : i < rule_count s) (b : Answer Figures) (here : b ≡ and_then (rule_body s i) body_figures) where
+      one_more : summed (all_figures (bodies_from (i + 1) s 0)) ≡ and_then b (λ f. accepted (with_figures sums f))
+      unfolding and_then
+      one_more = summed_next s i ∙ rw (← sofar, here, entry_is s l i h) refl
+
+      pub one_rule_more : (f : Figures) → b ≡ accepted f → (sums' : SetFigures) → sums' ≡ with_figures sums f → accepted sums' ≡ summed (all_figures (bodies_from (i + 1) s 0))
+      unfolding and_then
+      one_rule_more f b_is sums' e = sym (one_more ∙ rw (b_is, e) refl)
+
+      pub rule_refused : (n : ℕ) → b ≡ refused n → refused n ≡ summed (all_figures (bodies_from (rule_count s) s 0))
+      unfolding and_then
+      rule_refused n b_is =
+          let q : (i + 1) + (rule_count s - (i + 1)) ≡ rule_count s = omega arith in
+          sym (rw q at (refused_before s (i + 1) (rule_count s - (i + 1)) n (one_more ∙ rw b_is refl)))
 
 -- ---- the figures of all rules
 
@@ -63,6 +74,10 @@ module _ (s : List ℕ) where
   pub figures_of : (r : Answer SetFigures) → Laid s → r ≡ and_then (summed (all_figures (bodies_from (rule_count s) s 0))) few_cells → r ≡ summed (set_figures s)
   unfolding set_figures and_then
   figures_of r l h = h ∙ summed_limited (all_figures (bodies_from (rule_count s) s 0)) ∙ rw l
+
+  pub no_figures_laid : (n : ℕ) → Laid s → refused n ≡ summed (all_figures (bodies_from (rule_count s) s 0)) → refused n ≡ summed (set_figures s)
+  unfolding and_then
+  no_figures_laid n l h = figures_of (refused n) l (rw (← h) refl)
 
 -- Accepted figures: of a sheet that is laid out, as many as its rules, with few cells.
 pub record Together (s : List ℕ) (fs : List Figures) : Type 0 where
@@ -94,43 +109,3 @@ module _ (history table records : ℕ) where
       → r ≡ summed (admit_set_lengths s history table records)
   unfolding and_then
   opening_judged s fs r e h = h ∙ rw e
-
-  -- ---- its four tests, by the sums
-
-  module _ (fs : List Figures) (sums : SetFigures) (are : sums ≡ sums_of fs) where
-    pub opening_short : history < sums.history → refused 17 ≡ summed (set_room history table records fs)
-    unfolding set_room must and_then
-    opening_short h = simp (lt-leb (largest fs) history (rw are at h))
-
-    module _ (h₁ : sums.history ≤ history) where
-      pub opening_long : 4096 < history → refused 17 ≡ summed (set_room history table records fs)
-      unfolding set_room must and_then
-      opening_long h = simp (le-leb (largest fs) history (rw are at h₁), lt-leb history 4096 h)
-
-      module _ (h₂ : history ≤ 4096) where
-        pub opening_cells : table < 4 * sums.cells → refused 18 ≡ summed (set_room history table records fs)
-        unfolding set_room must and_then
-        opening_cells h =
-            simp (le-leb (largest fs) history (rw are at h₁), le-leb history 4096 h₂, lt-leb (4 * all_cells fs) table (rw are at h))
-
-        module _ (h₃ : 4 * sums.cells ≤ table) where
-          pub opening_records : records < sums.rules → refused 18 ≡ summed (set_room history table records fs)
-          unfolding set_room must and_then
-          opening_records h =
-              simp (
-                le-leb (largest fs) history (rw are at h₁),
-                le-leb history 4096 h₂,
-                le-leb (4 * all_cells fs) table (rw are at h₃),
-                lt-leb (length fs) records (rw are at h),
-              )
-
-          pub opening_fits : sums.rules ≤ records → accepted sums ≡ summed (set_room history table records fs)
-          unfolding set_room must and_then
-          opening_fits h =
-              rw are
-              (simp (
-                le-leb (largest fs) history (rw are at h₁),
-                le-leb history 4096 h₂,
-                le-leb (4 * all_cells fs) table (rw are at h₃),
-                le-leb (length fs) records (rw are at h),
-              ))

@@ -1,43 +1,20 @@
 -- A sheet's bodies: which refusals they meet, and that the reader gives each of them back.
-use Prim.Native.Nat.{ℕ, ◌+◌, ◌*◌, ◌-◌, ◌≤◌, ◌<◌}
-use mathlib.Core.Path.{◌≡◌, refl, sym, ap, ◌∙◌}
+use Prim.Native.Nat.{ℕ, ◌+◌, ◌*◌, ◌≤◌, ◌<◌}
+use mathlib.Core.Path.{◌≡◌, refl, sym, ap}
 use mathlib.Core.Bool.{Bool, true, false, cond}
 use mathlib.Core.List.{List}
-use native.Mathlib.Nat.{add-sub_cancel_left}
-use lib.ListN.{length, take, drop}
 use lib.Dec.{ltb}
 use borrow.Author.Tests.{lt-ltb}
-use Rattle.refusal.specs.declared.Refusal.{Refusal}
-use Rattle.refusal.specs.Answer.{Answer, refused, accepted, and_then}
-use Rattle.refusal.specs.Numbers.{number_of}
+use Rattle.refusal.specs.Answer.{refused, accepted}
 use Rattle.refusal.proofs.Answers.{not_accepted, same_refusal, same_value, passed}
-use Rattle.sheet.specs.declared.reader.Found.{Found}
-use Rattle.sheet.specs.declared.reader.Found.TheVariants as place
-use Rattle.sheet.specs.Sheet.{rule_count, has_contents, laid_out, BodyPlace, rule_place, rule_body, found}
-use Rattle.sheet.proofs.Entries.{contents_told, place_inside, place_here, body_at, body_refused}
-use Rattle.rule.specs.declared.Figures.{Figures}
-use Rattle.rule.specs.Figures.{body_figures}
+use Rattle.sheet.specs.declared.reader.BodyPlace.{BodyPlace}
+use Rattle.sheet.specs.Sheet.{rule_count, has_contents, laid_out, rule_place, rule_body}
+use Rattle.sheet.proofs.Entries.{contents_told, place_here, body_at}
 use Rattle.demand.specs.Contract.{must}
 use Rattle.demand.specs.SetContract.{bodies_from, sheet_bodies}
 use Rattle.demand.proofs.Admission.{must_passed}
 use Rattle.set_admission.specs.Together.{Laid}
 use Rattle.set_admission.proofs.Added.{entry_body}
-
--- ---- one rule of a sheet, by the place that was found
-
-module _ (s : List ℕ) (i : ℕ) (p : Found) (found_is : found p ≡ rule_place s i) where
-  pub part_ends : {start size : ℕ} → p ≡ place.At start size → start + size ≤ length s
-  part_ends {start} {size} e = place_inside s i start size (sym found_is ∙ ap found e)
-
-  pub part_figures : {start size : ℕ} (r : Answer Figures) → p ≡ place.At start size → r ≡ body_figures (take (start + size - start) (drop start s))
-      → r ≡ and_then (rule_body s i) body_figures
-  unfolding and_then
-  part_figures {start} {size} r e h =
-      rw (h, add-sub_cancel_left, body_at s i (record { start = start; size = size }) (sym found_is ∙ ap found e))
-
-  pub no_part : {x : Refusal} → p ≡ place.Refused x → refused (number_of x) ≡ and_then (rule_body s i) body_figures
-  unfolding and_then
-  no_part {x} e = rw (body_refused s i (number_of x) (sym found_is ∙ ap found e))
 
 -- ---- all rules of a sheet, by the place of its first
 

@@ -1,14 +1,11 @@
 -- What all rules of a sheet need together. Which sheets and openings are refused is said by `set_figures` and `admit_set` (crate demand).
 use Rattle.std.specs.Prelude.{ℕ, ◌+◌, ◌≤◌, max, ◌≡◌, List, leb, length}
-use Rattle.refusal.specs.Answer.{Answer, refused, accepted, and_then}
-use Rattle.refusal.specs.Numbers.{number_of}
+use Rattle.refusal.specs.Answer.{Answer, accepted, and_then}
 use Rattle.sheet.specs.Sheet.{rule_count}
 use Rattle.rule.specs.declared.Figures.{Figures}
 use Rattle.demand.specs.Contract.{must}
 use Rattle.demand.specs.SetContract.{all_cells, all_delays, largest, bodies_from, sheet_bodies}
 use Rattle.set_admission.specs.declared.sheet_figures.SetFigures.{SetFigures}
-use Rattle.set_admission.specs.declared.sheet_figures.SetFiguresAnswer.{SetFiguresAnswer}
-use Rattle.set_admission.specs.declared.sheet_figures.SetFiguresAnswer.TheVariants.{Sized, Refused}
 
 -- What rules with these figures need together.
 abbrev pub sums_of : List Figures → SetFigures
@@ -16,11 +13,6 @@ sums_of figures = record { rules = length figures; history = largest figures; ce
 
 abbrev pub summed : Answer (List Figures) → Answer SetFigures
 summed answer = and_then answer (λ figures. accepted (sums_of figures))
-
--- What each case of the code's answer stands for.
-abbrev pub set_figures_answer : SetFiguresAnswer → Answer SetFigures
-set_figures_answer (Sized sums) = accepted sums
-set_figures_answer (Refused refusal) = refused (number_of refusal)
 
 -- ---- what the code's parts ask and answer
 

@@ -8,5 +8,5 @@ mod sheet_figures;
 // The cells that a set can have in all.
 pub(crate) const MAX_CELLS: u64 = 4096;
 
-pub use records::{SetFit, admit_records};
-pub use sheet_figures::{SetFigures, SetFiguresAnswer, admit_set, set_figures};
+pub use records::admit_records;
+pub use sheet_figures::{SetFigures, admit_set, set_figures};
