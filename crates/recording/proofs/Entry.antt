@@ -15,8 +15,7 @@ use Rattle.rule.specs.Formula.{Formula}
 use Rattle.rule.specs.Meaning.{outcome, rule}
 use Rattle.rule.specs.Recording.{recorded, over_recording, recording_outcome}
 use Rattle.nodes.specs.Table.{formula_in}
-use Rattle.reader.specs.declared.Reading.{Reading}
-use Rattle.reader.specs.declared.Reading.TheVariants.{Stored, Refused}
+use Rattle.std.specs.Prelude.{Result, Ok, Err}
 use Rattle.reader.specs.Decoded.{Decoded}
 use Rattle.reader.proofs.Told.{refused_body, read_formula}
 use Rattle.recording.specs.declared.env.Env.{Env}
@@ -77,11 +76,11 @@ by_rule ns rec t p e x y = y ∙ ap (λ (w : Env). outcome (formula_in 64 ns w.d
 
 -- ---- after the body is read
 
-module _ (s rec : List ℕ) (p : ℕ) {r : Reading} {ns : List ℕ} (d : Decoded s r ns) where
-  pub read_well : {a : Answer Outcome} → r ≡ Stored → a ≡ over_recording (formula_in 64 ns 0 0) rec p → a ≡ recording_outcome s rec p
+module _ (s rec : List ℕ) (p : ℕ) {r : Result (Unit {0}) Refusal} {ns : List ℕ} (d : Decoded s r ns) where
+  pub read_well : {a : Answer Outcome} {u : Unit {0}} → r ≡ Ok u → a ≡ over_recording (formula_in 64 ns 0 0) rec p → a ≡ recording_outcome s rec p
   unfolding recording_outcome and_then
   read_well x y = let f = read_formula d x in rw f.1 (y ∙ ap (λ (G : Formula). over_recording G rec p) f.2.is)
 
-  pub read_ill : {x : Refusal} → r ≡ Refused x → refused (number_of x) ≡ recording_outcome s rec p
+  pub read_ill : {x : Refusal} → r ≡ Err x → refused (number_of x) ≡ recording_outcome s rec p
   unfolding recording_outcome and_then
   read_ill y = rw (refused_body d y) refl

@@ -55,10 +55,10 @@ module _ (rec : List ℕ) (t : ℕ) (env : List ℕ) (s : ℕ) where
   then_true e f x y g = by_then e f (rw (x, y) g)
 
   pub then_false : {F G H : Formula} {o : Outcome} {v : Verdict} {d : ℕ} → F ≡ then G H → o ≡ outcome G (recorded rec) t env s
-      → o ≡ Decided v d → v ≡ False → Decided False d ≡ outcome F (recorded rec) t env s
+      → o ≡ Decided v d → v ≡ False → o ≡ outcome F (recorded rec) t env s
   unfolding after
   then_false e f x y = by_then e f (rw (x, y))
 
-  pub then_open : {F G H : Formula} {o : Outcome} → F ≡ then G H → o ≡ outcome G (recorded rec) t env s → o ≡ Open → Open ≡ outcome F (recorded rec) t env s
+  pub then_open : {F G H : Formula} {o : Outcome} → F ≡ then G H → o ≡ outcome G (recorded rec) t env s → o ≡ Open → o ≡ outcome F (recorded rec) t env s
   unfolding after
   then_open e f x = by_then e f (rw x)

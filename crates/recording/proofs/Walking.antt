@@ -125,3 +125,13 @@ module _ (left : ℕ) (ns : List ℕ) (i : ℕ) (rec : List ℕ) (t : ℕ) (e : 
   -- inside 4 quantifiers there is no fifth
   pub no_forall : 4 ≤ e.depth → forall_of_node left ns e.depth i ≡ flag 0 0
   no_forall h = rw (le-ltb e.depth 4 h)
+
+-- ---- a walk that counts its positions up to an end
+
+module _ (f : ℕ → Outcome) (end q : ℕ) (acc : Outcome) where
+  -- the first positions are as many as the plan says
+  pub walk_planned : (first n : ℕ) → end ≡ first + n → walk f (end - first) first acc ≡ walk f n first acc
+  walk_planned first n e = ap (λ (k : ℕ). walk f k first acc) (omega arith)
+
+  pub walk_further : {o r : Outcome} → q < end → o ≡ f q → r ≡ both o acc → walk f (end - q) q acc ≡ walk f (end - (q + 1)) (q + 1) r
+  walk_further {o} {r} h e g = walk_step f (end - q) q acc (omega arith) e g ∙ ap (λ (k : ℕ). walk f k (q + 1) r) (omega arith)

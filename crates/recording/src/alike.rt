@@ -11,9 +11,6 @@ pub(crate) fn alike(nodes: &[u32], left: u64, depth: usize, node: usize, positio
     requires { (node ≤ 4294968064) × (depth < 4) }
     ensures { result ≡ (ltb 1 positions && not (names (depth + 1) (formula_in left nodes.now (depth + 1) (node + 12)))) }
 {
-    if positions <= 1 {
-        return false;
-    }
     let variable = depth + 1;
-    !naming::names(nodes, left, variable, node + NODE_WORDS, variable as u32)
+    1 < positions && !naming::names(nodes, left, variable, node + NODE_WORDS, variable as u32)
 }

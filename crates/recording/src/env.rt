@@ -9,36 +9,32 @@ pub(crate) struct Env {
     pub pos: [u64; 5],
 }
 
-// The environment of the rule at tick p.
-pub(crate) fn at_tick(p: u64) -> Env
-    ensures { result ≡ started p }
-{
-    Env {
-        depth: 0,
-        pos: [p, 0, 0, 0, 0],
+impl Env {
+    // The environment of the rule at tick p.
+    pub(crate) fn at_tick(p: u64) -> Env
+        ensures { result ≡ started p }
+    {
+        Env {
+            depth: 0,
+            pos: [p, 0, 0, 0, 0],
+        }
     }
-}
 
-// The environment inside one more quantifier, whose variable stands at q.
-pub(crate) fn enter(env: Env, q: u64) -> Env
-    requires { env.depth < 4 }
-    ensures { result ≡ entered env q }
-{
-    let variable = env.depth + 1;
-    let mut inner = env;
-    inner.pos[variable] = q;
-    inner.depth = variable;
-    inner
-}
+    // The environment inside one more quantifier, whose variable stands at q.
+    pub(crate) fn enter(self, q: u64) -> Env
+        requires { self.depth < 4 }
+        ensures { result ≡ entered self q }
+    {
+        let depth = self.depth + 1;
+        let mut pos = self.pos;
+        pos[depth] = q;
+        Env { depth, pos }
+    }
 
-// The position of a variable; 0 if there is none.
-pub(crate) fn position(env: Env, variable: u32) -> u64
-    ensures { result ≡ get_or env.pos variable 0 }
-{
-    if variable < 5 {
-        let at = variable as usize;
-        env.pos[at]
-    } else {
-        0
+    // The position of a variable; 0 if there is none.
+    pub(crate) fn position(self, variable: u32) -> u64
+        ensures { result ≡ get_or self.pos variable 0 }
+    {
+        self.pos.get(variable as usize).copied().unwrap_or(0)
     }
 }
