@@ -12,19 +12,10 @@ use Rattle.demand.specs.Contract.{HistoryHolds}
 use Rattle.cell_runs.specs.Tree.{Tree, formula_of, words, Formed}
 use Rattle.cells.specs.Cells.{held, CellHolds}
 use Rattle.cell_runs.specs.Slots.{window, slot}
+pub use Rattle.cell_runs.specs.declared.Variables.{Variables}
 use Rattle.cell_runs.specs.Run.{out, with_position, own_tick, RunHolds, SlotHolds, RunReady, SlotReady}
 
 -- ---- the variables and their bytes
-
--- So many variables are known, the rule's own tick first: the position of each, and the flag byte at it.
-pub record Variables : Type 0 where
-  pub known : ℕ
-  pub pos : List ℕ
-  pub bytes : List ℕ
-
--- The code has them as a number and two arrays.
-abbrev pub variables_of : ℕ → List ℕ → List ℕ → Variables
-variables_of known pos bytes = record { known = known; pos = pos; bytes = bytes }
 
 -- The positions of the variables that are known.
 abbrev pub places : Variables → List ℕ

@@ -14,19 +14,12 @@ pub(crate) fn load_head(run: &[u32], p: u64, s: u64, t: u64, positions: u64) -> 
 }
 
 // Moves the head on over the slots, while they hold true.
-fn leading_true(
-    slots: &[u32],
-    leading: u64,
-    positions: u64,
-    size: usize,
-    p: u64,
-    latest: u64,
-) -> Head
-    requires { HeadFit size positions leading (4 + length slots.now) }
-    ensures { MovedOn p size positions slots.now leading latest result.leading result.latest }
+fn leading_true(slots: &[u32], head: Head, positions: u64, size: usize, p: u64) -> Head
+    requires { HeadFit size positions head.leading (4 + length slots.now) }
+    ensures { MovedOn p size positions slots.now head.leading head.latest result.leading result.latest }
 {
-    let mut trues = leading;
-    let mut last = latest;
+    let mut trues = head.leading;
+    let mut last = head.latest;
     while trues < positions {
         let at = (trues as usize) * size;
         if slots[at] != 1 {
@@ -45,18 +38,11 @@ fn leading_true(
 }
 
 // Moves the head on and writes its cell.
-pub(crate) fn move_head(
-    run: &mut [u32],
-    leading: u64,
-    positions: u64,
-    size: usize,
-    p: u64,
-    latest: u64,
-)
-    requires { HeadFit size positions leading (length run.old) }
-    ensures { HeadMoved p size positions run.old leading latest run.new }
+pub(crate) fn move_head(run: &mut [u32], head: Head, positions: u64, size: usize, p: u64)
+    requires { HeadFit size positions head.leading (length run.old) }
+    ensures { HeadMoved p size positions run.old head.leading head.latest run.new }
 {
-    let head = leading_true(&run[CELL_WORDS..], leading, positions, size, p, latest);
-    run[2] = elapsed(p, head.latest);
-    run[0] = (head.leading % WORD_VALUES) as u32;
+    let moved = leading_true(&run[CELL_WORDS..], head, positions, size, p);
+    run[2] = elapsed(p, moved.latest);
+    run[0] = (moved.leading % WORD_VALUES) as u32;
 }

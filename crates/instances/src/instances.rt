@@ -4,8 +4,9 @@ ghost use Rattle.cell_runs.specs.Tree.{tree_at};
 ghost use Rattle.cell_runs.specs.Instances.{InstanceMoved, InstanceFit, tick_if_false, TicksFit, TicksMoved, Spared};
 ghost use Rattle.cell_runs.specs.Moves.{TickFit, TickMoved};
 
-use crate::advance::advance_position;
+use crate::advance::{Node, Tick};
 use crate::marks::load_outcome;
+use cell_runs::Variables;
 use cells::CELL_WORDS;
 use nodes::{FORMULAS, TABLE_WORDS};
 use outcomes::one_if_open;
@@ -19,29 +20,31 @@ pub(crate) struct Moved {
     pub live: usize,
 }
 
-// The instance of tick p, moved to tick t: a range's position with no variable before it. One that was decided before is answered from its
+// The rule's slots: so many, of `size` words each.
+#[derive(Clone, Copy)]
+struct Slots {
+    count: u64,
+    size: usize,
+}
+
+// The instance of tick p, moved to the tick at hand: a range's position with no variable before it. One that was decided before is answered from its
 // cell.
-fn move_instance(
-    nodes: &[u32; TABLE_WORDS],
-    left: usize,
-    run: &mut [u32],
-    history: &[u8],
-    flag: u8,
-    p: u64,
-    t: u64,
-) -> Outcome
-    requires { InstanceFit (tree_at left nodes.now 0) t p (length run.old) }
-    ensures { InstanceMoved (tree_at left nodes.now 0) history.now flag t p run.old result run.new }
+fn move_instance(tick: &Tick<'_>, left: usize, run: &mut [u32], p: u64) -> Outcome
+    requires { InstanceFit (tree_at left tick.now.nodes.now 0) tick.now.t p (length run.old) }
+    ensures { InstanceMoved (tree_at left tick.now.nodes.now 0) tick.now.history.now tick.now.flag tick.now.t p run.old result run.new }
 {
-    if p != t {
+    if p != tick.t {
         let held = load_outcome(run, 0, p);
         if let Outcome::Decided(_, _) = held {
             return held;
         }
     }
-    let pos = [0u64; 5];
-    let bytes = [0u8; 5];
-    advance_position(nodes, left, 0, run, history, flag, 0, &pos, &bytes, p, t, p)
+    let variables = Variables {
+        known: 0,
+        pos: [0; 5],
+        bytes: [0; 5],
+    };
+    tick.advance_position(&variables, Node { left, word: 0 }, run, p, p)
 }
 
 // Writes p into the report where the outcome is false at step t, and answers the next place.
@@ -51,18 +54,11 @@ fn report_if_false(report: &mut [u64], at: usize, outcome: Outcome, t: u64, p: u
     ensures report_after { report.new ≡ take at report.old ++ (tick_if_false outcome t p ++ drop result report.old) }
 {
     match outcome {
-        Outcome::Open => at,
-        Outcome::Decided(verdict, step) => match verdict {
-            Verdict::True => at,
-            Verdict::False => {
-                if step == t {
-                    report[at] = p;
-                    at + 1
-                } else {
-                    at
-                }
-            }
-        },
+        Outcome::Decided(Verdict::False, step) if step == t => {
+            report[at] = p;
+            at + 1
+        }
+        _ => at,
     }
 }
 
@@ -71,10 +67,7 @@ fn oldest_tick(t: u64, count: u64) -> u64
     requires { t < 4611686018427387904 }
     ensures { result ≡ t + 1 - count }
 {
-    if t + 1 <= count {
-        return 0;
-    }
-    t + 1 - count
+    (t + 1).saturating_sub(count)
 }
 
 // The slot after this one of `count`; after the last comes the first. Counting on saves a division for each tick.
@@ -85,60 +78,50 @@ fn next_slot(slot: u64, count: u64) -> u64
     if slot + 1 == count { 0 } else { slot + 1 }
 }
 
-// Moves the ticks from `low` to t, each in its slot of `size` words.
+// Moves the ticks from `low` to the one at hand, each in its slot.
 fn move_ticks(
-    nodes: &[u32; TABLE_WORDS],
+    tick: &Tick<'_>,
     left: usize,
     table: &mut [u32],
-    history: &[u8],
-    flag: u8,
     report: &mut [u64],
-    t: u64,
     low: u64,
-    count: u64,
-    size: usize,
+    slots: Slots,
 ) -> Moved
-    requires ticks_fit { TicksFit (tree_at left nodes.now 0) t count size (length table.old) (length report.old) }
-    requires low_value { low ≡ t + 1 - count }
-    ensures ticks_moved { TicksMoved (tree_at left nodes.now 0) count size history.now flag t low table.old report.old result.reported result.live table.new report.new }
-    ensures spared { Spared count (count * size) table.old report.old result.reported result.live table.new report.new }
+    requires ticks_fit { TicksFit (tree_at left tick.now.nodes.now 0) tick.now.t slots.count slots.size (length table.old) (length report.old) }
+    requires low_value { low ≡ tick.now.t + 1 - slots.count }
+    ensures ticks_moved { TicksMoved (tree_at left tick.now.nodes.now 0) slots.count slots.size tick.now.history.now tick.now.flag tick.now.t low table.old report.old result.reported result.live table.new report.new }
+    ensures spared { Spared slots.count (slots.count * slots.size) table.old report.old result.reported result.live table.new report.new }
 {
     let mut p = low;
     let mut reported: usize = 0;
     let mut live: usize = 0;
-    let mut slot = low % count;
-    while p <= t {
-        let at = (slot as usize) * size;
-        let end = at + size;
-        let outcome = move_instance(nodes, left, &mut table[at..end], history, flag, p, t);
-        reported = report_if_false(report, reported, outcome, t, p);
-        live = live + one_if_open(outcome);
-        p = p + 1;
-        slot = next_slot(slot, count);
+    let mut slot = low % slots.count;
+    while p <= tick.t {
+        let at = (slot as usize) * slots.size;
+        let outcome = move_instance(tick, left, &mut table[at..at + slots.size], p);
+        reported = report_if_false(report, reported, outcome, tick.t, p);
+        live += one_if_open(outcome);
+        p += 1;
+        slot = next_slot(slot, slots.count);
     }
     Moved { reported, live }
 }
 
-// Takes tick t, whose flag byte is given, of the rule whose node table is `nodes`, all but storing the byte: starts its instance, moves all live ones, and
-// writes the ticks that are false at this step into the report. The history is only read, so that more rules can take the tick before the byte is stored.
+// Takes a tick of the rule whose node table it has, all but storing the byte: starts its instance, moves all live ones, and writes the ticks that are
+// false at this step into the report. The history is only read, so that more rules can take the tick before the byte is stored.
 pub(crate) fn move_rule(
-    nodes: &[u32; TABLE_WORDS],
+    tick: &Tick<'_>,
     figures: Figures,
-    t: u64,
-    history: &[u8],
-    flag: u8,
     cells: &mut [u32],
     report: &mut [u64],
 ) -> Moved
-    requires { TickFit nodes.now figures (length history.now) t (length cells.old) (length report.old) }
-    ensures { TickMoved nodes.now figures t history.now flag cells.old report.old result.reported result.live (set history.now (t % length history.now) flag) cells.new report.new }
+    requires { TickFit tick.now.nodes.now figures (length tick.now.history.now) tick.now.t (length cells.old) (length report.old) }
+    ensures { TickMoved tick.now.nodes.now figures tick.now.t tick.now.history.now tick.now.flag cells.old report.old result.reported result.live (set tick.now.history.now (tick.now.t % length tick.now.history.now) tick.now.flag) cells.new report.new }
 {
     let count = figures.delay + 1;
     let size = (figures.cells / count) as usize * CELL_WORDS;
-    let low = oldest_tick(t, count);
-    move_ticks(
-        nodes, FORMULAS, cells, history, flag, report, t, low, count, size,
-    )
+    let low = oldest_tick(tick.t, count);
+    move_ticks(tick, FORMULAS, cells, report, low, Slots { count, size })
 }
 
 // Takes tick t of one rule, and stores its byte in the history, last.
@@ -154,7 +137,13 @@ pub(crate) fn move_tick(
     requires { TickFit nodes.now figures (length history.old) t (length cells.old) (length report.old) }
     ensures { TickMoved nodes.now figures t history.old flag cells.old report.old result.reported result.live history.new cells.new report.new }
 {
-    let moved = move_rule(nodes, figures, t, history, flag, cells, report);
+    let tick = Tick {
+        nodes,
+        history,
+        flag,
+        t,
+    };
+    let moved = move_rule(&tick, figures, cells, report);
     remember(history, t, flag);
     moved
 }

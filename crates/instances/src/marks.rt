@@ -2,6 +2,7 @@
 ghost use Rattle.std.specs.Prelude.{◌≡◌, ◌+◌, ◌≤◌, ◌<◌, length, get_or};
 ghost use Rattle.cells.specs.Cells.{held, mark};
 
+use cell_runs::Variables;
 use cells::{elapsed, outcome_of};
 use rule::{Outcome, Verdict};
 
@@ -24,21 +25,17 @@ pub(crate) fn store_outcome(cell: &mut [u32], index: usize, p: u64, outcome: Out
         }
         Outcome::Decided(verdict, step) => {
             cell[index + 2] = elapsed(p, step);
-            match verdict {
-                Verdict::True => {
-                    cell[index] = 1;
-                }
-                Verdict::False => {
-                    cell[index] = 2;
-                }
-            }
+            cell[index] = match verdict {
+                Verdict::True => 1,
+                Verdict::False => 2,
+            };
         }
     }
 }
 
 // The rule's own tick.
-pub(crate) fn own_tick(pos: &[u64; 5]) -> u64
-    ensures { result ≡ get_or pos.now 0 0 }
+pub(crate) fn own_tick(variables: &Variables) -> u64
+    ensures { result ≡ get_or variables.now.pos 0 0 }
 {
-    pos[0]
+    variables.pos[0]
 }

@@ -1,6 +1,7 @@
 // One step of a rule: refused, or its tick taken.
 ghost use Rattle.instances.specs.Answers.{StepOf, TickOf};
 
+use crate::advance::Tick;
 use crate::instances::move_rule;
 use figure_limits::FigureAnswer;
 use nodes::TABLE_WORDS;
@@ -40,7 +41,13 @@ pub fn take_tick(
     match admitted {
         FigureAnswer::Refused(refusal) => StepAnswer::Refused(refusal),
         FigureAnswer::Sized(figures) => {
-            let moved = move_rule(&nodes, figures, tick, history, flag, cells, report);
+            let at_hand = Tick {
+                nodes: &nodes,
+                history,
+                flag,
+                t: tick,
+            };
+            let moved = move_rule(&at_hand, figures, cells, report);
             StepAnswer::Taken(moved.reported, moved.live)
         }
     }

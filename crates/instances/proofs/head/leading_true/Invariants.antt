@@ -4,7 +4,7 @@ use Rattle.cell_runs.specs.Leading.{MovedOn}
 use Rattle.instances.proofs.head.leading_true.Given as goal
 
 abbrev pub invariant-loop-trues : goal.invariant-loop-trues
-invariant-loop-trues l = MovedOn l.p l.size l.positions l.slots l.leading l.latest l.trues l.last
+invariant-loop-trues l = MovedOn l.p l.size l.positions l.slots l.fn.head.leading l.fn.head.latest l.trues l.last
 
 abbrev pub decreases-loop-trues : goal.decreases-loop-trues
 decreases-loop-trues l = l.positions - l.trues

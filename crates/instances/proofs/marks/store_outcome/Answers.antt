@@ -1,15 +1,12 @@
 -- `instances::marks::store_outcome` meets its contract: it writes the words that `mark` writes, in the same order.
 use Rattle.cells.specs.Cells.{mark}
 use Rattle.instances.proofs.marks.store_outcome.Goals as goal
+use Rattle.instances.proofs.marks.store_outcome.Goals.{in-True, in-False}
 
 pub returns-in-Open : goal.returns-in-Open
 unfolding mark
 returns-in-Open c = simp c.in-Open.is
 
-pub returns-in-True : goal.returns-in-True
+pub returns-after-verdict : goal.returns-after-verdict
 unfolding mark
-returns-in-True c = simp (c.in-Decided.is, c.in-True.is, c.elapsed.ensures)
-
-pub returns-in-False : goal.returns-in-False
-unfolding mark
-returns-in-False c = simp (c.in-Decided.is, c.in-False.is, c.elapsed.ensures)
+returns-after-verdict c = elim c.match-verdict.branch [ in-True w ↦ simp (c.in-Decided.is, w.in-True.is, w.cell-is, c.elapsed.ensures) | in-False w ↦ simp (c.in-Decided.is, w.in-False.is, w.cell-is, c.elapsed.ensures) ]
