@@ -31,6 +31,11 @@ pub tick_past : (o : Outcome) (v : Verdict) (d t p : ℕ) → o ≡ Decided v d 
 unfolding tick_if_false false_at
 tick_past o v d t p e f g = rw (e, f, ne_eqb d t g) refl
 
+pub tick_other : (o : Outcome) (t p : ℕ) → (o ≡ Decided False t → ⊥) → tick_if_false o t p ≡ []
+tick_other Open t p n = tick_open Open t p refl
+tick_other (Decided True d) t p n = tick_true (Decided True d) True d t p refl refl
+tick_other (Decided False d) t p n = tick_past (Decided False d) False d t p refl refl (λ e. n (ap (Decided False) e))
+
 pub report_none : (report : List ℕ) (at : ℕ) (h : List ℕ) → h ≡ []
     → ((at ≡ at + length h) × (at ≤ at + 1)) × (report ≡ take at report ++ (h ++ drop at report))
 report_none report at h e = rw e ((omega arith, omega arith), sym (take-append-drop at report))

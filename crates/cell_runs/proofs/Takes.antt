@@ -2,16 +2,14 @@
 use Prim.Native.Nat.{ℕ}
 use mathlib.Core.Path.{◌≡◌, refl, sym, ap, subst, ◌∙◌}
 use mathlib.Core.List.{List, [], ◌∷◌}
+use Rattle.std.specs.Prelude.{Result, Ok, Err}
 use Rattle.refusal.specs.declared.Refusal.{Refusal}
-use Rattle.refusal.specs.Answer.{refused, accepted}
+use Rattle.refusal.specs.Answer.{refused, accepted, answer_of}
 use Rattle.refusal.specs.Numbers.{number_of}
 use Rattle.rule.specs.declared.Figures.{Figures}
 use Rattle.rule.specs.Body.{body}
 use Rattle.rule.specs.Figures.{at_tick}
 use Rattle.reader.specs.Decoded as decoded
-use Rattle.figure_limits.specs.declared.FigureAnswer.{FigureAnswer}
-use Rattle.figure_limits.specs.declared.FigureAnswer.TheVariants.{Sized, Refused}
-use Rattle.figure_limits.specs.Answers.{figures_answer}
 use Rattle.figures.specs.Measured.{SizesAt}
 use Rattle.figures.specs.Prepared.{SizedTable, Leaves}
 use Rattle.demand.specs.Contract.{state_at, admit_lengths}
@@ -20,20 +18,20 @@ use Rattle.admission.specs.Admitted.{Admitted}
 use Rattle.cell_runs.specs.Moves.{TableOf, TickFit}
 use Rattle.cell_runs.specs.Batches.{BatchFit}
 
-module _ (b : List ℕ) (L t h c n : ℕ) (a : FigureAnswer) (ns : List ℕ) (admits : Admitted b L t h c n a ns) where
-  pub admitted_as : {f : Figures} → a ≡ Sized f → admit_lengths b L t h c n ≡ accepted f
-  admitted_as e = sym admits.answer ∙ ap figures_answer e
+module _ (b : List ℕ) (L t h c n : ℕ) (a : Result Figures Refusal) (ns : List ℕ) (admits : Admitted b L t h c n a ns) where
+  pub admitted_as : {f : Figures} → a ≡ Ok f → admit_lengths b L t h c n ≡ accepted f
+  admitted_as e = sym admits.answer ∙ ap answer_of e
 
-  pub refused_as : {x : Refusal} → a ≡ Refused x → admit_lengths b L t h c n ≡ refused (number_of x)
-  refused_as e = sym admits.answer ∙ ap figures_answer e
+  pub refused_as : {x : Refusal} → a ≡ Err x → admit_lengths b L t h c n ≡ refused (number_of x)
+  refused_as e = sym admits.answer ∙ ap answer_of e
 
-  module _ (f : Figures) (sized : a ≡ Sized f) where
+  module _ (f : Figures) (sized : a ≡ Ok f) where
     known : StepAdmitted b L t h c n f
     known = step_admitted b L t h c n f (admitted_as sized)
 
     pub table_of : (live : ℕ) → TableOf ns f h t (state_at b L t live)
     table_of live =
-        let laid : SizedTable ns (body b) = subst (Leaves b ns) (ap figures_answer sized) admits.leaves in
+        let laid : SizedTable ns (body b) = subst (Leaves b ns) (ap answer_of sized) admits.leaves in
         let l : decoded.TableHolds known.formula ns × SizesAt known.formula ns (at_tick ∷ []) 0 = subst (SizedTable ns) known.reads laid in
         let fits = known.history_fits in
         record {

@@ -6,19 +6,13 @@ ghost use Rattle.cell_runs.specs.Moves.{TickFit, TickMoved};
 
 use crate::advance::{Node, Tick};
 use crate::marks::load_outcome;
+use crate::stepping::StepCounts;
 use cell_runs::Variables;
 use cells::CELL_WORDS;
 use nodes::{FORMULAS, TABLE_WORDS};
 use outcomes::one_if_open;
 use ring::remember;
 use rule::{Figures, Outcome, Verdict};
-
-// How many ticks were reported, and how many are live.
-#[derive(Clone, Copy)]
-pub(crate) struct Moved {
-    pub reported: usize,
-    pub live: usize,
-}
 
 // The rule's slots: so many, of `size` words each.
 #[derive(Clone, Copy)]
@@ -53,13 +47,11 @@ fn report_if_false(report: &mut [u64], at: usize, outcome: Outcome, t: u64, p: u
     ensures value { (result ≡ at + length (tick_if_false outcome t p)) × (result ≤ at + 1) }
     ensures report_after { report.new ≡ take at report.old ++ (tick_if_false outcome t p ++ drop result report.old) }
 {
-    match outcome {
-        Outcome::Decided(Verdict::False, step) if step == t => {
-            report[at] = p;
-            at + 1
-        }
-        _ => at,
+    if outcome == Outcome::Decided(Verdict::False, t) {
+        report[at] = p;
+        return at + 1;
     }
+    at
 }
 
 // The oldest of the last `count` ticks up to t.
@@ -86,7 +78,7 @@ fn move_ticks(
     report: &mut [u64],
     low: u64,
     slots: Slots,
-) -> Moved
+) -> StepCounts
     requires ticks_fit { TicksFit (tree_at left tick.now.nodes.now 0) tick.now.t slots.count slots.size (length table.old) (length report.old) }
     requires low_value { low ≡ tick.now.t + 1 - slots.count }
     ensures ticks_moved { TicksMoved (tree_at left tick.now.nodes.now 0) slots.count slots.size tick.now.history.now tick.now.flag tick.now.t low table.old report.old result.reported result.live table.new report.new }
@@ -104,7 +96,7 @@ fn move_ticks(
         p += 1;
         slot = next_slot(slot, slots.count);
     }
-    Moved { reported, live }
+    StepCounts { reported, live }
 }
 
 // Takes a tick of the rule whose node table it has, all but storing the byte: starts its instance, moves all live ones, and writes the ticks that are
@@ -114,7 +106,7 @@ pub(crate) fn move_rule(
     figures: Figures,
     cells: &mut [u32],
     report: &mut [u64],
-) -> Moved
+) -> StepCounts
     requires { TickFit tick.now.nodes.now figures (length tick.now.history.now) tick.now.t (length cells.old) (length report.old) }
     ensures { TickMoved tick.now.nodes.now figures tick.now.t tick.now.history.now tick.now.flag cells.old report.old result.reported result.live (set tick.now.history.now (tick.now.t % length tick.now.history.now) tick.now.flag) cells.new report.new }
 {
@@ -124,26 +116,34 @@ pub(crate) fn move_rule(
     move_ticks(tick, FORMULAS, cells, report, low, Slots { count, size })
 }
 
-// Takes tick t of one rule, and stores its byte in the history, last.
-pub(crate) fn move_tick(
-    nodes: &[u32; TABLE_WORDS],
-    figures: Figures,
-    t: u64,
-    history: &mut [u8],
-    flag: u8,
-    cells: &mut [u32],
-    report: &mut [u64],
-) -> Moved
-    requires { TickFit nodes.now figures (length history.old) t (length cells.old) (length report.old) }
-    ensures { TickMoved nodes.now figures t history.old flag cells.old report.old result.reported result.live history.new cells.new report.new }
-{
-    let tick = Tick {
-        nodes,
-        history,
-        flag,
-        t,
-    };
-    let moved = move_rule(&tick, figures, cells, report);
-    remember(history, t, flag);
-    moved
+// A rule in its node table, and its figures.
+#[derive(Clone, Copy)]
+pub(crate) struct Rule<'a> {
+    pub nodes: &'a [u32; TABLE_WORDS],
+    pub figures: Figures,
+}
+
+impl Rule<'_> {
+    // Takes tick t, and stores its byte in the history, last.
+    pub(crate) fn move_tick(
+        &self,
+        t: u64,
+        history: &mut [u8],
+        flag: u8,
+        cells: &mut [u32],
+        report: &mut [u64],
+    ) -> StepCounts
+        requires { TickFit self.now.nodes.now self.now.figures (length history.old) t (length cells.old) (length report.old) }
+        ensures { TickMoved self.now.nodes.now self.now.figures t history.old flag cells.old report.old result.reported result.live history.new cells.new report.new }
+    {
+        let tick = Tick {
+            nodes: self.nodes,
+            history,
+            flag,
+            t,
+        };
+        let moved = move_rule(&tick, self.figures, cells, report);
+        remember(history, t, flag);
+        moved
+    }
 }

@@ -9,5 +9,5 @@ mod instances;
 mod marks;
 mod stepping;
 
-pub use batch::{BatchAnswer, take_batch};
-pub use stepping::{StepAnswer, take_step, take_tick};
+pub use batch::{BatchCounts, take_batch};
+pub use stepping::{StepCounts, take_step, take_tick};

@@ -3,16 +3,16 @@ ghost use Rattle.instances.specs.Answers.{StepOf, TickOf};
 
 use crate::advance::Tick;
 use crate::instances::move_rule;
-use figure_limits::FigureAnswer;
+use admission::Lent;
 use nodes::TABLE_WORDS;
 use refusal::Refusal;
 use ring::remember;
 
-// How many ticks were reported and how many are live, or why the step was refused.
-#[derive(Clone, Copy)]
-pub enum StepAnswer {
-    Taken(usize, usize),
-    Refused(Refusal),
+// How many ticks a step reported, and how many are live after it.
+#[derive(Clone, Copy, Debug, PartialEq, Eq)]
+pub struct StepCounts {
+    pub reported: usize,
+    pub live: usize,
 }
 
 // Takes the tick of the rule with this body, whose history was opened with `opened` bytes, however many ticks are live, all but storing its byte: the
@@ -25,32 +25,25 @@ pub fn take_tick(
     flag: u8,
     cells: &mut [u32],
     report: &mut [u64],
-) -> StepAnswer
+) -> Result<StepCounts, Refusal>
     ensures { TickOf body.now opened tick flag history.now cells.old report.old result cells.new report.new }
 {
     let mut nodes = [0u32; TABLE_WORDS];
-    let admitted = admission::admit_step(
-        body,
+    let lent = Lent {
         opened,
         tick,
-        history.len(),
-        cells.len(),
-        report.len(),
-        &mut nodes,
-    );
-    match admitted {
-        FigureAnswer::Refused(refusal) => StepAnswer::Refused(refusal),
-        FigureAnswer::Sized(figures) => {
-            let at_hand = Tick {
-                nodes: &nodes,
-                history,
-                flag,
-                t: tick,
-            };
-            let moved = move_rule(&at_hand, figures, cells, report);
-            StepAnswer::Taken(moved.reported, moved.live)
-        }
-    }
+        history: history.len(),
+        table: cells.len(),
+        report: report.len(),
+    };
+    let figures = admission::admit_step(body, lent, &mut nodes)?;
+    let at_hand = Tick {
+        nodes: &nodes,
+        history,
+        flag,
+        t: tick,
+    };
+    Ok(move_rule(&at_hand, figures, cells, report))
 }
 
 // The same, and stores the byte of a tick that was taken.
@@ -62,13 +55,10 @@ pub fn take_step(
     flag: u8,
     cells: &mut [u32],
     report: &mut [u64],
-) -> StepAnswer
+) -> Result<StepCounts, Refusal>
     ensures { StepOf body.now opened tick flag history.old cells.old report.old result history.new cells.new report.new }
 {
-    let answer = take_tick(body, opened, tick, history, flag, cells, report);
-    let StepAnswer::Taken(_, _) = answer else {
-        return answer;
-    };
+    let counts = take_tick(body, opened, tick, history, flag, cells, report)?;
     remember(history, tick, flag);
-    answer
+    Ok(counts)
 }

@@ -13,16 +13,16 @@ use Rattle.instances.proofs.instances.move_ticks.Goals as goal
 
 pub loop-p-init : goal.loop-p-init
 loop-p-init c =
-    (until_none (tree_at c.args.left c.args.nodes.now 0) c.args.count c.args.size c.args.history.now c.args.flag c.args.t c.args.low c.args.table.now c.args.report.now c.requires.low_value, refl)
+    (until_none (tree_at c.args.left c.args.tick.now.nodes.now 0) c.args.slots.count c.args.slots.size c.args.tick.now.history.now c.args.tick.now.flag c.args.tick.now.t c.args.low c.args.table.now c.args.report.now c.requires.low_value, refl)
 
 pub loop-p-preserved : goal.loop-p-preserved
 loop-p-preserved c =
-    let F = tree_at c.args.left c.args.nodes.now 0 in
-    let count = c.args.count in
-    let size = c.args.size in
-    let hist = c.args.history.now in
-    let b = c.args.flag in
-    let t = c.args.t in
+    let F = tree_at c.args.left c.args.tick.now.nodes.now 0 in
+    let count = c.args.slots.count in
+    let size = c.args.slots.size in
+    let hist = c.args.tick.now.history.now in
+    let b = c.args.tick.now.flag in
+    let t = c.args.tick.now.t in
     let low = c.args.low in
     let table₀ = c.args.table.now in
     let report₀ = c.args.report.now in
@@ -43,6 +43,6 @@ loop-p-preserved c =
 pub returns-clause-ticks_moved : goal.returns-clause-ticks_moved
 returns-clause-ticks_moved c =
     let now = c.loop-p in
-    (until_all (tree_at c.args.left c.args.nodes.now 0) c.args.count c.args.size c.args.history.now c.args.flag c.args.t c.args.low c.args.table.now c.args.report.now
+    (until_all (tree_at c.args.left c.args.tick.now.nodes.now 0) c.args.slots.count c.args.slots.size c.args.tick.now.history.now c.args.tick.now.flag c.args.tick.now.t c.args.low c.args.table.now c.args.report.now
     c.requires.low_value c.requires.ticks_fit.some c.requires.ticks_fit.table c.requires.ticks_fit.report
     now.p now.reported now.live now.table now.report (omega (arith, c.loop-p-test.false)) now.invariant.0).0

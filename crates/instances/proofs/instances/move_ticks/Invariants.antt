@@ -7,7 +7,7 @@ use Rattle.instances.proofs.instances.move_ticks.Given as goal
 
 abbrev pub invariant-loop-p : goal.invariant-loop-p
 invariant-loop-p l =
-    MovedUntil (tree_at l.left l.nodes 0) l.count l.size l.history l.flag l.t l.low l.initial.table l.initial.report l.p l.reported l.live l.table l.report × (l.slot ≡ l.p % l.count)
+    MovedUntil (tree_at l.left l.tick.nodes.now 0) l.slots.count l.slots.size l.tick.history.now l.tick.flag l.tick.t l.low l.initial.table l.initial.report l.p l.reported l.live l.table l.report × (l.slot ≡ l.p % l.slots.count)
 
 abbrev pub decreases-loop-p : goal.decreases-loop-p
-decreases-loop-p l = l.t + 1 - l.p
+decreases-loop-p l = l.tick.t + 1 - l.p
