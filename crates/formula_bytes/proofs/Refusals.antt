@@ -22,10 +22,6 @@ require_number false n next = refl
 
 -- ---- the offset
 
-pub offset_low : {w : ℕ} → w ≤ 4095 → nat_abs (signed w) ≤ 4095
-unfolding signed
-offset_low {w} h = simp (lt-ltb w 32768 (omega arith)) h
-
 offset_high : {w : ℕ} → 61441 ≤ w → nat_abs (signed w) ≤ 4095
 unfolding signed
 offset_high {w} h = simp (le-ltb w 32768 (omega arith)) (omega arith)

@@ -18,33 +18,21 @@ const LEAST_NEGATIVE: usize = 65536 - LARGEST_OFFSET;
 fn variable_is_bound(kind: u8, variable: usize, depth: usize) -> bool
     ensures { result ≡ (not (eqb kind 2) || leb variable depth) }
 {
-    if kind == VARIABLE_KIND_BYTE {
-        variable <= depth
-    } else {
-        true
-    }
+    kind != VARIABLE_KIND_BYTE || variable <= depth
 }
 
 // The variable byte of position 0 and infinity is 0.
 fn variable_byte_fits(kind: u8, variable: usize) -> bool
     ensures { result ≡ (eqb kind 2 || eqb variable 0) }
 {
-    if kind == VARIABLE_KIND_BYTE {
-        true
-    } else {
-        variable == 0
-    }
+    kind == VARIABLE_KIND_BYTE || variable == 0
 }
 
 // Infinity has no offset: its 16 bits are 0.
 fn offset_allowed(kind: u8, bits: usize) -> bool
     ensures { result ≡ (not (eqb kind 1) || eqb bits 0) }
 {
-    if kind == INFINITY_KIND_BYTE {
-        bits == 0
-    } else {
-        true
-    }
+    kind != INFINITY_KIND_BYTE || bits == 0
 }
 
 // The offset that the 16 bits say lies from -4,095 to 4,095.
@@ -52,14 +40,11 @@ fn offset_allowed(kind: u8, bits: usize) -> bool
 fn offset_in_range(bits: usize) -> bool
     ensures { result ≡ leb (nat_abs (signed bits)) 4095 }
 {
-    if bits <= LARGEST_OFFSET {
-        return true;
-    }
-    LEAST_NEGATIVE <= bits
+    bits <= LARGEST_OFFSET || LEAST_NEGATIVE <= bits
 }
 
 // The bound whose 4 bytes start at a position, inside `depth` quantifiers.
-#[tactic(auto, using(crate::proofs::Refusals::bound_5))]
+#[tactic(auto, using(crate::proofs::Refusals::bound_5, crate::proofs::Refusals::bound_6, crate::proofs::Refusals::bound_23, crate::proofs::Refusals::bound_24, crate::proofs::Refusals::bound_8, crate::proofs::Refusals::bound_fine))]
 pub(crate) fn bound_check(body: &[u8], at: usize, depth: usize) -> Result<(), Refusal>
     requires { at + 4 ≤ length body.now }
     ensures { number (answer_of result) ≡ head_number (require_bound body.now at depth negate_head) }

@@ -12,6 +12,7 @@ use refusal::Refusal;
 use words::byte_after;
 
 // A flag's variable and flag, inside `depth` quantifiers.
+#[tactic(auto, using(crate::proofs::Refusals::contents_6, crate::proofs::Refusals::contents_7, crate::proofs::Refusals::contents_flag))]
 fn flag_check(body: &[u8], at: usize, depth: usize) -> Result<(), Refusal>
     requires { byte body.now at ≡ 1 }
     ensures { number (answer_of result) ≡ head_number (after_code body.now at depth) }
@@ -35,57 +36,45 @@ fn bounds_check(body: &[u8], at: usize, depth: usize) -> Result<(), Refusal>
 }
 
 // What follows a known code, of which all fixed bytes are there.
+#[tactic(auto, using(crate::proofs::Refusals::contents_plain))]
 fn contents_check(body: &[u8], at: usize, depth: usize) -> Result<(), Refusal>
     requires { (at < length body.now) × (byte body.now at ≡ 5 → at + 9 ≤ length body.now) × (1 ≤ byte body.now at) × (byte body.now at ≤ 5) }
     ensures { number (answer_of result) ≡ head_number (after_code body.now at depth) }
 {
-    let code = body[at];
-    if code == FLAG_CODE_BYTE {
-        return flag_check(body, at, depth);
+    match body[at] {
+        FLAG_CODE_BYTE => flag_check(body, at, depth),
+        FORALL_CODE_BYTE => bounds_check(body, at, depth),
+        _ => Ok(()),
     }
-    if code == FORALL_CODE_BYTE {
-        return bounds_check(body, at, depth);
-    }
-    Ok(())
 }
 
 // How many bytes a formula has before its parts.
+#[tactic(auto, unfolding(rule::specs::Body::fixed))]
 fn fixed_bytes(code: u8) -> usize
     ensures { result ≡ fixed code }
 {
-    if code == FLAG_CODE_BYTE {
-        return 3;
+    match code {
+        FLAG_CODE_BYTE => 3,
+        FORALL_CODE_BYTE => 9,
+        _ => 1,
     }
-    if code == FORALL_CODE_BYTE {
-        return 9;
-    }
-    1
 }
 
 fn code_known(code: u8) -> bool
     ensures { result ≡ (leb 1 code && leb code 5) }
 {
-    if code < FLAG_CODE_BYTE {
-        return false;
-    }
-    code <= FORALL_CODE_BYTE
+    FLAG_CODE_BYTE <= code && code <= FORALL_CODE_BYTE
 }
 
 // It is no 65th formula and no 5th nested quantifier.
 fn formula_fits(code: u8, depth: usize, left: usize) -> bool
     ensures { result ≡ (leb 1 left && (not (eqb code 5) || ltb depth 4)) }
 {
-    if left < 1 {
-        return false;
-    }
-    if code == FORALL_CODE_BYTE {
-        depth < NESTED
-    } else {
-        true
-    }
+    1 <= left && (code != FORALL_CODE_BYTE || depth < NESTED)
 }
 
 // The formula's own bytes at a position, inside `depth` quantifiers and with some formulas left.
+#[tactic(auto, using(crate::proofs::Refusals::head_4, crate::proofs::Refusals::head_5, crate::proofs::Refusals::head_9, crate::proofs::Refusals::head_4b, crate::proofs::Refusals::head_contents))]
 pub fn head_check(body: &[u8], at: usize, depth: usize, left: usize) -> Result<(), Refusal>
     ensures { number (answer_of result) ≡ head_number (head body.now at depth left) }
 {

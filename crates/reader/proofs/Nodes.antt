@@ -1,6 +1,6 @@
 -- A node's words are written one after another, and a formula's words end where its formulas do.
 use Prim.Native.Nat.{ℕ, ◌+◌, ◌*◌, ◌≤◌, ◌<◌}
-use mathlib.Core.Path.{◌≡◌, refl, ◌∙◌}
+use mathlib.Core.Path.{◌≡◌, ◌∙◌}
 use mathlib.Core.Logic.{◌⊎◌, inl, inr}
 use mathlib.Core.List.{List}
 use native.Mathlib.Omega.{arith}
@@ -15,9 +15,6 @@ use Rattle.reader.specs.Written.{head_word}
 abbrev pub Written : List ℕ → ℕ → ℕ → List ℕ → List ℕ → ℕ → Type 0
 Written s at i old new k =
     ((j : ℕ) → j < k → get_or new (i + j) 0 ≡ head_word s at j) × ((j : ℕ) → j < i → get_or new j 0 ≡ get_or old j 0)
-
-pub none_written : (s : List ℕ) (at i : ℕ) (old : List ℕ) → Written s at i old old 0
-none_written s at i old = ((λ j h. absurd (omega arith)), λ j h. refl)
 
 pub one_more : (s : List ℕ) (at i : ℕ) (old new : List ℕ) (k v : ℕ) → i + k < length new → v ≡ head_word s at k → Written s at i old new k → Written s at i old (set new (i + k) v) (k + 1)
 one_more s at i old new k v room e w = (words, λ j h. get_or-set_other new (i + k) j v 0 (λ f. omega arith) ∙ w.1 j h)

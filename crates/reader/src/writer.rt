@@ -6,20 +6,18 @@ use nodes::{FORMULAS, NODE_WORDS, SECOND_PART};
 use words::{byte_after, word_at};
 
 // Word `index` of the node of the formula whose bytes start at a position.
+#[tactic(auto, unfolding(crate::specs::Written::head_word))]
 fn head_word(body: &[u8], at: usize, index: usize) -> u32
     requires { (at < length body.now) × (index < 7) }
     ensures { result ≡ head_word body.now at index }
 {
-    if index < 3 {
-        return byte_after(body, at, index) as u32;
-    }
-    if index == 3 {
-        return word_at(body, at + 3) as u32;
-    }
-    if index == 6 {
-        return word_at(body, at + 7) as u32;
-    }
-    byte_after(body, at, index + 1) as u32
+    let word = match index {
+        0..=2 => byte_after(body, at, index),
+        3 => word_at(body, at + 3),
+        6 => word_at(body, at + 7),
+        _ => byte_after(body, at, index + 1),
+    };
+    word as u32
 }
 
 // Writes a node's words 0 to 6.
@@ -27,10 +25,8 @@ pub(crate) fn write_head(body: &[u8], at: usize, nodes: &mut [u32], node: usize)
     requires { (at < length body.now) × (node + 12 ≤ length nodes.old) }
     ensures { Headed body.now at node nodes.old nodes.new }
 {
-    let mut index: usize = 0;
-    while index < 7 {
+    for index in 0..7 {
         nodes[node + index] = head_word(body, at, index);
-        index += 1;
     }
 }
 

@@ -1,21 +1,11 @@
 -- What a list holds after bytes were stored in it from a position on. Assumes nothing.
-use Prim.Native.Nat.{ℕ, ◌+◌, ◌-◌, ◌≤◌}
+use Prim.Native.Nat.{ℕ, ◌+◌, ◌≤◌}
 use mathlib.Core.Path.{◌≡◌}
-use mathlib.Core.List.{List, ◌++◌, append_assoc, append-nil}
+use mathlib.Core.List.{List, ◌++◌}
 use native.Mathlib.Omega.{arith}
-use lib.ListN.{length, take, drop, length-append, length-drop, drop_of_length-le}
-use lib.Seq.{length-take-le, take_at, drop_at, take_all, take-length, drop-drop}
-use borrow.Rule.Slice.PartMut.{mid_of, put_mid}
+use lib.ListN.{length, take, drop, length-append, length-drop}
+use lib.Seq.{length-take-le, take_at, drop_at}
 use Rattle.words.specs.Words.{splice}
-
-pub copied_in : (out : List ℕ) (at : ℕ) (bytes ys : List ℕ) → at ≤ length out
-    → ys ≡ take (length bytes) bytes ++ drop (length bytes) (mid_of at (length out - at) out)
-    → put_mid at (length out - at) out ys ≡ splice out at bytes
-copied_in out at bytes ys h e =
-    let l : length (drop at out) ≡ length out - at = length-drop at out in
-    let whole : take (length out - at) (drop at out) ≡ drop at out = take_all (length out - at) (drop at out) (omega arith) in
-    let none = drop_of_length-le (drop at out) {i = length out - at} (omega arith) in
-    rw (e, whole, none, take-length bytes, drop-drop (length bytes) at out, append-nil, append_assoc)
 
 module _ (l : List ℕ) (i : ℕ) (vs : List ℕ) (fits : i + length vs ≤ length l) where
   length_head : length (take i l ++ vs) ≡ i + length vs

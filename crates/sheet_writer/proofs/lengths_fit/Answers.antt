@@ -1,35 +1,23 @@
--- `sheet_writer::lengths_fit` meets its contract. The loop's invariant: what is left to find out of the lengths from `index` on decides all.
+-- `sheet_writer::lengths_fit` meets its contract. The loop's invariant: what is left to find out of the lengths from `length-index` on decides all.
 use mathlib.Core.Path.{sym, ◌∙◌}
 use native.Mathlib.Omega.{arith}
-use Rattle.sheet_writer.proofs.Stores.{lengths_on, lengths_low, lengths_high, lengths_end}
+use Rattle.sheet_writer.proofs.Stores.{lengths_on, lengths_outside, lengths_end}
 use Rattle.sheet_writer.proofs.lengths_fit.Goals as goal
 
 pub returns-then-length-lt1 : goal.returns-then-length-lt1
 returns-then-length-lt1 c =
-    let l = c.loop-index in
-    let a = c.args in
-    let e = c.word_value-length.ensures.0 in
-    sym (l.invariant.2 ∙ lengths_low l.sum l.index a.size a.lengths.now c.loop-index-test.true (omega arith))
+    let l = c.loop-length in
+    sym (l.invariant.1 ∙ lengths_outside l.sum l.length-index c.args.size c.args.lengths.now c.loop-length-test.true c.from-length.ensures c.then-length-lt1.either)
 
-pub returns-then-length-gt-MAX_BODY : goal.returns-then-length-gt-MAX_BODY
-returns-then-length-gt-MAX_BODY c =
-    let l = c.loop-index in
-    let a = c.args in
-    let e = c.word_value-length.ensures.0 in
-    sym (l.invariant.2 ∙ lengths_high l.sum l.index a.size a.lengths.now c.loop-index-test.true (omega arith) (omega arith))
-
-pub loop-index-preserved : goal.loop-index-preserved
-loop-index-preserved c =
-    let l = c.loop-index in
-    let a = c.args in
-    let e = c.word_value-length.ensures.0 in (
+pub loop-length-preserved : goal.loop-length-preserved
+loop-length-preserved c =
+    let l = c.loop-length in
+    let e = c.from-length.ensures in (
       omega arith,
-      omega arith,
-      rw e (l.invariant.2 ∙ lengths_on l.sum l.index a.size a.lengths.now c.loop-index-test.true (omega arith) (omega arith)),
+      rw e (l.invariant.1 ∙ lengths_on l.sum l.length-index c.args.size c.args.lengths.now c.loop-length-test.true (omega arith) (omega arith)),
     )
 
 pub returns : goal.returns
 returns c =
-    let l = c.loop-index in
-    let a = c.args in
-    sym (l.invariant.2 ∙ lengths_end l.sum l.index a.size a.lengths.now c.loop-index-test.false)
+    let l = c.loop-length in
+    sym (l.invariant.1 ∙ lengths_end l.sum l.length-index c.args.size c.args.lengths.now (omega arith))

@@ -14,7 +14,6 @@ pub loop-index-init : goal.loop-index-init
 loop-index-init c =
     let a = c.args in
     let ls = a.lengths.now in (
-      omega arith,
       refl,
       refl,
       omega arith,
@@ -30,15 +29,14 @@ loop-index-preserved c =
     let s = length-set a.out.now 0 (length ls) in
     let room : 1 + 4 * l.index + 4 ≤ length l.out = omega arith in
     let more = c.loop-index-test.true in
-    let e = c.word_value-length.ensures.0 in
+    let e = c.from-length.ensures in
     let small = length_most ls c.requires.lengths_len_bound.1 l.index more in
     let p = c.put_entry.ensures in (
-      omega arith,
       refl,
-      ap length p ∙ length_splice l.out (1 + 4 * l.index) (entry l.at c.word_value-length.result) room ∙ l.invariant.2,
+      ap length p ∙ length_splice l.out (1 + 4 * l.index) (entry l.at c.from-length.result) room ∙ l.invariant.1,
       omega arith,
-      rw (p, e) (entries_on l.out ls l.index l.at room more ∙ l.invariant.4),
-      rw (p, e) (rest_on l.out ls l.index l.at room more (set a.out.now 0 (length ls)) l.invariant.5),
+      rw (p, e) (entries_on l.out ls l.index l.at room more ∙ l.invariant.3),
+      rw (p, e) (rest_on l.out ls l.index l.at room more (set a.out.now 0 (length ls)) l.invariant.4),
     )
 
 pub returns : goal.returns
@@ -47,6 +45,6 @@ returns c =
     let a = c.args in
     let ls = a.lengths.now in
     let e : l.index ≡ length ls = omega arith in
-    let t = rw (e, entries_end l.at ls, append-nil) at l.invariant.4 in
-    let d = rw (e, drop-set-lt (1 + 4 * length ls) a.out.now 0 (length ls) (omega arith)) at l.invariant.5 in
+    let t = rw (e, entries_end l.at ls, append-nil) at l.invariant.3 in
+    let d = rw (e, drop-set-lt (1 + 4 * length ls) a.out.now 0 (length ls) (omega arith)) at l.invariant.4 in
     front (table_of_contents ls) l.out a.out.now (1 + 4 * length ls) t d (length_contents ls)

@@ -11,7 +11,7 @@ returns-then-not-entry_fits c =
     let l = c.loop-index in
     let a = c.args in
     let t = sym c.entry_fits.ensures ∙ c.if-not-entry_fits.true in
-    sym (l.invariant.2 ∙ layout_broken a.sheet.now l.index l.at a.count c.loop-index-test.true t)
+    sym (l.invariant.1 ∙ layout_broken a.sheet.now l.index l.at a.count c.loop-index-test.true t)
 
 pub loop-index-preserved : goal.loop-index-preserved
 unfolding extent
@@ -20,13 +20,12 @@ loop-index-preserved c =
     let a = c.args in
     let t = sym c.entry_fits.ensures ∙ c.if-not-entry_fits.false in (
       omega arith,
-      omega arith,
       rw c.word_at-at.ensures.0
-          (l.invariant.2 ∙ layout_on a.sheet.now l.index l.at a.count c.loop-index-test.true t),
+          (l.invariant.1 ∙ layout_on a.sheet.now l.index l.at a.count c.loop-index-test.true t),
     )
 
 pub returns : goal.returns
 returns c =
     let l = c.loop-index in
     let a = c.args in
-    sym (l.invariant.2 ∙ layout_end a.sheet.now l.index l.at a.count c.loop-index-test.false)
+    sym (l.invariant.1 ∙ layout_end a.sheet.now l.index l.at a.count c.loop-index-test.false)

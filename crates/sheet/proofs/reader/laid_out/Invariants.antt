@@ -7,7 +7,4 @@ use Rattle.sheet.proofs.reader.laid_out.Given as goal
 
 abbrev pub invariant-loop-index : goal.invariant-loop-index
 invariant-loop-index l =
-    (l.index ≤ l.count) × (l.at ≤ 1100 + 65536 * l.index) × (laid_out l.count l.sheet 0 (1 + 4 * l.count) ≡ laid_out (l.count - l.index) l.sheet l.index l.at)
-
-abbrev pub decreases-loop-index : goal.decreases-loop-index
-decreases-loop-index l = l.count - l.index
+    (l.at ≤ 1100 + 65536 * l.index) × (laid_out l.count l.sheet 0 (1 + 4 * l.count) ≡ laid_out (l.count - l.index) l.sheet l.index l.at)
