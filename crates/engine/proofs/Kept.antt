@@ -8,6 +8,7 @@ use native.Mathlib.Numerals.{add-one}
 use lib.Dec.{leb}
 use lib.ListN.{length, take}
 use borrow.Author.Tests.{le-leb, lt-leb}
+use Rattle.std.specs.Prelude.{Result, Ok, Err}
 use Rattle.refusal.specs.declared.Refusal.{Refusal}
 use Rattle.refusal.specs.declared.Refusal.TheVariants.{StateNotOpened}
 use Rattle.refusal.specs.Answer.{refused, and_then}
@@ -17,10 +18,8 @@ use Rattle.rule.specs.Figures.{body_figures}
 use Rattle.demand.specs.Contract.{state_at, step_of, batch_of, must, as_21, admit_lengths, StepPromise, BatchPromise}
 use Rattle.demand.proofs.Admission.{step_admitted}
 use Rattle.demand.proofs.Lines.{chain_low}
-use Rattle.instances.specs.declared.stepping.StepAnswer.{StepAnswer}
-use Rattle.instances.specs.declared.stepping.StepAnswer.TheVariants as steps
-use Rattle.instances.specs.declared.batch.BatchAnswer.{BatchAnswer}
-use Rattle.instances.specs.declared.batch.BatchAnswer.TheVariants as batches
+use Rattle.instances.specs.declared.stepping.StepCounts.{StepCounts}
+use Rattle.instances.specs.declared.batch.BatchCounts.{BatchCounts}
 use Rattle.instances.specs.Answers.{step_answer, batch_answer}
 use Rattle.cell_runs.specs.Moves.{Stands}
 use Rattle.instances.specs.Answers.{StepOf, BatchOf}
@@ -49,74 +48,74 @@ module _ (s : code.State) where
 -- ---- one flag byte
 
 module _ (s : code.State) (flag : ℕ) (history cells report : List ℕ) where
-  abbrev StepKept : StepAnswer → code.State → List ℕ → List ℕ → List ℕ → Type 0
+  abbrev StepKept : Result StepCounts Refusal → code.State → List ℕ → List ℕ → List ℕ → Type 0
   StepKept a s' history' cells' report' =
       StepPromise Stands by_value s (step_of (step_answer (state_of s) a) flag history cells report history' cells' report') s'
 
-  pub step_too_long : 512 < s.size → StepKept (steps.Refused StateNotOpened) s history cells report
+  pub step_too_long : 512 < s.size → StepKept (Err StateNotOpened) s history cells report
   unfolding state_of
   step_too_long i = record { keeps = (too_long s i (length history) (length cells) (length report), (refl, refl, refl)); left = refl; goes_on = refl }
 
-  module _ (short : s.size ≤ 512) (a : StepAnswer) (history' cells' report' : List ℕ) where
-    abbrev TookStep : List ℕ → StepAnswer → Type 0
+  module _ (short : s.size ≤ 512) (a : Result StepCounts Refusal) (history' cells' report' : List ℕ) where
+    abbrev TookStep : List ℕ → Result StepCounts Refusal → Type 0
     TookStep b a = StepOf b s.opened s.next flag history cells report a history' cells' report'
 
     module _ (p : TookStep (take s.size s.body) a) where
-      owned : (a' : StepAnswer) → a ≡ a' → TookStep (state_of s).body_bytes a'
+      owned : (a' : Result StepCounts Refusal) → a ≡ a' → TookStep (state_of s).body_bytes a'
       owned a' e = subst (λ (b : List ℕ). TookStep b a') (body_is s short) (subst (TookStep (take s.size s.body)) e p)
 
-      pub step_refused : {x : Refusal} → a ≡ steps.Refused x → StepKept (steps.Refused x) s history' cells' report'
+      pub step_refused : {x : Refusal} → a ≡ Err x → StepKept (Err x) s history' cells' report'
       unfolding state_of
-      step_refused {x} e = record { keeps = owned (steps.Refused x) e s.live; left = refl; goes_on = refl }
+      step_refused {x} e = record { keeps = owned (Err x) e s.live; left = refl; goes_on = refl }
 
-      module _ {n live : ℕ} (e : a ≡ steps.Taken n live) where
-        took : TookStep (state_of s).body_bytes (steps.Taken n live)
-        took = owned (steps.Taken n live) e
+      module _ {counts : StepCounts} (e : a ≡ Ok counts) where
+        took : TookStep (state_of s).body_bytes (Ok counts)
+        took = owned (Ok counts) e
 
         pub tick_left : s.next + 1 ≤ 4611686018427387904
         tick_left =
             let known = step_admitted (state_of s).body_bytes s.opened s.next (length history) (length cells) (length report) (took 0).0 (took 0).1 in
             omega (arith, known.tick_left)
 
-        pub step_taken : (s' : code.State) → s' ≡ moved_code s (s.next + 1) live → StepKept (steps.Taken n live) s' history' cells' report'
+        pub step_taken : StepKept (Ok counts) (moved_code s (s.next + 1) counts.live) history' cells' report'
         unfolding state_of
-        step_taken s' i =
-            let j : s' ≡ moved_code s (suc s.next) live = i ∙ ap (λ (t : ℕ). moved_code s t live) (add-one s.next) in
+        step_taken =
+            let j : ◌≡◌ {A = code.State} (moved_code s (s.next + 1) counts.live) (moved_code s (suc s.next) counts.live) = ap (λ (t : ℕ). moved_code s t counts.live) (add-one s.next) in
             record { keeps = took s.live; left = j; goes_on = ap state_of j }
 
 -- ---- many
 
 module _ (s : code.State) (flags history cells report : List ℕ) where
-  abbrev BatchKept : BatchAnswer → code.State → List ℕ → List ℕ → List ℕ → Type 0
+  abbrev BatchKept : Result BatchCounts Refusal → code.State → List ℕ → List ℕ → List ℕ → Type 0
   BatchKept a s' history' cells' report' =
       BatchPromise Stands by_value s (batch_of (batch_answer (state_of s) a) flags history cells report history' cells' report') s'
 
-  pub batch_too_long : 512 < s.size → BatchKept (batches.Refused StateNotOpened) s history cells report
+  pub batch_too_long : 512 < s.size → BatchKept (Err StateNotOpened) s history cells report
   unfolding state_of
   batch_too_long i = record { keeps = (too_long s i (length history) (length cells) 256, (refl, refl, refl)); left = refl; goes_on = refl }
 
-  module _ (short : s.size ≤ 512) (a : BatchAnswer) (history' cells' report' : List ℕ) where
-    abbrev TookBatch : List ℕ → BatchAnswer → Type 0
+  module _ (short : s.size ≤ 512) (a : Result BatchCounts Refusal) (history' cells' report' : List ℕ) where
+    abbrev TookBatch : List ℕ → Result BatchCounts Refusal → Type 0
     TookBatch b a = BatchOf b s.opened s.next s.live flags history cells report a history' cells' report'
 
     module _ (p : TookBatch (take s.size s.body) a) where
-      batch_owned : (a' : BatchAnswer) → a ≡ a' → TookBatch (state_of s).body_bytes a'
+      batch_owned : (a' : Result BatchCounts Refusal) → a ≡ a' → TookBatch (state_of s).body_bytes a'
       batch_owned a' e = subst (λ (b : List ℕ). TookBatch b a') (body_is s short) (subst (TookBatch (take s.size s.body)) e p)
 
-      pub batch_refused : {x : Refusal} → a ≡ batches.Refused x → BatchKept (batches.Refused x) s history' cells' report'
+      pub batch_refused : {x : Refusal} → a ≡ Err x → BatchKept (Err x) s history' cells' report'
       unfolding state_of
-      batch_refused {x} e = record { keeps = batch_owned (batches.Refused x) e; left = refl; goes_on = refl }
+      batch_refused {x} e = record { keeps = batch_owned (Err x) e; left = refl; goes_on = refl }
 
-      module _ {n pairs live : ℕ} (e : a ≡ batches.Taken n pairs live) where
-        batch_took : TookBatch (state_of s).body_bytes (batches.Taken n pairs live)
-        batch_took = batch_owned (batches.Taken n pairs live) e
+      module _ {counts : BatchCounts} (e : a ≡ Ok counts) where
+        batch_took : TookBatch (state_of s).body_bytes (Ok counts)
+        batch_took = batch_owned (Ok counts) e
 
-        pub ticks_left : s.next + n ≤ 4611686018427387904
+        pub ticks_left : s.next + counts.taken ≤ 4611686018427387904
         ticks_left =
             let known = step_admitted (state_of s).body_bytes s.opened s.next (length history) (length cells) 256 batch_took.0 batch_took.1 in
             let low = chain_low Stands batch_took.0.delay flags report (state_at (state_of s).body_bytes s.opened s.next s.live) history cells (omega (arith, known.tick_left)) batch_took.2.chain in
             omega (arith, low)
 
-        pub batch_taken : (s' : code.State) → s' ≡ moved_code s (s.next + n) live → BatchKept (batches.Taken n pairs live) s' history' cells' report'
+        pub batch_taken : BatchKept (Ok counts) (moved_code s (s.next + counts.taken) counts.live) history' cells' report'
         unfolding state_of
-        batch_taken s' i = record { keeps = batch_took; left = i; goes_on = ap state_of i }
+        batch_taken = record { keeps = batch_took; left = refl; goes_on = refl }

@@ -17,8 +17,7 @@ state_of state =
 unfoldable pub padded : List ℕ → List ℕ
 padded body = body ++ replicate (512 - length body) 0
 
--- The state of an accepted opening; the one beside a refused one, with an empty body, which every step refuses by 21; and one that has come to another
--- next tick and live count.
+-- The state of an accepted opening; one with an empty body, which every step refuses by 21; and one that has come to another next tick and live count.
 abbrev pub fresh_code : List ℕ → ℕ → code.State
 fresh_code body L = record { body = padded body; size = length body; opened = L; next = 0; live = 0 }
 

@@ -5,6 +5,6 @@ mod opening;
 mod state;
 mod stepping;
 
-pub use opening::{OpenAnswer, OpenResult, open};
+pub use opening::open;
 pub use state::State;
-pub use stepping::{BatchResult, StepResult, step, steps};
+pub use stepping::{step, steps};

@@ -1,24 +1,26 @@
 -- `engine::stepping::step` meets its contract.
 use native.Mathlib.Omega.{arith}
-use Rattle.engine.proofs.Kept.{step_too_long, step_refused, tick_left, step_taken}
+use Rattle.refusal.proofs.Answers.{handed_on}
+use Rattle.engine.proofs.Kept.{step_too_long, tick_left, step_refused, step_taken}
 use Rattle.engine.proofs.stepping.step.Goals as goal
 
-pub returns-then-size-gt-MAX_BODY : goal.returns-then-size-gt-MAX_BODY
-returns-then-size-gt-MAX_BODY c =
-    step_too_long c.args.state c.args.flag c.args.history.now c.args.cells.now c.args.report.now c.if-size-gt-MAX_BODY.true
+pub returns-then-state-gt-MAX_BODY : goal.returns-then-state-gt-MAX_BODY
+returns-then-state-gt-MAX_BODY c =
+    step_too_long c.args.state.now c.args.flag c.args.history.now c.args.cells.now c.args.report.now c.if-state-gt-MAX_BODY.true
 
-pub overflow_add-tick : goal.overflow_add-tick
-overflow_add-tick c =
-    let r = c.take_step-answer in
-    let low = tick_left c.args.state c.args.flag c.args.history.now c.args.cells.now c.args.report.now c.if-size-gt-MAX_BODY.false r.result r.new.history r.new.cells r.new.report r.ensures c.in-Taken.is in
+pub returns-in_err-counts : goal.returns-in_err-counts
+returns-in_err-counts c =
+    let r = c.take_step in
+    rw (handed_on c.from_residual.result c.in_err-counts.field-0.0 c.from_residual.ensures)
+    (step_refused c.args.state.now c.args.flag c.args.history.now c.args.cells.now c.args.report.now c.if-state-gt-MAX_BODY.false r.result r.new.history r.new.cells r.new.report r.ensures c.in_err-counts.was)
+
+pub overflow_add-state : goal.overflow_add-state
+overflow_add-state c =
+    let r = c.take_step in
+    let low = tick_left c.args.state.now c.args.flag c.args.history.now c.args.cells.now c.args.report.now c.if-state-gt-MAX_BODY.false r.result r.new.history r.new.cells r.new.report r.ensures c.in_ok-counts.was in
     omega arith
 
-pub returns-in-Refused : goal.returns-in-Refused
-returns-in-Refused c =
-    let r = c.take_step-answer in
-    step_refused c.args.state c.args.flag c.args.history.now c.args.cells.now c.args.report.now c.if-size-gt-MAX_BODY.false r.result r.new.history r.new.cells r.new.report r.ensures c.in-Refused.is
-
-pub returns-in-Taken : goal.returns-in-Taken
-returns-in-Taken c =
-    let r = c.take_step-answer in
-    step_taken c.args.state c.args.flag c.args.history.now c.args.cells.now c.args.report.now c.if-size-gt-MAX_BODY.false r.result r.new.history r.new.cells r.new.report r.ensures c.in-Taken.is c.moved.result c.moved.ensures
+pub returns : goal.returns
+returns c =
+    let r = c.take_step in
+    step_taken c.args.state.now c.args.flag c.args.history.now c.args.cells.now c.args.report.now c.if-state-gt-MAX_BODY.false r.result r.new.history r.new.cells r.new.report r.ensures c.in_ok-counts.was
