@@ -17,8 +17,9 @@ use Rattle.nodes.specs.Nots.{past_nots}
 use Rattle.nodes.proofs.Nodes.{ends, Same, same_bound, frame}
 use Rattle.nodes.proofs.Nots.{over_nots}
 use Rattle.figures.specs.declared.scope.Scope.{Scope}
-use Rattle.figures.specs.declared.measure.Figure.{Figure}
-use Rattle.figures.specs.Distances.{inside, Near, farthest, Modest}
+use Rattle.figures.specs.declared.figure.Figure.{Figure}
+use Rattle.figures.specs.Distances.{Near, farthest, Modest}
+use Rattle.figures.specs.Scopes.{inside}
 use Rattle.figures.specs.Parts.{flag_figure, then_figure, beside_figure, empty_figure, range_figure, FigureOf}
 use Rattle.figures.specs.Measured.{SizesAt, Measured, Promise, Measures}
 use Rattle.figures.proofs.Distances.{modest_larger, modest_delay}
@@ -114,15 +115,6 @@ module _ (old new : List ℕ) (m : ℕ) (ps : List Pair) (start : Size) (f : Fig
   negate_arm left i c p (then F G) e h l n = absurd (omega arith)
   negate_arm left i c p (beside F G) e h l n = absurd (omega arith)
   negate_arm left i c p (forall B C F) e h l n = absurd (omega arith)
-
-pub above_nots : (old new : List ℕ) (left m i : ℕ) (sc : Scope) (start : Size) (f : Figure) (u : Operand) → u ≡ past_nots left old i false
-    → Measures u.left m u.node sc start old new f → Measures left m i sc start old new f
-above_nots old new left m i sc start f u e x =
-    record {
-      small = x.small;
-      modest = x.modest;
-      promise = over_nots old (λ odd n j. Promise n m j (inside sc m) start old new f) (λ odd n j. negate_arm old new m (inside sc m) start f n j) left i false u e x.promise;
-    }
 
 -- ---- the arms with parts
 
@@ -300,3 +292,13 @@ beside_safe f g r e a b = subst Safe (sym e) (omega arith, modest_larger f.delay
 pub range_safe : (R : Pair) (k : Size) (f r : Figure) → r ≡ range_figure R k f → Modest f.delay → Near farthest R.upper → Safe r
 unfolding range_figure
 range_safe R k f r e a b = subst Safe (sym e) (omega arith, modest_larger f.delay (N R.upper) a (modest_delay R.upper b))
+
+-- What measuring the formula u under the nots answers and writes, measuring the one at word i does.
+pub under_nots : (old new : List ℕ) (left i : ℕ) (sc : Scope) (start : Size) (f : Figure) (u : Operand) → u ≡ past_nots left old i false → Safe f
+    → Promise u.left sc.depth u.node (inside sc) start old new f → Measures left i sc start old new f
+under_nots old new left i sc start f u e safe p =
+    record {
+      small = safe.0;
+      modest = safe.1;
+      promise = over_nots old (λ odd n j. Promise n sc.depth j (inside sc) start old new f) (λ odd n j. negate_arm old new sc.depth (inside sc) start f n j) left i false u e p;
+    }

@@ -1,5 +1,5 @@
 -- A body's figures from what reading and measuring it give.
-use Prim.Native.Nat.{ℕ, zero, suc, ◌*◌, ◌≤◌}
+use Prim.Native.Nat.{ℕ, ◌*◌, ◌≤◌}
 use mathlib.Core.Path.{◌≡◌, sym, ap, ◌∙◌, subst}
 use mathlib.Core.List.{List, [], ◌∷◌}
 use Rattle.std.specs.Prelude.{Result, Ok, Err}
@@ -8,9 +8,8 @@ use lib.ListN.{length}
 use Rattle.refusal.specs.Answer.{Answer, refused, accepted, and_then, answer_of}
 use Rattle.rule.specs.Formula.{Formula, formulas}
 use Rattle.rule.specs.Body.{body}
-use Rattle.rule.specs.Figures.{at_tick, anywhere, delay, history, cells, limit_delay, figures, body_figures}
+use Rattle.rule.specs.Figures.{at_tick, delay, history, cells, limit_delay, figures, body_figures}
 use Rattle.rule.specs.declared.Size.TheVariants.{Finite}
-use Rattle.rule.specs.declared.Pair.{Pair}
 use Rattle.rule.specs.declared.Figures.{Figures}
 use Rattle.nodes.proofs.Nodes.{tabled}
 use Rattle.refusal.specs.declared.Refusal.{Refusal}
@@ -18,20 +17,10 @@ use Rattle.reader.specs.Decoded.{TableHolds, Decoded}
 use Rattle.reader.proofs.Told.{refused_body, refused_table, read_formula}
 use Rattle.figure_limits.specs.Answers.{KeptOrCleared, capped_needed}
 use Rattle.figure_limits.proofs.CountedLimits.{capped_limits}
-use Rattle.figures.specs.declared.measure.Figure.{Figure}
-use Rattle.figures.specs.Distances.{AllNear}
+use Rattle.figures.specs.declared.figure.Figure.{Figure}
 use Rattle.figures.specs.Parts.{FigureOf}
 use Rattle.figures.specs.Measured.{Measured, Promise}
 use Rattle.figures.specs.Prepared.{SizedTable, Leaves, Prepared}
-
--- at the start, only variable 0 is there, at the tick
-pub first_within : (ps : List Pair) → ps ≡ at_tick ∷ [] → AllNear 0 ps
-unfolding at_tick anywhere
-first_within ps e = subst (AllNear 0) (sym e) go
-  where
-    go : AllNear 0 (at_tick ∷ [])
-    go zero = (omega arith, omega arith)
-    go (suc v) = (tt, tt)
 
 rule_limited : (F : Formula) (r : Figure) → FigureOf F (at_tick ∷ []) (Finite 0) r → limit_delay r.history r.delay (capped_needed r.delay r.cells) ≡ figures F
 unfolding figures

@@ -1,6 +1,6 @@
 -- How far from the rule's tick the pairs lie, inside at most 4 quantifiers whose offsets have 16 bits: no sum of the code can overflow.
 use Prim.Native.Nat.{ℕ, zero, suc, ◌+◌, ◌*◌, ◌-◌, ◌≤◌, ◌<◌}
-use mathlib.Core.Path.{◌≡◌, sym, subst}
+use mathlib.Core.Path.{◌≡◌, refl, sym, ap, ◌∙◌, subst}
 use mathlib.Core.Logic.{◌⊎◌, inl, inr}
 use mathlib.Core.Bool.{Bool, true, false, cond}
 use mathlib.Core.List.{List, [], ◌∷◌, ◌++◌}
@@ -11,7 +11,7 @@ use lib.IntN.{ℤ, pos, negsuc, nat_abs}
 use borrow.Author.Tests.{le-ltb, lt-ltb}
 use Rattle.rule.specs.Formula.{Bound, origin, infinity, variable}
 use Rattle.rule.specs.Body.{signed}
-use Rattle.rule.specs.Figures.{shift, larger, anywhere, bound_pair, range_pair, N}
+use Rattle.rule.specs.Figures.{shift, larger, anywhere, at_tick, bound_pair, N}
 use Rattle.rule.specs.declared.Limit.{Limit}
 use Rattle.rule.specs.declared.Limit.TheVariants.{Lowest, At, Highest}
 use Rattle.rule.specs.declared.Size.{Size}
@@ -19,10 +19,10 @@ use Rattle.rule.specs.declared.Size.TheVariants.{Finite, Unbounded}
 use Rattle.rule.specs.declared.Pair.{Pair}
 use Rattle.rule.proofs.Order.{by_order}
 use Rattle.nodes.specs.Table.{bound_of, bound_at}
-use Rattle.figures.specs.Distances.{Near, AllNear, farthest, Modest}
-use Rattle.figures.proofs.Numbers.{abs_sum, abs_parts}
+use Rattle.figures.specs.Distances.{Near, NearPair, AllNear, farthest, Modest}
+use Rattle.figures.proofs.Numbers.{bits, bits_are, abs_sum, abs_parts}
 
-pub signed_abs : (w : ℕ) → nat_abs (signed w) ≤ 32768
+signed_abs : (w : ℕ) → nat_abs (signed w) ≤ 32768
 unfolding signed
 signed_abs w = go (by_order 32768 w)
   where
@@ -33,24 +33,29 @@ signed_abs w = go (by_order 32768 w)
     go (inl h) = rw (le-ltb w 32768 h) (high h)
     go (inr h) = rw (lt-ltb w 32768 h) (omega arith)
 
-pub near_more : {b d : ℕ} (l : Limit) → b ≤ d → Near b l → Near d l
-near_more Lowest h n = tt
-near_more (At z) h n = omega arith
-near_more Highest h n = tt
+-- what is read back of an offset's bits
+pub offset_bits : (n : ℤ) (x w : ℕ) → x ≡ w → n ≡ signed x → bits n ≡ signed w
+offset_bits n x w e f = bits_are n (subst (λ (z : ℤ). nat_abs z ≤ 4000000) (sym f) (omega (arith, signed_abs x))) ∙ f ∙ ap signed e
+
+pub offset_near : (n : ℤ) (w : ℕ) → n ≡ signed w → nat_abs (bits n) ≤ farthest
+offset_near n w e = subst (λ (z : ℤ). nat_abs z ≤ farthest) (sym (offset_bits n w w refl e)) (omega (arith, signed_abs w))
+
+near_more : {b d : ℕ} (l : Limit) → b ≤ d → Near b l → Near d l
+near_more l h n = omega arith
 
 near_shift : (b : ℕ) (l : Limit) (n : ℤ) → nat_abs n ≤ 32768 → Near b l → Near (b + 32768) (shift n l)
 unfolding shift
-near_shift b Lowest n h k = tt
+near_shift b Lowest n h k = omega arith
 near_shift b (At z) n h k = omega (arith, abs_sum z n)
-near_shift b Highest n h k = tt
+near_shift b Highest n h k = omega arith
 
 -- a bound with an offset of 16 bits
-abbrev pub Short : Bound → Type 0
+abbrev Short : Bound → Type 0
 Short (origin n) = nat_abs n ≤ 32768
 Short infinity = Unit {0}
 Short (variable v n) = nat_abs n ≤ 32768
 
-pub short_of : (kind v w : ℕ) → Short (bound_of kind v w)
+short_of : (kind v w : ℕ) → Short (bound_of kind v w)
 unfolding bound_of
 short_of kind v w = go (eqb kind 0) (eqb kind 1)
   where
@@ -59,28 +64,34 @@ short_of kind v w = go (eqb kind 0) (eqb kind 1)
     go false true = tt
     go false false = signed_abs w
 
-pub short_at : (ns : List ℕ) (j : ℕ) → Short (bound_at ns j)
+short_at : (ns : List ℕ) (j : ℕ) → Short (bound_at ns j)
 unfolding bound_at
 short_at ns j = short_of (get_or ns (j + 0) 0) (get_or ns (j + 1) 0) (get_or ns (j + 2) 0)
 
-pub near_lower : (b : ℕ) (B : Bound) (ps : List Pair) → Short B → AllNear b ps → Near (b + 32768) (bound_pair B ps).lower
+near_lower : (b : ℕ) (B : Bound) (ps : List Pair) → Short B → AllNear b ps → Near (b + 32768) (bound_pair B ps).lower
 unfolding bound_pair
-near_lower b (origin n) ps h w = tt
-near_lower b infinity ps h w = tt
+near_lower b (origin n) ps h w = omega arith
+near_lower b infinity ps h w = omega arith
 near_lower b (variable v n) ps h w = near_shift b (get_or ps v anywhere).lower n h (w v).0
 
-pub near_upper : (b : ℕ) (B : Bound) (ps : List Pair) → Short B → AllNear b ps → Near (b + 32768) (bound_pair B ps).upper
+near_upper : (b : ℕ) (B : Bound) (ps : List Pair) → Short B → AllNear b ps → Near (b + 32768) (bound_pair B ps).upper
 unfolding bound_pair
 near_upper b (origin n) ps h w = omega arith
-near_upper b infinity ps h w = tt
+near_upper b infinity ps h w = omega arith
 near_upper b (variable v n) ps h w = near_shift b (get_or ps v anywhere).upper n h (w v).1
 
-pub within_more : (b d : ℕ) (ps : List Pair) (r : Pair) → b ≤ d → AllNear b ps → Near d r.lower → Near d r.upper → AllNear d (ps ++ (r ∷ []))
+pub within_more : (b d : ℕ) (ps : List Pair) (r : Pair) → b ≤ d → AllNear b ps → NearPair d r → AllNear d (ps ++ (r ∷ []))
 unfolding anywhere
-within_more b d [] r h w l u zero = (l, u)
-within_more b d [] r h w l u (suc v) = (tt, tt)
-within_more b d (p ∷ ps) r h w l u zero = (near_more p.lower h (w 0).0, near_more p.upper h (w 0).1)
-within_more b d (p ∷ ps) r h w l u (suc v) = within_more b d ps r h (λ x. w (suc x)) l u v
+within_more b d [] r h w n zero = n
+within_more b d [] r h w n (suc v) = (omega arith, omega arith)
+within_more b d (p ∷ ps) r h w n zero = (near_more p.lower h (w 0).0, near_more p.upper h (w 0).1)
+within_more b d (p ∷ ps) r h w n (suc v) = within_more b d ps r h (λ x. w (suc x)) n v
+
+-- at the start, only variable 0 is there, at the tick
+pub first_within : AllNear 0 (at_tick ∷ [])
+unfolding at_tick anywhere
+first_within zero = (omega arith, omega arith)
+first_within (suc v) = (omega arith, omega arith)
 
 -- ---- sizes that are far from what a number can hold
 
@@ -96,22 +107,11 @@ modest_delay Lowest h = omega arith
 modest_delay (At z) h = omega (arith, abs_parts z)
 modest_delay Highest h = tt
 
--- a quantifier's pair lies near the tick
-module _ (ns : List ℕ) (m i : ℕ) (ps : List Pair) (d : m < 4) (w : AllNear (32768 * m) ps) (R : Pair) (e : R ≡ range_pair (bound_at ns (i + 1)) (bound_at ns (i + 4)) ps) where
-  further : 32768 * m + 32768 ≤ 32768 * (m + 1)
-  further = omega arith
-
-  pub lower_near : Near (32768 * (m + 1)) R.lower
-  unfolding range_pair
-  lower_near = subst (λ (p : Pair). Near (32768 * (m + 1)) p.lower) (sym e) (near_more (bound_pair (bound_at ns (i + 1)) ps).lower further (near_lower (32768 * m) (bound_at ns (i + 1)) ps (short_at ns (i + 1)) w))
-
-  pub upper_near : Near (32768 * (m + 1)) R.upper
-  unfolding range_pair
-  upper_near = subst (λ (p : Pair). Near (32768 * (m + 1)) p.upper) (sym e) (near_more (bound_pair (bound_at ns (i + 4)) ps).upper further (near_upper (32768 * m) (bound_at ns (i + 4)) ps (short_at ns (i + 4)) w))
-
-  pub body_begun : (start k : Size) → Modest start → k ≡ larger start (N R.upper) → Modest k
-  body_begun start k b ek =
-      subst Modest (sym ek) (modest_larger start (N R.upper) b (modest_delay R.upper (near_more R.upper (omega arith) upper_near)))
-
-  pub body_within : (ps' : List Pair) → ps' ≡ ps ++ (R ∷ []) → AllNear (32768 * (m + 1)) ps'
-  body_within ps' ep = subst (AllNear (32768 * (m + 1))) (sym ep) (within_more (32768 * m) (32768 * (m + 1)) ps R (omega arith) w lower_near upper_near)
+-- a bound's pair lies at most an offset farther off than the pairs of the variables
+pub bound_near : (ns : List ℕ) (m j : ℕ) (ps : List Pair) → AllNear (32768 * m) ps → (r : Pair) → r ≡ bound_pair (bound_at ns j) ps → NearPair (32768 * (m + 1)) r
+bound_near ns m j ps w r e =
+    let further : 32768 * m + 32768 ≤ 32768 * (m + 1) = omega arith in
+    subst (NearPair (32768 * (m + 1))) (sym e) (
+      near_more (bound_pair (bound_at ns j) ps).lower further (near_lower (32768 * m) (bound_at ns j) ps (short_at ns j) w),
+      near_more (bound_pair (bound_at ns j) ps).upper further (near_upper (32768 * m) (bound_at ns j) ps (short_at ns j) w),
+    )

@@ -1,5 +1,5 @@
-mod Numbers
-mod Distances
+pub mod Numbers
+pub mod Distances
 mod Parts
 mod Arms
 pub mod Bodies

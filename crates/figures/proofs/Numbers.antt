@@ -1,10 +1,8 @@
--- Small signed numbers: what is read back from their bits, sums and differences.
-use Prim.Native.Nat.{ℕ, zero, suc, ◌+◌, ◌*◌, ◌≤◌, ◌<◌}
-use mathlib.Core.Path.{◌≡◌, refl, sym, ap, ◌∙◌, subst}
+-- Small signed numbers: what is read back from their bits, and how large sums and differences are.
+use Prim.Native.Nat.{◌+◌, ◌≤◌}
+use mathlib.Core.Path.{◌≡◌}
 use mathlib.Core.Logic.{◌⊎◌, inl, inr}
-use mathlib.Core.List.{List, [], ◌∷◌}
 use native.Mathlib.Omega.{arith}
-use lib.ListN.{length, get_or}
 use lib.IntN.{ℤ, pos, negsuc, nat_abs, ◌+ℤ◌, ◌-ℤ◌}
 use mir.Syntax.{w64}
 use mir.Val.{SFits, to_z, of_z}
@@ -12,7 +10,6 @@ use mir.ValLaws.{to_z-of_z}
 use Rattle.rule.proofs.Signed.{sum_parts, sub_parts-ℤ, apart}
 use Rattle.rule.specs.Meaning.{raised}
 use Rattle.rule.specs.Positions.{sunk}
-use Rattle.figures.specs.Distances.{farthest}
 
 abbrev pub bits : ℤ → ℤ
 bits z = to_z w64 (of_z w64 z)
@@ -35,38 +32,9 @@ abs_difference a b = go (apart (a -ℤ b))
     go (inl e) = omega (arith, abs_parts a, abs_parts b, abs_parts (a -ℤ b), sub_parts-ℤ a b)
     go (inr e) = omega (arith, abs_parts a, abs_parts b, abs_parts (a -ℤ b), sub_parts-ℤ a b)
 
-pub small_fits : (z : ℤ) → nat_abs z ≤ 4000000 → SFits w64 z
+small_fits : (z : ℤ) → nat_abs z ≤ 4000000 → SFits w64 z
 small_fits (pos n) h = record { sfits = omega arith }
 small_fits (negsuc n) h = record { sfits = omega arith }
 
 pub bits_are : (z : ℤ) → nat_abs z ≤ 4000000 → bits z ≡ z
 bits_are z h = to_z-of_z w64 z (small_fits z h)
-
-pub bits_abs : (z : ℤ) (b : ℕ) → nat_abs z ≤ b → b ≤ 4000000 → nat_abs (bits z) ≤ b
-bits_abs z b h k = subst (λ (y : ℤ). nat_abs y ≤ b) (sym (bits_are z (omega arith))) h
-
-module _ (a b : ℤ) (h : nat_abs a ≤ 2 * farthest) (k : nat_abs b ≤ 2 * farthest) where
-  pub sum_fits : SFits w64 (bits a +ℤ bits b)
-  sum_fits = rw (bits_are a (omega arith), bits_are b (omega arith)) (small_fits (a +ℤ b) (omega (arith, abs_sum a b)))
-
-  pub difference_fits : SFits w64 (bits a -ℤ bits b)
-  difference_fits = rw (bits_are a (omega arith), bits_are b (omega arith)) (small_fits (a -ℤ b) (omega (arith, abs_difference a b)))
-
-  pub sum_is : bits (bits a +ℤ bits b) ≡ a +ℤ b
-  sum_is = to_z-of_z w64 (bits a +ℤ bits b) sum_fits ∙ rw (bits_are a (omega arith), bits_are b (omega arith)) refl
-
-  pub difference_is : bits (bits a -ℤ bits b) ≡ a -ℤ b
-  difference_is = to_z-of_z w64 (bits a -ℤ bits b) difference_fits ∙ rw (bits_are a (omega arith), bits_are b (omega arith)) refl
-
-  -- what a caller reads of the result
-  pub sum_read : {r : ℤ} → r ≡ bits a +ℤ bits b → bits r ≡ a +ℤ b
-  sum_read e = ap bits e ∙ sum_is
-
-  pub difference_read : {r : ℤ} → r ≡ bits a -ℤ bits b → bits r ≡ a -ℤ b
-  difference_read e = ap bits e ∙ difference_is
-
--- an element that is there does not depend on the default
-pub get_d_any {ℓ} : {A : Type ℓ} (l : List A) (v : ℕ) (d e : A) → v < length l → get_or l v d ≡ get_or l v e
-get_d_any [] v d e h = absurd (omega arith)
-get_d_any (x ∷ l) zero d e h = refl
-get_d_any (x ∷ l) (suc v) d e h = get_d_any l v d e (omega arith)

@@ -10,8 +10,17 @@ use Rattle.rule.specs.declared.Pair.{Pair}
 use Rattle.rule.proofs.AlwaysEmpty.{empty_delay, empty_history, empty_cells}
 use Rattle.cell_count.specs.Counts.{cap, then_cells, beside_cells, range_cells}
 use Rattle.cell_count.proofs.Saturation.{cap_then, cap_beside, cap_range}
-use Rattle.figures.specs.declared.measure.Figure.{Figure}
-use Rattle.figures.specs.Parts.{flag_figure, then_figure, beside_figure, empty_figure, range_figure, FigureOf}
+use Rattle.figures.specs.declared.figure.Figure.{Figure}
+use Rattle.figures.specs.Parts.{flag_figure, joined_figure, then_figure, beside_figure, empty_figure, range_figure, FigureOf}
+
+-- two parts' figures are joined with the cells that they need together
+pub then_is : (f g : Figure) {r : Figure} {n : ℕ} → r ≡ joined_figure f g n → n ≡ then_cells f.cells g.cells → r ≡ then_figure f g
+unfolding then_figure
+then_is f g e i = e ∙ ap (joined_figure f g) i
+
+pub beside_is : (f g : Figure) {r : Figure} {n : ℕ} → r ≡ joined_figure f g n → n ≡ beside_cells f.cells g.cells → r ≡ beside_figure f g
+unfolding beside_figure
+beside_is f g e i = e ∙ ap (joined_figure f g) i
 
 pub flag_of : (v k : ℕ) (ps : List Pair) (start : Size) → FigureOf (flag v k) ps start flag_figure
 unfolding flag_figure delay history cells

@@ -1,4 +1,5 @@
 pub mod Distances
+pub mod Scopes
 pub mod Parts
 pub mod Measured
 pub mod Prepared

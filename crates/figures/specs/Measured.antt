@@ -7,8 +7,9 @@ use Rattle.rule.specs.declared.Pair.{Pair}
 use Rattle.nodes.specs.Table.{Holds}
 use Rattle.cell_count.specs.Counts.{cap}
 use Rattle.figures.specs.declared.scope.Scope.{Scope}
-use Rattle.figures.specs.declared.measure.Figure.{Figure}
-use Rattle.figures.specs.Distances.{inside, Modest}
+use Rattle.figures.specs.declared.figure.Figure.{Figure}
+use Rattle.figures.specs.Distances.{Modest}
+use Rattle.figures.specs.Scopes.{inside}
 use Rattle.figures.specs.Parts.{FigureOf}
 
 -- Beside: word 9 is the words of the first part's run. For all: word 8 is the words of one position's slot. Both are made of cells that are
@@ -37,7 +38,7 @@ Promise left depth node ps k old new result =
     (F : Formula) (end : ℕ) → Holds F old depth node end → end ≤ node + 12 * left → end ≤ length old → Measured F ps k depth node end old new result
 
 -- Of any table: the figures are small enough to go on with. Of a table that holds a formula: they are its figures.
-pub record Measures (left depth node : ℕ) (scope : Scope) (k : Size) (old new : List ℕ) (result : Figure) : Type 0 where
+pub record Measures (left node : ℕ) (scope : Scope) (k : Size) (old new : List ℕ) (result : Figure) : Type 0 where
   pub small : result.cells ≤ 4097
   pub modest : Modest result.delay
-  pub promise : Promise left depth node (inside scope depth) k old new result
+  pub promise : Promise left scope.depth node (inside scope) k old new result

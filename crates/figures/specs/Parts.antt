@@ -1,31 +1,26 @@
 -- A formula's figures from its parts', as the code computes them: with cells that are counted up to 4,097.
-use Rattle.std.specs.Prelude.{◌≡◌, List}
+use Rattle.std.specs.Prelude.{ℕ, ◌≡◌, List}
 use Rattle.rule.specs.Formula.{Formula}
 use Rattle.rule.specs.Figures.{larger, N, N_back, width, delay, history, cells}
 use Rattle.rule.specs.declared.Size.{Size}
 use Rattle.rule.specs.declared.Size.TheVariants.{Finite}
 use Rattle.rule.specs.declared.Pair.{Pair}
 use Rattle.cell_count.specs.Counts.{cap, then_cells, beside_cells, range_cells}
-use Rattle.figures.specs.declared.measure.Figure.{Figure}
+use Rattle.figures.specs.declared.figure.Figure.{Figure}
 
 unfoldable pub flag_figure : Figure
 flag_figure = record { delay = Finite 0; history = Finite 0; cells = 0 }
 
+-- Of two parts, with the cells that they need together.
+abbrev pub joined_figure : Figure → Figure → ℕ → Figure
+joined_figure first second cells =
+    record { delay = larger first.delay second.delay; history = larger first.history second.history; cells = cells }
+
 unfoldable pub then_figure : Figure → Figure → Figure
-then_figure first second =
-    record {
-      delay = larger first.delay second.delay;
-      history = larger first.history second.history;
-      cells = then_cells first.cells second.cells;
-    }
+then_figure first second = joined_figure first second (then_cells first.cells second.cells)
 
 unfoldable pub beside_figure : Figure → Figure → Figure
-beside_figure first second =
-    record {
-      delay = larger first.delay second.delay;
-      history = larger first.history second.history;
-      cells = beside_cells first.cells second.cells;
-    }
+beside_figure first second = joined_figure first second (beside_cells first.cells second.cells)
 
 -- A range that is always empty; any other range.
 unfoldable pub empty_figure : Figure

@@ -1,6 +1,7 @@
 // A body's figures: history, delay and cells, or a refusal (4 to 15, 23, 24); and the sizes that the engine needs, written into the node table.
 #![tactic(auto)]
 
+mod figure;
 mod limits;
 mod measure;
 mod scope;

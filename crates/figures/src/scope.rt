@@ -1,91 +1,112 @@
 // The pairs of the variables that are bound at a formula, and the pair that a quantifier gives its own.
-ghost use Rattle.std.specs.Prelude.{◌≡◌, [], ◌∷◌, ◌++◌, ◌+◌, ◌*◌, ◌≤◌, ◌<◌, length, get_or, nat_abs};
-ghost use Rattle.rule.specs.Figures.{bound_pair, range_pair, anywhere};
+ghost use Rattle.std.specs.Prelude.{◌≡◌, [], ◌∷◌, ◌++◌, ◌+◌, ◌*◌, ◌≤◌, ◌<◌, length, get_or, take};
+ghost use Rattle.rule.specs.Figures.{bound_pair, range_pair, anywhere, at_tick};
 ghost use Rattle.nodes.specs.Table.{bound_at};
-ghost use Rattle.figures.specs.Distances.{inside, Near, farthest, AllNear, shift_pair};
+ghost use Rattle.figures.specs.Distances.{NearPair, AllNear};
 
 use crate::limits::shifted;
 use nodes::{
-    BOUND_VARIABLE, FIRST_BOUND, INFINITY_KIND, KIND, OFFSET, ORIGIN_KIND, SECOND_BOUND, node_word,
+    BOUND_VARIABLE, FIRST_BOUND, INFINITY_KIND, KIND, NESTED, OFFSET, ORIGIN_KIND, SECOND_BOUND,
+    node_word,
 };
 use rule::{Limit, Pair};
 use signed::offset_of;
 
-// The pairs of the rule's tick and of at most 4 quantifiers' variables.
+// Variable 0, the rule's tick, and one for each quantifier.
+const VARIABLES: usize = NESTED + 1;
+
+const ANYWHERE: Pair = Pair {
+    lower: Limit::Lowest,
+    upper: Limit::Highest,
+};
+
+// How many quantifiers a formula stands in, and the pairs of the rule's tick and of their variables: each quantifier's lies at most 32,768 farther off.
 #[derive(Clone, Copy)]
 pub(crate) struct Scope {
-    pub(crate) pairs: [Pair; 5],
+    pub(crate) depth: usize,
+    pub(crate) pairs: [Pair; VARIABLES],
+    ghost nested: { depth ≤ 4 },
+    ghost near: { AllNear (32768 * depth) (take (depth + 1) pairs) },
 }
 
-fn shifted_pair(pair: Pair, offset: i64) -> Pair
-    requires { Near farthest pair.lower × (Near farthest pair.upper × (nat_abs offset ≤ farthest)) }
-    ensures { result ≡ shift_pair offset pair }
-{
-    let l = pair.lower;
-    let u = pair.upper;
-    Pair {
-        lower: shifted(l, offset),
-        upper: shifted(u, offset),
-    }
-}
+impl Scope {
+    ghost use Rattle.figures.specs.Scopes.{inside};
 
-// The pair of a variable, inside `depth` quantifiers.
-fn pair_of(scope: Scope, depth: usize, variable: usize) -> Pair
-    requires { depth ≤ 4 }
-    ensures { result ≡ get_or (inside scope depth) variable anywhere }
-{
-    if depth < variable {
-        return Pair {
-            lower: Limit::Lowest,
-            upper: Limit::Highest,
+    // The scope of a rule's formula.
+    #[tactic(auto, unfolding(rule::specs::Figures::at_tick))]
+    pub(crate) fn of_rule() -> Scope
+        ensures depth { result.depth ≡ 0 }
+        ensures tick { inside result ≡ at_tick ∷ [] }
+    {
+        let own_tick = Pair {
+            lower: Limit::At(0),
+            upper: Limit::At(0),
         };
+        Scope {
+            depth: 0,
+            pairs: [own_tick; VARIABLES],
+        }
     }
-    scope.pairs[variable]
-}
 
-// The scope of the body of a quantifier inside `depth` others, whose variable has `pair`.
-pub(crate) fn with_pair(scope: Scope, depth: usize, pair: Pair) -> Scope
-    requires { depth < 4 }
-    ensures { inside result (depth + 1) ≡ inside scope depth ++ (pair ∷ []) }
-{
-    let variable = depth + 1;
-    let mut inner = scope;
-    inner.pairs[variable] = pair;
-    inner
-}
-
-// The pair of the bound whose three words start at word `at`.
-fn pair_at(nodes: &[u32], at: usize, scope: Scope, depth: usize) -> Pair
-    requires { (depth ≤ 4) × AllNear (32768 * depth) (inside scope depth) }
-    ensures { result ≡ bound_pair (bound_at nodes.now at) (inside scope depth) }
-{
-    let kind = node_word(nodes, at, KIND);
-    let offset = offset_of(node_word(nodes, at, OFFSET));
-    if kind == ORIGIN_KIND {
-        return Pair {
-            lower: Limit::Lowest,
-            upper: Limit::At(offset),
-        };
+    // The scope of the body of a quantifier that stands here, whose variable has `pair`.
+    pub(crate) fn with_pair(&self, pair: Pair) -> Scope
+        requires nested { self.now.depth < 4 }
+        requires near { NearPair (32768 * (self.now.depth + 1)) pair }
+        ensures depth { result.depth ≡ self.now.depth + 1 }
+        ensures pairs { inside result ≡ inside self.now ++ (pair ∷ []) }
+    {
+        let depth = self.depth + 1;
+        let mut pairs = self.pairs;
+        pairs[depth] = pair;
+        Scope { depth, pairs }
     }
-    if kind == INFINITY_KIND {
-        return Pair {
-            lower: Limit::Highest,
-            upper: Limit::Highest,
-        };
-    }
-    let variable = node_word(nodes, at, BOUND_VARIABLE) as usize;
-    let pair = pair_of(scope, depth, variable);
-    shifted_pair(pair, offset)
-}
 
-// The pair of the variable of the quantifier whose node starts at word `node`: l of the first bound, u of the second.
-pub(crate) fn range_pair(nodes: &[u32], node: usize, scope: Scope, depth: usize) -> Pair
-    requires { (node < length nodes.now) × ((depth ≤ 4) × AllNear (32768 * depth) (inside scope depth)) }
-    ensures { result ≡ range_pair (bound_at nodes.now (node + 1)) (bound_at nodes.now (node + 4)) (inside scope depth) }
-{
-    let first = pair_at(nodes, node + FIRST_BOUND, scope, depth);
-    let second = pair_at(nodes, node + SECOND_BOUND, scope, depth);
-    let l = first.lower;
-    let u = second.upper;
-    Pair { lower: l, upper: u }
+    // The pair of a variable: one that is not bound here could be anywhere.
+    #[tactic(auto, unfolding(rule::specs::Figures::anywhere))]
+    fn pair_of(&self, variable: usize) -> Pair
+        ensures { result ≡ get_or (inside self.now) variable anywhere }
+    {
+        let bound = &self.pairs[..self.depth + 1];
+        bound.get(variable).copied().unwrap_or(ANYWHERE)
+    }
+
+    // The pair of the bound whose three words start at word `at`.
+    #[tactic(auto, using(crate::proofs::Distances::offset_near, crate::proofs::Distances::offset_bits), unfolding(rule::specs::Figures::bound_pair, nodes::specs::Table::bound_at, nodes::specs::Table::bound_of))]
+    fn pair_at(&self, nodes: &[u32], at: usize) -> Pair
+        ensures { result ≡ bound_pair (bound_at nodes.now at) (inside self.now) }
+    {
+        let offset = offset_of(node_word(nodes, at, OFFSET));
+        match node_word(nodes, at, KIND) {
+            ORIGIN_KIND => Pair {
+                lower: Limit::Lowest,
+                upper: Limit::At(offset),
+            },
+            INFINITY_KIND => Pair {
+                lower: Limit::Highest,
+                upper: Limit::Highest,
+            },
+            _ => {
+                let pair = self.pair_of(node_word(nodes, at, BOUND_VARIABLE) as usize);
+                Pair {
+                    lower: shifted(pair.lower, offset),
+                    upper: shifted(pair.upper, offset),
+                }
+            }
+        }
+    }
+
+    // The pair of the variable of the quantifier whose node starts at word `node`: l of the first bound, u of the second.
+    #[tactic(auto, unfolding(rule::specs::Figures::range_pair))]
+    pub(crate) fn range_pair(&self, nodes: &[u32], node: usize) -> Pair
+        requires { node < length nodes.now }
+        ensures pair { result ≡ range_pair (bound_at nodes.now (node + 1)) (bound_at nodes.now (node + 4)) (inside self.now) }
+        ensures near { NearPair (32768 * (self.now.depth + 1)) result }
+    {
+        let first = self.pair_at(nodes, node + FIRST_BOUND);
+        let second = self.pair_at(nodes, node + SECOND_BOUND);
+        Pair {
+            lower: first.lower,
+            upper: second.upper,
+        }
+    }
 }
