@@ -1,6 +1,6 @@
-// The lines of `watch` on standard output. A function that prints one answers whether it was written whole; where it was not, standard error says why
-// and nothing more may be printed. What is written no contract can say; what a line is, watch_lines says.
-use crate::saying::say_failed;
+// The lines of `watch` on standard output. A function that prints one writes it whole; where that cannot be, standard error is told why, and nothing
+// more may be printed. What is written no contract can say; what a line is, watch_lines says.
+use crate::saying::{Told, say_failed};
 use crate::writing::write_line;
 use refusal::Refusal;
 use rule::Figures;
@@ -23,38 +23,34 @@ fn say_refusal<R: Runtime>(rt: &R, number: u32) {
 }
 
 // The line of a refusal, with its number.
-pub(crate) fn print_refusal<R: Runtime>(rt: &R, refusal: Refusal) -> bool {
+pub(crate) fn print_refusal<R: Runtime>(rt: &R, refusal: Refusal) -> Result<(), Told> {
     let number = refusal::number(refusal);
     say_refusal(rt, number);
-    let mut line = [0u8; 128];
-    let length = watch_lines::refused_line(number as u64, &mut line);
-    write_line(rt, &line[..length])
+    let line = watch_lines::refused_line(u64::from(number));
+    write_line(rt, line.bytes())
 }
 
 // The line of a rule's figures.
-pub(crate) fn print_figures<R: Runtime>(rt: &R, figures: Figures) -> bool {
-    let mut line = [0u8; 128];
-    let length = watch_lines::figures_line(
-        figures.history,
-        figures.delay,
-        figures.cells,
-        &mut line,
-    );
-    write_line(rt, &line[..length])
+pub(crate) fn print_figures<R: Runtime>(rt: &R, figures: Figures) -> Result<(), Told> {
+    let line = watch_lines::figures_line(figures.history, figures.delay, figures.cells);
+    write_line(rt, line.bytes())
 }
 
 // The line of a tick that broke the rule, and of the step that said so.
-pub(crate) fn print_violation<R: Runtime>(rt: &R, tick: u64, step: u64) -> bool {
-    let mut line = [0u8; 128];
-    let length = watch_lines::violation_line(tick, step, &mut line);
-    write_line(rt, &line[..length])
+pub(crate) fn print_violation<R: Runtime>(rt: &R, tick: u64, step: u64) -> Result<(), Told> {
+    let line = watch_lines::violation_line(tick, step);
+    write_line(rt, line.bytes())
 }
 
 // The last line: how many steps and violations there were, and how many ticks are live.
-pub(crate) fn print_end<R: Runtime>(rt: &R, ticks: u64, violations: u64, live: usize) -> bool {
-    let mut line = [0u8; 128];
-    let length = watch_lines::end_line(ticks, violations, live as u64, &mut line);
-    write_line(rt, &line[..length])
+pub(crate) fn print_end<R: Runtime>(
+    rt: &R,
+    ticks: u64,
+    violations: u64,
+    live: usize,
+) -> Result<(), Told> {
+    let line = watch_lines::end_line(ticks, violations, live as u64);
+    write_line(rt, line.bytes())
 }
 
 // Asks for a file on standard output to be kept, once every line is written: a file system may say only now that it could not keep them. What is no file,
@@ -69,12 +65,9 @@ pub(crate) fn close_output<R: Runtime>(rt: &R) {
     let Ok(output) = OpenOptions::new().append(true).open(rt, STANDARD_OUTPUT) else {
         return;
     };
-    match output.sync_data() {
-        Ok(()) => {}
-        Err(error) => {
-            if error.kind() != ErrorKind::InvalidInput {
-                say_failed(rt, "standard output", &error);
-            }
-        }
+    if let Err(error) = output.sync_data()
+        && error.kind() != ErrorKind::InvalidInput
+    {
+        say_failed(rt, "standard output", &error);
     }
 }

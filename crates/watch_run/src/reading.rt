@@ -18,11 +18,8 @@ pub(crate) fn read_some<F: Read>(
     for _ in 0..u64::MAX {
         match from.read(buf) {
             Ok(count) => return Ok(count),
-            Err(error) => {
-                if !is_to_be_repeated(clock, &error) {
-                    return Err(error);
-                }
-            }
+            Err(error) if is_to_be_repeated(clock, &error) => {}
+            Err(error) => return Err(error),
         }
     }
     Err(io::Error::from(ErrorKind::TimedOut))

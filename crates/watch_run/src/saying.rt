@@ -2,6 +2,10 @@
 use std::io;
 use std::rt::Runtime;
 
+// What a function answers that could not go on: standard error has been told why.
+#[derive(Clone, Copy, Debug, PartialEq, Eq)]
+pub(crate) struct Told;
+
 // The system's words of an error, which std gives with its number behind them, as in `Broken pipe (os error 32)`.
 fn words_of(text: &str) -> &str {
     match text.split_once(" (os error ") {
@@ -11,7 +15,7 @@ fn words_of(text: &str) -> &str {
 }
 
 // Says that a call on a file failed and why, as `watch: standard output: Broken pipe`.
-pub(crate) fn say_failed<R: Runtime>(rt: &R, file: &str, error: &io::Error) {
+pub(crate) fn say_failed<R: Runtime>(rt: &R, file: &str, error: &io::Error) -> Told {
     let _ = match format!(in rt.alloc(); "{error}") {
         Ok(text) => {
             let words = words_of(text.as_str());
@@ -19,4 +23,5 @@ pub(crate) fn say_failed<R: Runtime>(rt: &R, file: &str, error: &io::Error) {
         }
         Err(_) => eprintln!(rt; "watch: {file}: {error}"),
     };
+    Told
 }
