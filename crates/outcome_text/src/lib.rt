@@ -1,54 +1,55 @@
-// Outcomes as lines of text, for the programs that run cases. What is written no contract can say: the programs' files `stdout` hold it.
+// Outcomes as lines of text, for the programs that run cases. What the text of an outcome is, specs/Texts.antt says; that a line is written no contract
+// can say: the programs' files `stdout` hold it.
 #![tactic(auto)]
 
-use recording::Evaluated;
+ghost use Rattle.std.specs.Prelude.{Some};
+ghost use Rattle.outcome_text.specs.Texts.{refused_text, shown_text};
+
+use refusal::Refusal;
 use rule::{Outcome, Verdict};
-use std::io;
+use std::{fmt, io};
 
-// Writes bytes as they are.
-pub fn text(out: &impl Print, text: &[u8]) -> io::Result<()> {
-    out.write_all(text)
-}
+// An outcome or a refusal, as `false at 7`, `open` or `refused 16`.
+#[derive(Clone, Copy)]
+pub struct Shown(pub Result<Outcome, Refusal>);
 
-// Writes a number's digits.
-pub fn number(out: &impl Print, value: u64) -> io::Result<()> {
-    out.print(value)
-}
+impl fmt::Display for Shown {
+    ghost output = { λ shown. Some (shown_text shown.0) };
 
-// A name and then bytes, each as a space and two digits.
-pub fn bytes(out: &impl Print, name: &[u8], content: &[u8]) -> io::Result<()> {
-    text(out, name)?;
-    for byte in content {
-        print!(out; " {byte:02x}")?;
-    }
-    text(out, b"\n")
-}
-
-// The outcome of a body at a tick, as `5: false at 7`, `5: open` or `5: refused 16`.
-pub fn outcome(out: &impl Print, body: &[u8], flags: &[u8], tick: usize) -> io::Result<()> {
-    number(out, tick as u64)?;
-    text(out, b": ")?;
-    answer(out, recording::outcome_at(body, flags, tick))?;
-    text(out, b"\n")
-}
-
-fn answer(out: &impl Print, answer: Evaluated) -> io::Result<()> {
-    match answer {
-        Evaluated::Answered(outcome) => match outcome {
-            Outcome::Decided(verdict, step) => decided(out, verdict, step),
-            Outcome::Open => text(out, b"open"),
-        },
-        Evaluated::Refused(why) => {
-            text(out, b"refused ")?;
-            number(out, refusal::number(why) as u64)
+    fn fmt<W: fmt::Write>(&self, f: &mut fmt::Formatter<W>) -> fmt::Result {
+        match self.0 {
+            Ok(Outcome::Decided(Verdict::True, step)) => write!(f, "true at {step}"),
+            Ok(Outcome::Decided(Verdict::False, step)) => write!(f, "false at {step}"),
+            Ok(Outcome::Open) => write!(f, "open"),
+            Err(refusal) => write!(f, "{}", Refused(refusal)),
         }
     }
 }
 
-fn decided(out: &impl Print, verdict: Verdict, step: u64) -> io::Result<()> {
-    match verdict {
-        Verdict::True => text(out, b"true at ")?,
-        Verdict::False => text(out, b"false at ")?,
+// A refusal by its number, as `refused 16`.
+#[derive(Clone, Copy)]
+pub struct Refused(pub Refusal);
+
+impl fmt::Display for Refused {
+    ghost output = { λ refused. Some (refused_text refused.0) };
+
+    fn fmt<W: fmt::Write>(&self, f: &mut fmt::Formatter<W>) -> fmt::Result {
+        let number = refusal::number(self.0);
+        write!(f, "refused {number}")
     }
-    number(out, step)
+}
+
+// A name and then bytes, each as a space and two digits.
+pub fn bytes(out: &impl Print, name: &str, content: &[u8]) -> io::Result<()> {
+    out.print(name)?;
+    for byte in content {
+        print!(out; " {byte:02x}")?;
+    }
+    out.println("")
+}
+
+// The outcome of a body at a tick, as `5: false at 7`, `5: open` or `5: refused 16`.
+pub fn outcome(out: &impl Print, body: &[u8], flags: &[u8], tick: usize) -> io::Result<()> {
+    let shown = Shown(recording::outcome_at(body, flags, tick));
+    println!(out; "{tick}: {shown}")
 }
