@@ -1,40 +1,29 @@
 // Figures of bodies: each refusal from 4 to 15, 23 and 24 at its boundary and just inside it, and the cases of document 01. A case is a name and a body.
 // tests/oracle/figures.py works out the same.
-use figure_limits::FigureAnswer;
-use outcome_text::{number, text};
+use crate::fault::Fault;
+use case_file::read_bytes;
+use outcome_text::Refused;
 use std::io;
 
-fn answer(out: &impl Print, answer: FigureAnswer) -> io::Result<()> {
-    match answer {
-        FigureAnswer::Sized(figures) => {
-            text(out, b"history ")?;
-            number(out, figures.history)?;
-            text(out, b" delay ")?;
-            number(out, figures.delay)?;
-            text(out, b" cells ")?;
-            number(out, figures.cells)
+// A body's figures or refusal.
+fn answer(out: &impl Print, body: &[u8]) -> io::Result<()> {
+    match figures::figures(body) {
+        Ok(figures) => {
+            let history = figures.history;
+            let delay = figures.delay;
+            let cells = figures.cells;
+            println!(out; "history {history} delay {delay} cells {cells}")
         }
-        FigureAnswer::Refused(refusal) => {
-            text(out, b"refused ")?;
-            number(out, refusal::number(refusal) as u64)
-        }
+        Err(refusal) => out.println(Refused(refusal)),
     }
 }
 
 // One line: a body's name and its figures or refusal.
-fn show(out: &impl Print, name: &[u8], body: &[u8]) -> io::Result<()> {
-    text(out, name)?;
-    text(out, b": ")?;
-    answer(out, figures::figures(body))?;
-    text(out, b"\n")
-}
-
-pub(crate) fn take_case(out: &impl Print, line: &[u8]) -> io::Result<()> {
+pub(crate) fn take_case(out: &impl Print, name: &[u8], field: &[u8]) -> Result<(), Fault> {
     let mut space = [0u8; 4096];
-    let body = case_file::read_bytes(case_file::past_bar(line), &mut space);
-    if body.malformed {
-        return case_file::say_malformed(out, line);
-    }
-    let count = body.count;
-    show(out, case_file::name(line), &space[..count])
+    let count = read_bytes(field, &mut space)?;
+    out.write_all(name)?;
+    out.write_all(b": ")?;
+    answer(out, &space[..count])?;
+    Ok(())
 }

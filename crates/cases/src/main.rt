@@ -3,58 +3,53 @@
 #![tactic(auto)]
 
 mod bodies;
+mod fault;
 mod recordings;
 mod sheets;
 
+use case_file::{Malformed, is_case, lines_of, load, say_malformed, split_name};
+use fault::Fault;
 use std::io;
 use std::rt::Runtime;
 
-// What the cases of a file are.
-#[derive(Clone, Copy)]
-enum Kind {
-    Body,
-    Recording,
-    Sheet,
+// A line that is a case, by what takes a case from its name and its fields.
+fn take_line<R: Runtime, F: Fn(&R, &[u8], &[u8]) -> Result<(), Fault>>(
+    rt: &R,
+    take_case: &F,
+    line: &[u8],
+) -> Result<(), Fault>
+    requires { F.IsAlwaysCallable take_case.now }
+{
+    let (name, fields) = split_name(line).ok_or(Malformed)?;
+    take_case(rt, name, fields)
 }
 
-// A case of a kind, a line that has a name.
-fn take_case<R: Runtime>(rt: &R, kind: Kind, line: &[u8]) -> io::Result<()> {
-    match kind {
-        Kind::Body => bodies::take_case(rt, line),
-        Kind::Recording => recordings::take_case(rt, line),
-        Kind::Sheet => sheets::take_case(rt, line),
-    }
-}
-
-// A line of a file.
-fn take_line<R: Runtime>(rt: &R, kind: Kind, line: &[u8]) -> io::Result<()> {
-    if !case_file::is_case(line) {
+// The cases of a file. It says which line is malformed and goes on with the next.
+fn take_file<R: Runtime, F: Fn(&R, &[u8], &[u8]) -> Result<(), Fault>>(
+    rt: &R,
+    take_case: F,
+    name: &[u8],
+) -> io::Result<()>
+    requires { F.IsAlwaysCallable take_case }
+{
+    let mut space = [0u8; 65536];
+    let Some(count) = load(rt, name, &mut space)? else {
         return Ok(());
-    }
-    if case_file::name(line).len() == 0 {
-        return case_file::say_malformed(rt, line);
-    }
-    take_case(rt, kind, line)
-}
-
-fn take_lines<R: Runtime>(rt: &R, kind: Kind, file: &[u8]) -> io::Result<()> {
-    let mut at: usize = 0;
-    while at < file.len() {
-        let line = case_file::line_at(file, at);
-        take_line(rt, kind, line)?;
-        at += line.len() + 1;
+    };
+    for line in lines_of(&space[..count]) {
+        if is_case(line) {
+            match take_line(rt, &take_case, line) {
+                Ok(()) => {}
+                Err(Fault::Malformed) => say_malformed(rt, line)?,
+                Err(Fault::Unwritten(error)) => return Err(error),
+            }
+        }
     }
     Ok(())
 }
 
-fn take_file<R: Runtime>(rt: &R, kind: Kind, name: &[u8]) -> io::Result<()> {
-    let mut space = [0u8; 65536];
-    let count = case_file::load(rt, name, &mut space)?;
-    take_lines(rt, kind, &space[..count])
-}
-
 fn main(rt: HostRuntime) -> io::Result<()> {
-    take_file(&rt, Kind::Body, b"bodies.txt")?;
-    take_file(&rt, Kind::Recording, b"recordings.txt")?;
-    take_file(&rt, Kind::Sheet, b"sheets.txt")
+    take_file(&rt, bodies::take_case, b"bodies.txt")?;
+    take_file(&rt, recordings::take_case, b"recordings.txt")?;
+    take_file(&rt, sheets::take_case, b"sheets.txt")
 }

@@ -1,71 +1,65 @@
 // Outcomes over short recordings, and refused bodies. A case is a name, a body and flag bytes, of which every tick is shown and the one after the end; or
 // these and a tick, which alone is shown. tests/oracle/outcomes.py works out the same.
-use case_file::{has_bar, past_bar, read_bytes, say_malformed, to_bar};
-use outcome_text::{bytes, outcome, text};
+use crate::fault::Fault;
+use case_file::{Malformed, read_bytes, split_bar, split_number};
+use outcome_text::{bytes, outcome};
 use std::io;
 
-// Every tick of a recording, and the one after it.
-fn every_tick(out: &impl Print, name: &[u8], body: &[u8], flags: &[u8]) -> io::Result<()> {
-    text(out, name)?;
-    bytes(out, b"\nbody", body)?;
-    bytes(out, b"flags", flags)?;
-    for tick in 0..flags.len() {
-        outcome(out, body, flags, tick)?;
+// The tick that a field asks for: a number behind a blank, and nothing else.
+fn tick_of(field: &[u8]) -> Result<usize, Malformed> {
+    match field {
+        [_, number @ ..] => match split_number(number) {
+            Some((tick, [])) => Ok(tick),
+            _ => Err(Malformed),
+        },
+        [] => Err(Malformed),
     }
-    outcome(out, body, flags, flags.len())
 }
 
-// One tick.
-fn one_tick(
-    out: &impl Print,
-    name: &[u8],
-    body: &[u8],
-    flags: &[u8],
-    tick: usize,
-) -> io::Result<()> {
-    text(out, name)?;
-    bytes(out, b"\nbody", body)?;
-    outcome(out, body, flags, tick)
+// A name, a body and a recording.
+#[derive(Clone, Copy)]
+struct Case<'a> {
+    name: &'a [u8],
+    body: &'a [u8],
+    flags: &'a [u8],
 }
 
-// What is asked of a recording, which begins the rest of its line: every tick, or the one behind the next bar.
-fn ask(out: &impl Print, line: &[u8], body: &[u8], flags: &[u8], rest: &[u8]) -> io::Result<()> {
-    let name = case_file::name(line);
-    if !has_bar(rest) {
-        return every_tick(out, name, body, flags);
+impl<'a> Case<'a> {
+    // What was asked for: one tick, or every tick and the one after the end.
+    fn show(&self, out: &impl Print, asked: Option<usize>) -> io::Result<()> {
+        out.write_all(self.name)?;
+        bytes(out, "\nbody", self.body)?;
+        match asked {
+            Some(tick) => outcome(out, self.body, self.flags, tick),
+            None => self.show_all(out),
+        }
     }
-    let field = past_bar(rest);
-    let tick = case_file::number_at(field, 1);
-    if tick.end < 2 || tick.end != field.len() {
-        return say_malformed(out, line);
+
+    // The flag bytes and every tick.
+    fn show_all(&self, out: &impl Print) -> io::Result<()> {
+        bytes(out, "flags", self.flags)?;
+        for tick in 0..=self.flags.len() {
+            outcome(out, self.body, self.flags, tick)?;
+        }
+        Ok(())
     }
-    one_tick(out, name, body, flags, tick.value)
 }
 
-// A case, from the fields after its name.
-fn take_fields(out: &impl Print, line: &[u8], body_field: &[u8], rest: &[u8]) -> io::Result<()> {
+pub(crate) fn take_case(out: &impl Print, name: &[u8], fields: &[u8]) -> Result<(), Fault> {
+    let (body_field, rest) = split_bar(fields).ok_or(Malformed)?;
+    let (flag_field, asked) = match split_bar(rest) {
+        Some((flags, tick)) => (flags, Some(tick_of(tick)?)),
+        None => (rest, None),
+    };
     let mut body_space = [0u8; 4096];
-    let body = read_bytes(body_field, &mut body_space);
+    let body_count = read_bytes(body_field, &mut body_space)?;
     let mut flag_space = [0u8; 65536];
-    let flags = read_bytes(to_bar(rest), &mut flag_space);
-    if body.malformed || flags.malformed {
-        return say_malformed(out, line);
-    }
-    let body_count = body.count;
-    let flag_count = flags.count;
-    ask(
-        out,
-        line,
-        &body_space[..body_count],
-        &flag_space[..flag_count],
-        rest,
-    )
-}
-
-pub(crate) fn take_case(out: &impl Print, line: &[u8]) -> io::Result<()> {
-    let fields = past_bar(line);
-    if !has_bar(fields) {
-        return say_malformed(out, line);
-    }
-    take_fields(out, line, to_bar(fields), past_bar(fields))
+    let flag_count = read_bytes(flag_field, &mut flag_space)?;
+    let case = Case {
+        name,
+        body: &body_space[..body_count],
+        flags: &flag_space[..flag_count],
+    };
+    case.show(out, asked)?;
+    Ok(())
 }
