@@ -119,7 +119,7 @@ step_of_false end Open d h l = absurd (omega arith)
 
 module _ (F : Formula) (rec : List ℕ) where
   -- A step is one of the recording.
-  in_recording : (p d : ℕ) → p < length rec → rule F (recorded rec) (length rec - 1) p ≡ Decided False d → d < length rec
+  pub in_recording : (p d : ℕ) → p < length rec → rule F (recorded rec) (length rec - 1) p ≡ Decided False d → d < length rec
   unfolding rule
   in_recording p d l e =
       let w : d ≤ length rec - 1 = within F (recorded rec) (p ∷ []) p (length rec - 1) d False (omega arith) e in

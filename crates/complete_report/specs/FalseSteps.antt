@@ -1,5 +1,5 @@
 -- The violations of a recording by tick: the step of each as a number, where the recording's length, which is no step of it, says that the tick is no violation.
-use Rattle.std.specs.Prelude.{ℕ, zero, suc, cond, List, [], ◌∷◌, ltb, length}
+use Rattle.std.specs.Prelude.{ℕ, zero, suc, cond, List, [], ◌∷◌, ltb, length, Option, Some, None}
 use Rattle.refusal.specs.Answer.{Answer, refused, accepted}
 use Rattle.rule.specs.declared.Verdict.TheVariants.{True, False}
 use Rattle.rule.specs.declared.Outcome.{Outcome}
@@ -25,3 +25,7 @@ false_step F rec tick = answered_step (length rec) (over_recording F rec tick)
 unfoldable pub by_tick : (ℕ → ℕ) → ℕ → ℕ → ℕ → List Violation
 by_tick steps end zero p = []
 by_tick steps end (suc count) p = cond (ltb (steps p) end) (violation (steps p) p ∷ by_tick steps end count (suc p)) (by_tick steps end count (suc p))
+
+-- A step as code has it: none where it is not below `end`.
+abbrev pub step_below : ℕ → ℕ → Option ℕ
+step_below end step = cond (ltb step end) (Some step) None

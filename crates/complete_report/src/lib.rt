@@ -29,31 +29,26 @@ pub enum Comparison {
 pub fn violation_at(list: &[[u64; VIOLATION_WORDS]], index: usize) -> Violation
     ensures { result ≡ get_or (violations_in list.now) index none_lent }
 {
-    if index < list.len() {
-        let words = list[index];
-        return Violation {
-            tick: words[0],
-            step: words[1],
-        };
+    match list.get(index) {
+        Some(&[tick, step]) => Violation { tick, step },
+        None => Violation { tick: 0, step: 0 },
     }
-    Violation { tick: 0, step: 0 }
 }
 
 // Stores a violation at a place of a lent list, and nothing past the end.
 pub fn store_violation(list: &mut [[u64; VIOLATION_WORDS]], index: usize, violation: Violation)
     ensures { violations_in list.new ≡ set (violations_in list.old) index violation }
 {
+    // Kept: with `get_mut` the proof didn't close, since what the list then is has no name that an answer may cite.
     if index < list.len() {
         list[index] = [violation.tick, violation.step];
     }
 }
 
 // Whether the first comes before the second in a report: by step, then by tick.
+#[tactic(auto, unfolding(crate::specs::Order::before))]
 pub fn before(first: Violation, second: Violation) -> bool
     ensures { result ≡ before first second }
 {
-    if first.step == second.step {
-        return first.tick < second.tick;
-    }
-    first.step < second.step
+    (first.step, first.tick) < (second.step, second.tick)
 }

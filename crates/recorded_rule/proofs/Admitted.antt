@@ -1,66 +1,54 @@
 -- What reading a sheet's rule for a recording answers, by what its parts answered.
 use Prim.Native.Nat.{ℕ, ◌+◌, ◌-◌, ◌≤◌, ◌<◌}
 use mathlib.Core.Path.{◌≡◌, refl, sym, ap, ◌∙◌}
-use mathlib.Core.Bool.{cond}
+use mathlib.Core.Bool.{Bool, true, false, cond, ◌&&◌, false≢true}
 use mathlib.Core.List.{List}
-use native.Mathlib.Nat.{add-sub_cancel_left}
-use lib.Dec.{leb}
-use lib.ListN.{length, take, drop}
-use borrow.Author.Tests.{leb-true, le-leb, lt-leb}
+use native.Mathlib.Omega.{arith}
+use lib.Dec.{leb, ltb}
+use lib.ListN.{length}
+use borrow.Author.Tests.{leb-true, le-leb, lt-leb, ltb-true, lt-ltb, le-ltb}
+use Rattle.std.specs.Prelude.{Result, Ok, Err, Option, Some, None}
 use Rattle.refusal.specs.declared.Refusal.{Refusal}
 use Rattle.refusal.specs.Answer.{Answer, refused, accepted, and_then}
 use Rattle.refusal.specs.Numbers.{number_of}
-use Rattle.refusal.proofs.Answers.{both_accepted, passed}
-use Rattle.sheet.specs.Sheet.{rule_place, rule_body, found}
-use Rattle.sheet.specs.declared.reader.Found.{Found}
-use Rattle.sheet.specs.declared.reader.Found.TheVariants as place
-use Rattle.sheet.proofs.Entries.{place_inside, body_at, body_refused}
+use Rattle.refusal.proofs.Answers.{both_accepted, passed, same_value}
+use Rattle.sheet.specs.Sheet.{rule_body}
+use Rattle.rule.specs.declared.Verdict.TheVariants.{True, False}
 use Rattle.rule.specs.declared.Outcome.{Outcome}
+use Rattle.rule.specs.declared.Outcome.TheVariants.{Decided, Open}
 use Rattle.rule.specs.Formula.{Formula}
 use Rattle.rule.specs.Body.{body}
-use Rattle.rule.specs.Recording.{over_recording}
+use Rattle.rule.specs.Meaning.{rule}
+use Rattle.rule.specs.Recording.{recorded, over_recording}
 use Rattle.nodes.specs.Table.{formula_in}
-use Rattle.reader.specs.declared.Reading.{Reading}
-use Rattle.reader.specs.declared.Reading.TheVariants.{Stored, Refused}
 use Rattle.reader.specs.Decoded.{Decoded}
 use Rattle.reader.proofs.Told.{refused_body, read_formula}
-use Rattle.recording.specs.declared.Evaluated.{Evaluated}
-use Rattle.recording.specs.Answers.{outcome_answer}
 use Rattle.complete_report.specs.declared.Violation.{Violation}
 use Rattle.complete_report.specs.Report.{complete, recorded_body, recorded_rule, complete_report}
-use Rattle.complete_report.specs.FalseSteps.{answered_step, false_step}
-
--- ---- a body for a recording
-
-module _ (s rec : List ℕ) {r : Reading} {ns : List ℕ} (d : Decoded s r ns) where
-  pub no_body : {x : Refusal} → r ≡ Refused x → refused (number_of x) ≡ recorded_body s rec
-  unfolding recorded_body and_then
-  no_body e = rw (refused_body d e) refl
-
-  pub too_long : r ≡ Stored → 65535 < length rec → refused 16 ≡ recorded_body s rec
-  unfolding recorded_body and_then
-  too_long e h = let f = read_formula d e in rw (f.1, lt-leb (length rec) 65535 h) refl
-
-  pub short_enough : r ≡ Stored → length rec ≤ 65535 → accepted (formula_in 64 ns 0 0) ≡ recorded_body s rec
-  unfolding recorded_body and_then
-  short_enough e h = let f = read_formula d e in rw (f.1, le-leb (length rec) 65535 h) (ap accepted f.2.is)
+use Rattle.complete_report.specs.FalseSteps.{answered_step, false_step, step_below}
+use Rattle.complete_report.proofs.SaidReport.{in_recording}
+use Rattle.recorded_rule.specs.Violated.{violated_at}
 
 -- ---- a rule of a sheet
 
-module _ (sheet : List ℕ) (index : ℕ) (place_of : Found) (found_is : found place_of ≡ rule_place sheet index) where
-  pub part_inside : {start size : ℕ} → place_of ≡ place.At start size → start + size ≤ length sheet
-  part_inside {start} {size} e = place_inside sheet index start size (sym found_is ∙ ap found e)
-
-  pub read_part : {start size : ℕ} (rec : List ℕ) (a : Answer Formula) → place_of ≡ place.At start size
-      → a ≡ recorded_body (take (start + size - start) (drop start sheet)) rec → a ≡ recorded_rule sheet index rec
+-- What `body_in` answered, as the definition has it.
+module _ (sheet : List ℕ) (index : ℕ) (rec : List ℕ) where
+  pub no_rule : {n : ℕ} → refused n ≡ rule_body sheet index → refused n ≡ recorded_rule sheet index rec
   unfolding recorded_rule and_then
-  read_part {start} {size} rec a e x =
-      rw (body_at sheet index (record { start = start; size = size }) (sym found_is ∙ ap found e))
-      (x ∙ ap (λ (n : ℕ). recorded_body (take n (drop start sheet)) rec) (add-sub_cancel_left start size))
+  no_rule e = rw (sym e) refl
 
-  pub no_rule : {x : Refusal} (rec : List ℕ) → place_of ≡ place.Refused x → refused (number_of x) ≡ recorded_rule sheet index rec
-  unfolding recorded_rule and_then
-  no_rule {x} rec e = rw (body_refused sheet index (number_of x) (sym found_is ∙ ap found e)) refl
+  module _ (s : List ℕ) (found : accepted s ≡ rule_body sheet index) {r : Result (Unit {0}) Refusal} {ns : List ℕ} (d : Decoded s r ns) where
+    pub no_body : {x : Refusal} → r ≡ Err x → refused (number_of x) ≡ recorded_rule sheet index rec
+    unfolding recorded_rule recorded_body and_then
+    no_body e = rw (sym found, refused_body d e) refl
+
+    pub too_long : {u : Unit {0}} → r ≡ Ok u → 65535 < length rec → refused 16 ≡ recorded_rule sheet index rec
+    unfolding recorded_rule recorded_body and_then
+    too_long e h = let f = read_formula d e in rw (sym found, f.1, lt-leb (length rec) 65535 h) refl
+
+    pub short_enough : {u : Unit {0}} → r ≡ Ok u → length rec ≤ 65535 → accepted (formula_in 64 ns 0 0) ≡ recorded_rule sheet index rec
+    unfolding recorded_rule recorded_body and_then
+    short_enough e h = let f = read_formula d e in rw (sym found, f.1, le-leb (length rec) 65535 h) (ap accepted f.2.is)
 
 -- ---- a rule that was read
 
@@ -85,7 +73,33 @@ report_refused sheet index rec number next e = rw (sym e) refl
 
 -- ---- the step at a tick
 
-pub step_answered : (F : Formula) (rec : List ℕ) (tick : ℕ) (a : Evaluated) {b : Answer Outcome} {n : ℕ}
-    → outcome_answer a ≡ over_recording F rec tick → outcome_answer a ≡ b → n ≡ answered_step (length rec) b → n ≡ false_step F rec tick
-unfolding false_step
-step_answered F rec tick a e x y = y ∙ ap (answered_step (length rec)) (sym x ∙ e)
+module _ (F : Formula) (rec : List ℕ) (tick : ℕ) where
+  -- Whatever is no violation has the recording's length for its step, and so none.
+  no_step : (a : Answer Outcome) → a ≡ over_recording F rec tick → answered_step (length rec) a ≡ length rec
+      → None ≡ step_below (length rec) (false_step F rec tick)
+  unfolding false_step
+  no_step a e x = rw (sym e, x, le-ltb (length rec) (length rec) (omega arith)) refl
+
+  -- A violation's step is one of the recording.
+  step_inside : (d : ℕ) → accepted (Decided False d) ≡ over_recording F rec tick → d < length rec
+  unfolding over_recording
+  step_inside d e =
+      let both = passed (leb (length rec) 65535 && ltb tick (length rec)) (accepted (rule F (recorded rec) (length rec - 1) tick)) 16 (Decided False d) (sym e) in
+      in_recording F rec tick d (ltb-true tick (length rec) (second_true (leb (length rec) 65535) (ltb tick (length rec)) both.0)) (same_value both.1)
+    where
+      second_true : (a b : Bool) → (a && b) ≡ true → b ≡ true
+      second_true true b h = h
+      second_true false b h = absurd (false≢true h)
+
+  step_found : (d : ℕ) → accepted (Decided False d) ≡ over_recording F rec tick → Some d ≡ step_below (length rec) (false_step F rec tick)
+  unfolding false_step
+  step_found d e = let l : d < length rec = step_inside d e in rw (sym e, lt-ltb d (length rec) l) refl
+
+  -- By what the evaluator answered.
+  pub step_answered : (o : Outcome) → accepted o ≡ over_recording F rec tick → violated_at o ≡ step_below (length rec) (false_step F rec tick)
+  step_answered (Decided True d) e = no_step (accepted (Decided True d)) e refl
+  step_answered (Decided False d) e = step_found d e
+  step_answered Open e = no_step (accepted Open) e refl
+
+  pub step_refused : {n : ℕ} → refused n ≡ over_recording F rec tick → None ≡ step_below (length rec) (false_step F rec tick)
+  step_refused {n} e = no_step (refused n) e refl

@@ -1,11 +1,12 @@
 -- Violations stored tick by tick: the entries so far, and those of the ticks that are left.
 use Rattle.std.proofs.Common.{◌≡◌, ℕ, zero, suc, ◌+◌, ◌-◌, ◌≤◌, ◌<◌, Bool, true, false, cond, List, [], ◌∷◌, ◌++◌, length, take, drop, refl, sym, ap, ◌∙◌, append_assoc, add-one, arith, length-append}
-use Rattle.std.specs.Prelude.{ltb, set}
+use Rattle.std.specs.Prelude.{ltb, set, Option, Some, None}
 use Rattle.std.proofs.Math.ListN.{length-set}
 use Rattle.std.proofs.lemmas.List.{append-nil, length-take-le, take-append-drop, take_more_set, drop-drop, drop-set-lt}
 use Rattle.complete_report.specs.declared.Violation.{Violation}
 use Rattle.complete_report.specs.Report.{violation, with_front}
-use Rattle.complete_report.specs.FalseSteps.{by_tick}
+use Rattle.complete_report.specs.FalseSteps.{by_tick, step_below}
+use Rattle.recorded_rule.proofs.Below.{below_some, below_none}
 
 -- ---- the ticks that are left
 
@@ -39,16 +40,15 @@ module _ (steps : ℕ → ℕ) (end : ℕ) where
 
   -- ---- how many there are
 
-  pub counted_more : (ticks tick count step more total : ℕ) → tick < ticks → step ≡ steps tick → more ≡ cond (ltb step end) 1 0
-      → count + length (left ticks tick) ≡ total → (more ≤ 1) × (count + more + length (left ticks (tick + 1)) ≡ total)
-  counted_more ticks tick count step more total h s m e =
-      go (ltb (steps tick) end) (m ∙ ap (λ (n : ℕ). cond (ltb n end) 1 0) s) (one_less ticks tick h)
-    where
-      go : (b : Bool) → more ≡ cond b 1 0
-          → left ticks tick ≡ cond b (violation (steps tick) tick ∷ left ticks (tick + 1)) (left ticks (tick + 1))
-          → (more ≤ 1) × (count + more + length (left ticks (tick + 1)) ≡ total)
-      go true k f = (omega arith, omega (arith, ap length f))
-      go false k f = (omega arith, omega (arith, ap length f))
+  with_next : (ticks tick : ℕ) → tick < ticks → (b : Bool) → ltb (steps tick) end ≡ b
+      → left ticks tick ≡ cond b (violation (steps tick) tick ∷ left ticks (tick + 1)) (left ticks (tick + 1))
+  with_next ticks tick h b e = one_less ticks tick h ∙ ap (λ (x : Bool). cond x (violation (steps tick) tick ∷ left ticks (tick + 1)) (left ticks (tick + 1))) e
+
+  pub counted_some : (ticks tick : ℕ) → tick < ticks → ltb (steps tick) end ≡ true → length (left ticks tick) ≡ suc (length (left ticks (tick + 1)))
+  counted_some ticks tick h e = ap length (with_next ticks tick h true e)
+
+  pub counted_none : (ticks tick : ℕ) → tick < ticks → ltb (steps tick) end ≡ false → length (left ticks tick) ≡ length (left ticks (tick + 1))
+  counted_none ticks tick h e = ap length (with_next ticks tick h false e)
 
 -- ---- the entries so far
 
@@ -94,17 +94,14 @@ module _ (steps : ℕ → ℕ) (end ticks : ℕ) (old : List Violation) where
               drop-set-lt (count + 1) list count next (omega arith) ∙ sym (drop-drop 1 count list) ∙ ap (drop 1) so_far.rest ∙ drop-drop 1 count old;
         }
 
-    pub one_collected : tick < ticks → length (by_tick steps end ticks 0) ≤ length list → (step : ℕ) → step ≡ steps tick → (new : List Violation) (more : ℕ)
-        → new ≡ cond (ltb step end) (set list count (violation step tick)) list → more ≡ count + cond (ltb step end) 1 0
-        → Collected steps end ticks old new more (tick + 1)
-    one_collected h k step s new more n m =
-        go (ltb (steps tick) end) (n ∙ ap (λ (e : ℕ). cond (ltb e end) (set list count (violation e tick)) list) s) (m ∙ ap (λ (e : ℕ). count + cond (ltb e end) 1 0) s)
-        (one_less steps end ticks tick h)
-      where
-        go : (b : Bool) → new ≡ cond b (set list count next) list → more ≡ count + cond b 1 0
-            → left steps end ticks tick ≡ cond b (next ∷ left steps end ticks (tick + 1)) (left steps end ticks (tick + 1)) → Collected steps end ticks old new more (tick + 1)
-        go true a b e = rw (a, b) (here e k)
-        go false a b e = let z : more ≡ count = omega arith in rw (a, z) (other e)
+    pub one_collected : tick < ticks → length (by_tick steps end ticks 0) ≤ length list → {step : ℕ} → Some step ≡ step_below end (steps tick)
+        → Collected steps end ticks old (set list count (violation step tick)) (count + 1) (tick + 1)
+    one_collected h k {step} e =
+        let b = below_some end (steps tick) e in
+        rw b.1 (here (with_next steps end ticks tick h true b.0) k)
+
+    pub other_collected : tick < ticks → None ≡ step_below end (steps tick) → Collected steps end ticks old list count (tick + 1)
+    other_collected h e = other (with_next steps end ticks tick h false (below_none end (steps tick) e))
 
     pub all_collected : ticks ≤ tick → (count ≡ length (by_tick steps end ticks 0)) × (list ≡ with_front (by_tick steps end ticks 0) old)
     all_collected h =

@@ -1,21 +1,25 @@
 -- `recorded_rule::read_rule` meets its contract.
 use Rattle.std.proofs.Common.{arith}
-use Rattle.reader.specs.Decoded.{reading_answer}
-use Rattle.recorded_rule.proofs.Admitted.{part_inside, read_part, no_rule}
+use Rattle.refusal.proofs.Answers.{handed_on}
+use Rattle.recorded_rule.proofs.Admitted.{no_rule, no_body, too_long, short_enough}
 use Rattle.recorded_rule.proofs.read_rule.Goals as goal
 
-pub overflow_add-start : goal.overflow_add-start
-overflow_add-start c =
-    let h = part_inside _ _ _ c.find_rule-place.ensures c.in-At.is in
-    omega arith
+pub returns-in_err-body : goal.returns-in_err-body
+returns-in_err-body c =
+    rw (handed_on c.from_residual.result c.in_err-body.field-0.0 c.from_residual.ensures)
+    (no_rule c.args.sheet.now c.args.rule c.args.recording.now c.in_err-body.ensures)
 
-pub slice_bounds-read_recorded-end : goal.slice_bounds-read_recorded-end
-slice_bounds-read_recorded-end c = part_inside _ _ _ c.find_rule-place.ensures c.in-At.is
+pub returns-in_err-read_body : goal.returns-in_err-read_body
+returns-in_err-read_body c =
+    rw (handed_on c.from_residual-in_err-read_body.result c.in_err-read_body.field-0.0 c.from_residual-in_err-read_body.ensures)
+    (no_body c.args.sheet.now c.args.rule c.args.recording.now c.in_ok-body.body.now c.in_ok-body.ensures c.read_body.ensures c.in_err-read_body.was)
 
-pub returns-in-At : goal.returns-in-At
-returns-in-At c =
-    read_part c.args.sheet.now c.args.rule c.find_rule-place.result c.find_rule-place.ensures c.args.recording.now
-    (reading_answer c.read_recorded.result c.read_recorded.new.nodes) c.in-At.is c.read_recorded.ensures
+pub returns-then-recording-gt-MAX_RECORDING : goal.returns-then-recording-gt-MAX_RECORDING
+returns-then-recording-gt-MAX_RECORDING c =
+    too_long c.args.sheet.now c.args.rule c.args.recording.now c.in_ok-body.body.now c.in_ok-body.ensures c.read_body.ensures c.in_ok-read_body.was
+    c.if-recording-gt-MAX_RECORDING.true
 
-pub returns-in-Refused : goal.returns-in-Refused
-returns-in-Refused c = no_rule c.args.sheet.now c.args.rule c.find_rule-place.result c.find_rule-place.ensures c.args.recording.now c.in-Refused.is
+pub returns : goal.returns
+returns c =
+    short_enough c.args.sheet.now c.args.rule c.args.recording.now c.in_ok-body.body.now c.in_ok-body.ensures c.read_body.ensures c.in_ok-read_body.was
+    (omega arith)

@@ -1,5 +1,5 @@
 -- `report_writing::collect` meets its contract: the first `count` entries are the violations of the ticks below `tick`, and those after them are as they were.
-use Rattle.std.proofs.Common.{◌-◌, ◌≤◌, ◌≡◌, length}
+use Rattle.std.proofs.Common.{◌≡◌, length}
 use Rattle.nodes.specs.Table.{formula_in}
 use Rattle.complete_report.specs.Lists.{violations_in}
 use Rattle.complete_report.specs.FalseSteps.{false_step}
@@ -8,8 +8,5 @@ use Rattle.report_writing.proofs.collect.Given as goal
 
 abbrev pub invariant-loop-tick : goal.invariant-loop-tick
 invariant-loop-tick l =
-    (l.tick ≤ length l.recording) × (length l.list ≡ length l.initial.list)
+    (length l.list ≡ length l.initial.list)
     × Collected (false_step (formula_in 64 l.nodes 0 0) l.recording) (length l.recording) (length l.recording) (violations_in l.initial.list) (violations_in l.list) l.count l.tick
-
-abbrev pub decreases-loop-tick : goal.decreases-loop-tick
-decreases-loop-tick l = length l.recording - l.tick
