@@ -4,6 +4,7 @@ use mathlib.Core.Path.{◌≡◌, refl, sym, ap, ◌∙◌}
 use mathlib.Core.List.{List, ◌++◌}
 use lib.ListN.{length, get_or, take, drop, replicate}
 use lib.Seq.{take_at}
+use Rattle.std.specs.Prelude.{Result, Ok, Err}
 use Rattle.refusal.specs.declared.Refusal.{Refusal}
 use Rattle.refusal.specs.Answer.{Answer, refused, accepted}
 use Rattle.refusal.specs.Numbers.{number_of}
@@ -14,34 +15,29 @@ use Rattle.demand.specs.SetContract.{no_rule, rule_state, running_rules, set_fig
 use Rattle.demand.proofs.SetRules.{opened_rules_length, RoomTold, opening_told}
 use Rattle.cell_runs.specs.Moves.{Stands}
 use Rattle.cell_runs.proofs.Rules.{stands_at_start}
-use Rattle.set_admission.specs.declared.sheet_figures.SetFiguresAnswer.{SetFiguresAnswer}
-use Rattle.set_admission.specs.declared.sheet_figures.SetFiguresAnswer.TheVariants as sized
 use Rattle.set_admission.specs.declared.sheet_figures.SetFigures.{SetFigures}
-use Rattle.set_admission.specs.Together.{sums_of, summed, set_figures_answer}
+use Rattle.set_admission.specs.Together.{sums_of, summed}
 use Rattle.set_admission.proofs.Added.{summed_refused, summed_accepted}
 use Rattle.set_admission.proofs.Judged.{Together, together}
-use Rattle.set_opening.specs.declared.SetOpenAnswer.{SetOpenAnswer}
-use Rattle.set_opening.specs.declared.SetOpenAnswer.TheVariants as answer
 use Rattle.set_opening.specs.Opening.{set_open_answer, Openable}
 use Rattle.set_opening.proofs.Writes.{not_begun}
 
--- m records are lent, and the rules are admitted with answer a.
-module _ (s : List ℕ) (records : List Running) (history cells : List ℕ) (m : ℕ) (m_is : length records ≡ m) (a : SetFiguresAnswer)
-    (told_is : set_figures_answer a ≡ summed (admit_set_lengths s (length history) (length cells) m)) where
-  abbrev Promised : SetOpenAnswer → List Running → List ℕ → Type 0
+-- m records are lent.
+module _ (s : List ℕ) (records : List Running) (history cells : List ℕ) (m : ℕ) (m_is : length records ≡ m) where
+  abbrev Promised : Result (Unit {0}) Refusal → List Running → List ℕ → Type 0
   Promised o records' history' = SetOpenPromise Stands (set_opening_of (set_open_answer o s records') s records history cells records' history')
 
   admit_is : (x : Answer (List Figures)) → admit_set_lengths s (length history) (length cells) m ≡ x
       → admit_set_lengths s (length history) (length cells) (length records) ≡ x
   admit_is x e = rw m_is e
 
-  pub open_refused : {x : Refusal} → a ≡ sized.Refused x → Promised (answer.Refused x) records history
-  open_refused {x} e =
-      (admit_is (refused (number_of x)) (summed_refused _ _ (sym (ap set_figures_answer e) ∙ told_is)), (refl, (refl, refl)))
+  pub open_refused : (x : Refusal) → refused (number_of x) ≡ summed (admit_set_lengths s (length history) (length cells) m) → Promised (Err x) records history
+  open_refused x e = (admit_is (refused (number_of x)) (summed_refused _ _ e), (refl, (refl, refl)))
 
-  module _ {sums : SetFigures} (sized_is : a ≡ sized.Sized sums) where
+  -- The rules are admitted, and need this.
+  module _ (sums : SetFigures) (sized_is : accepted sums ≡ summed (admit_set_lengths s (length history) (length cells) m)) where
     admitted : (fs : List Figures) × (admit_set_lengths s (length history) (length cells) m ≡ accepted fs) × (sums ≡ sums_of fs)
-    admitted = summed_accepted _ (sym (ap set_figures_answer sized_is) ∙ told_is)
+    admitted = summed_accepted _ sized_is
 
     abbrev fs : List Figures
     fs = admitted.0
@@ -65,7 +61,7 @@ module _ (s : List ℕ) (records : List Running) (history cells : List ℕ) (m :
 
     pub open_keeps : (records' : List Running) (history' : List ℕ)
         → ((figures : List Figures) → set_figures s ≡ accepted figures → records' ≡ opened_rules s (length history) 0 0 figures ++ drop (length figures) records)
-        → history' ≡ replicate (length history) 0 → Promised answer.Opened records' history'
+        → history' ≡ replicate (length history) 0 → Promised (Ok tt) records' history'
     open_keeps records' history' written zeroed =
         let given = running_rules s records' in
         let opened = opened_rules s (length history) 0 0 fs in

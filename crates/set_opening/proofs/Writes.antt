@@ -1,17 +1,20 @@
 -- The records of an opening, one after another.
-use Prim.Native.Nat.{ℕ, zero, suc, ◌+◌, ◌*◌, ◌≤◌, ◌<◌}
+use Prim.Native.Nat.{ℕ, zero, suc, ◌+◌, ◌*◌, ◌-◌, ◌≤◌, ◌<◌}
 use mathlib.Core.Path.{◌≡◌, refl, sym, ap, ◌∙◌}
 use mathlib.Core.List.{List, [], ◌∷◌, ◌++◌, append_assoc}
 use native.Mathlib.Omega.{arith}
-use native.Mathlib.Nat.{add-zero, zero-add}
+use native.Mathlib.Nat.{add-zero, zero-add, add-sub_cancel_left}
 use lib.ListN.{length, get_or, take, drop, set}
 use lib.Seq.{take-suc, take_all, drop-cons, set_at, length-take-le}
-use Rattle.refusal.specs.Answer.{accepted, and_then}
+use Rattle.std.specs.Prelude.{Result, Ok}
+use Rattle.std.specs.Result.{ResultUnwrapsOrElse}
+use Rattle.refusal.specs.declared.Refusal.{Refusal}
+use Rattle.refusal.specs.Answer.{refused, accepted, and_then}
+use Rattle.refusal.proofs.Answers.{not_accepted, same_value}
 use Rattle.words.specs.Words.{Bytes, word}
-use Rattle.sheet.specs.declared.reader.Found.{Found}
-use Rattle.sheet.specs.declared.reader.Found.TheVariants as place
-use Rattle.sheet.specs.Sheet.{rule_count, body_offset, extent, BodyPlace, rule_place, rule_body, found}
-use Rattle.sheet.proofs.Entries.{place_told}
+use Rattle.sheet.specs.declared.reader.BodyPlace.{BodyPlace}
+use Rattle.sheet.specs.Sheet.{rule_count, body_offset, extent, rule_place, rule_body}
+use Rattle.sheet.proofs.Entries.{place_told, place_inside, body_at, body_refused}
 use Rattle.rule.specs.declared.Figures.{Figures}
 use Rattle.rule.specs.Figures.{body_figures}
 use Rattle.demand.specs.declared.Running.{Running}
@@ -25,23 +28,46 @@ use Rattle.set_admission.proofs.Judged.{Together}
 
 -- ---- one record
 
-module _ (s : List ℕ) (i : ℕ) (p : Found) (found_is : found p ≡ rule_place s i) {start size : ℕ} (at_is : p ≡ place.At start size) where
-  place_is : (start ≡ body_offset s i) × (size ≡ extent s i)
-  place_is =
-      let t = place_told s i (record { start = start; size = size }) (sym found_is ∙ ap found at_is) in
-      (ap (λ (q : BodyPlace). q.start) t.1, ap (λ (q : BodyPlace). q.size) t.1)
+module _ (s : List ℕ) (i : ℕ) where
+  -- What a place that is refused gives: no figures.
+  pub no_place : {A : Type 0} (n : ℕ) (f : Figures) → refused n ≡ rule_place s i → and_then (rule_body s i) body_figures ≡ accepted f → A
+  unfolding and_then
+  no_place n f e h = absurd (not_accepted (rw (body_refused s i n (sym e)) at h))
 
-  pub small_place : Bytes s → (start < 65536) × (size < 65536)
-  unfolding body_offset extent word
-  small_place b =
-      let o = 1 + 4 * i in
-      let e = 3 + 4 * i in
-      (omega (arith, place_is.0, b o, b (o + 1)), omega (arith, place_is.1, b e, b (e + 1)))
+  module _ (place : BodyPlace) (place_is : accepted place ≡ rule_place s i) where
+    pub place_ends : place.start + place.size ≤ length s
+    place_ends = place_inside s i place.start place.size (sym place_is)
 
-  pub opened_here : (L first : ℕ) (g f : Figures) → g ≡ f
-      → record { start = start; size = size; first = first; cells = g.cells; delay = g.delay; opened = L; next = 0; live = 0 }
-      ≡ opened_rule s L i first f
-  opened_here L first g f e = rw (place_is.0, place_is.1, e) refl
+    -- The figures of its body.
+    figures_here : (f : Figures) → and_then (rule_body s i) body_figures ≡ accepted f → body_figures (take (place.start + place.size - place.start) (drop place.start s)) ≡ accepted f
+    unfolding and_then
+    figures_here f h = rw add-sub_cancel_left (rw (body_at s i place (sym place_is)) at h)
+
+    pub no_figures_here : {A : Type 0} (n : ℕ) (f : Figures) → refused n ≡ body_figures (take (place.start + place.size - place.start) (drop place.start s))
+        → and_then (rule_body s i) body_figures ≡ accepted f → A
+    no_figures_here n f e h = absurd (not_accepted (e ∙ figures_here f h))
+
+    fields : (place.start ≡ body_offset s i) × (place.size ≡ extent s i)
+    fields =
+        let t = place_told s i place (sym place_is) in
+        (ap (λ (q : BodyPlace). q.start) t.1, ap (λ (q : BodyPlace). q.size) t.1)
+
+    pub small_place : Bytes s → (place.start < 65536) × (place.size < 65536)
+    unfolding body_offset extent word
+    small_place b =
+        let o = 1 + 4 * i in
+        let e = 3 + 4 * i in
+        (omega (arith, fields.0, b o, b (o + 1)), omega (arith, fields.1, b e, b (e + 1)))
+
+    pub opened_here : (L first : ℕ) (g f : Figures) → accepted g ≡ body_figures (take (place.start + place.size - place.start) (drop place.start s))
+        → and_then (rule_body s i) body_figures ≡ accepted f
+        → record { start = place.start; size = place.size; first = first; cells = g.cells; delay = g.delay; opened = L; next = 0; live = 0 }
+        ≡ opened_rule s L i first f
+    opened_here L first g f here h = rw (fields.0, fields.1, same_value (here ∙ figures_here f h)) refl
+
+-- The rule of an answer that is one.
+pub unwrapped : (r : Result Running Refusal) (P : Running → Type 0) (rule x : Running) → ResultUnwrapsOrElse r P rule → r ≡ Ok x → rule ≡ x
+unwrapped r P rule x h e = rw e at h
 
 -- ---- one record more
 

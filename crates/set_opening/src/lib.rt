@@ -1,71 +1,37 @@
 // Opening a set: all the rules of a sheet over one history and one cell table, with a record for each.
 #![tactic(auto)]
 
-ghost use Rattle.std.specs.Prelude.{◌≡◌, List, ◌++◌, ◌≤◌, length, drop};
+ghost use Rattle.std.specs.Prelude.{◌≡◌, List, ◌++◌, ◌≤◌, length, drop, Ok};
 ghost use Rattle.refusal.specs.Answer.{accepted, and_then};
 ghost use Rattle.sheet.specs.Sheet.{rule_body};
 ghost use Rattle.rule.specs.declared.Figures.{Figures};
 ghost use Rattle.rule.specs.Figures.{body_figures};
-ghost use Rattle.demand.specs.SetContract.{no_rule, set_figures, opened_rule, opened_rules, set_opening_of, SetOpenPromise};
+ghost use Rattle.demand.specs.SetContract.{set_figures, opened_rule, opened_rules, set_opening_of, SetOpenPromise};
 ghost use Rattle.cell_runs.specs.Moves.{Stands};
 ghost use Rattle.running.specs.Records.{rules_in};
 ghost use Rattle.set_opening.specs.Opening.{set_open_answer, Openable};
 
 use demand::Running;
-use figure_limits::FigureAnswer;
 use refusal::Refusal;
 use running::{RECORD_WORDS, store_rule};
-use set_admission::SetFiguresAnswer;
-use sheet::Found;
-
-// Whether the set was opened.
-#[derive(Clone, Copy)]
-pub enum SetOpenAnswer {
-    Opened,
-    Refused(Refusal),
-}
-
-// The record that stands for none.
-fn no_rule() -> Running
-    ensures { result ≡ no_rule }
-{
-    Running {
-        start: 0,
-        size: 0,
-        first: 0,
-        cells: 0,
-        delay: 0,
-        opened: 0,
-        live: 0,
-        next: 0,
-    }
-}
 
 // The record of rule `index`, whose cells begin at `first`, over a history of `opened` bytes.
-fn opened_rule(sheet: &[u8], index: usize, first: usize, opened: usize) -> Running
+fn opened_rule(sheet: &[u8], index: usize, first: usize, opened: usize) -> Result<Running, Refusal>
     requires { (first ≤ 4096) × (opened ≤ 4096) }
-    ensures { (figures : Figures) → and_then (rule_body sheet.now index) body_figures ≡ accepted figures → result ≡ opened_rule sheet.now opened index first figures }
+    ensures { (figures : Figures) → and_then (rule_body sheet.now index) body_figures ≡ accepted figures → result ≡ Ok (opened_rule sheet.now opened index first figures) }
 {
-    let place = sheet::find_rule(sheet, index);
-    match place {
-        Found::Refused(_) => no_rule(),
-        Found::At { start, size } => {
-            let answer = figures::figures(&sheet[start..start + size]);
-            match answer {
-                FigureAnswer::Refused(_) => no_rule(),
-                FigureAnswer::Sized(figures) => Running {
-                    start: start as u32,
-                    size: size as u32,
-                    first: first as u32,
-                    cells: figures.cells as u32,
-                    delay: figures.delay as u16,
-                    opened: opened as u16,
-                    live: 0,
-                    next: 0,
-                },
-            }
-        }
-    }
+    let place = sheet::find_rule(sheet, index)?;
+    let figures = figures::figures(&sheet[place.start..place.start + place.size])?;
+    Ok(Running {
+        start: place.start as u32,
+        size: place.size as u32,
+        first: first as u32,
+        cells: figures.cells as u32,
+        delay: figures.delay as u16,
+        opened: opened as u16,
+        live: 0,
+        next: 0,
+    })
 }
 
 // Writes the records of the sheet's `count` rules, over a history of `opened` bytes.
@@ -74,12 +40,10 @@ fn write_rules(sheet: &[u8], records: &mut [[u32; RECORD_WORDS]], count: usize, 
     ensures { (figures : List Figures) → set_figures sheet.now ≡ accepted figures → rules_in records.new ≡ opened_rules sheet.now opened 0 0 figures ++ drop (length figures) (rules_in records.old) }
 {
     let mut first: usize = 0;
-    let mut index: usize = 0;
-    while index < count {
-        let rule = opened_rule(sheet, index, first, opened);
+    for index in 0..count {
+        let rule = opened_rule(sheet, index, first, opened).unwrap_or_default();
         store_rule(records, index, rule);
         first += rule.cells as usize;
-        index += 1;
     }
 }
 
@@ -90,16 +54,11 @@ pub fn open(
     records: &mut [[u32; RECORD_WORDS]],
     history: &mut [u8],
     cells: &[u32],
-) -> SetOpenAnswer
+) -> Result<(), Refusal>
     ensures { SetOpenPromise Stands (set_opening_of (set_open_answer result sheet.now (rules_in records.new)) sheet.now (rules_in records.old) history.old cells.now (rules_in records.new) history.new) }
 {
-    let answer = set_admission::admit_set(sheet, history.len(), cells.len(), records.len());
-    match answer {
-        SetFiguresAnswer::Refused(refusal) => SetOpenAnswer::Refused(refusal),
-        SetFiguresAnswer::Sized(sums) => {
-            write_rules(sheet, records, sums.rules, history.len());
-            ring::zero(history);
-            SetOpenAnswer::Opened
-        }
-    }
+    let sums = set_admission::admit_set(sheet, history.len(), cells.len(), records.len())?;
+    write_rules(sheet, records, sums.rules, history.len());
+    ring::zero(history);
+    Ok(())
 }

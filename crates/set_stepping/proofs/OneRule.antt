@@ -1,10 +1,13 @@
 -- One rule of a set takes its tick: from what a tick of the rule by itself promises, on the part of the cells and of the report that it is lent.
 use Prim.Native.Nat.{ℕ, ◌+◌, ◌*◌, ◌≤◌}
-use mathlib.Core.Path.{◌≡◌, sym, ap, subst, ◌∙◌}
+use mathlib.Core.Path.{◌≡◌, refl, sym, ap, subst, ◌∙◌}
 use mathlib.Core.List.{List, ◌++◌}
 use native.Mathlib.Omega.{arith}
 use lib.ListN.{length, take, drop, length-append, length-drop, take-append-drop}
 use lib.Seq.{length-take-le, take-append-le, drop-append-le, drop-drop}
+use Rattle.std.specs.Prelude.{Result, Ok, Err}
+use Rattle.std.specs.Result.{result_unwrap_or}
+use Rattle.refusal.specs.declared.Refusal.{Refusal}
 use Rattle.refusal.specs.Answer.{accepted}
 use Rattle.refusal.proofs.Answers.{not_accepted, same_value}
 use Rattle.rule.specs.declared.Figures.{Figures}
@@ -14,10 +17,9 @@ use Rattle.demand.specs.SetContract.{body_at, rule_state, own_cells, next_rule, 
 use Rattle.demand.proofs.SetTicks.{ticked}
 use Rattle.cell_runs.specs.Moves.{Stands}
 use Rattle.cell_runs.specs.States.{taken_from}
-use Rattle.instances.specs.declared.stepping.StepAnswer.{StepAnswer}
-use Rattle.instances.specs.declared.stepping.StepAnswer.TheVariants as steps
+use Rattle.instances.specs.declared.stepping.StepCounts.{StepCounts}
 use Rattle.instances.specs.Answers.{step_answer, history_after, TickOf}
-use Rattle.set_stepping.specs.Moves.{RuleFit, RuleMoved, ticks_taken, live_taken}
+use Rattle.set_stepping.specs.Moves.{RuleFit, RuleMoved}
 
 module _ (sheet : List ℕ) (rule : Running) (history : List ℕ) (flag : ℕ) (cells report : List ℕ) (fit : RuleFit sheet rule (length history) (length cells) (length report)) where
   abbrev half : ℕ
@@ -33,24 +35,25 @@ module _ (sheet : List ℕ) (rule : Running) (history : List ℕ) (flag : ℕ) (
   words_long : length (take half report) ≡ half
   words_long = length-take-le half report (omega (arith, fit.report_fits))
 
-  abbrev made : StepAnswer → List ℕ → List ℕ → Step
+  abbrev made : Result StepCounts Refusal → List ℕ → List ℕ → Step
   made answer own words =
       step_of (step_answer state answer) flag history (own_cells rule cells) (take half report)
       (history_after rule.opened rule.next flag history (step_answer state answer)) own words
 
-  admits : (answer : StepAnswer) (own words : List ℕ) → admit_step state (made answer own words) ≡ accepted (needs sheet rule)
+  admits : (answer : Result StepCounts Refusal) (own words : List ℕ) → admit_step state (made answer own words) ≡ accepted (needs sheet rule)
   admits answer own words = rw (own_long, words_long) fit.admitted
 
   -- What the tick of the rule by itself gives.
   record Alone (own words : List ℕ) (reported live : ℕ) : Type 0 where
-    takes : Takes Stands state (made (steps.Taken reported live) own words) (needs sheet rule) (taken_from state reported live)
+    takes : Takes Stands state (made (Ok (record { reported = reported; live = live })) own words) (needs sheet rule) (taken_from state reported live)
 
-  alone : (answer : StepAnswer) (own words : List ℕ)
-      → Stepped Stands state (made answer own words) (step_answer state answer) → Alone own words (ticks_taken answer) (live_taken answer)
-  alone (steps.Refused refusal) own words (number, same) = absurd (not_accepted (sym number ∙ admits (steps.Refused refusal) own words))
-  alone (steps.Taken reported live) own words (figures, yes', takes) =
-      let same : figures ≡ needs sheet rule = same_value (sym yes' ∙ admits (steps.Taken reported live) own words) in
-      record { takes = subst (λ (f : Figures). Takes Stands state (made (steps.Taken reported live) own words) f (taken_from state reported live)) same takes }
+  -- It was not refused.
+  alone : (answer : Result StepCounts Refusal) (own words : List ℕ) → Stepped Stands state (made answer own words) (step_answer state answer)
+      → (counts : StepCounts) × (answer ≡ Ok counts) × Alone own words counts.reported counts.live
+  alone (Err refusal) own words (number, same) = absurd (not_accepted (sym number ∙ admits (Err refusal) own words))
+  alone (Ok counts) own words (figures, yes', takes) =
+      let same : figures ≡ needs sheet rule = same_value (sym yes' ∙ admits (Ok counts) own words) in
+      (counts, refl, record { takes = subst (λ (f : Figures). Takes Stands state (made (Ok counts) own words) f (taken_from state counts.reported counts.live)) same takes })
 
   module _ (own words : List ℕ) (reported live : ℕ) (a : Alone own words reported live) (long : length own ≡ length (own_cells rule cells)) where
     few_reported : reported ≤ half
@@ -81,7 +84,7 @@ module _ (sheet : List ℕ) (rule : Running) (history : List ℕ) (flag : ℕ) (
 
     tick_taken : Ticked Stands state (needs sheet rule) flag history (own_cells rule cells) own ticks (rule_state sheet (next_rule rule live))
     tick_taken =
-        ticked Stands state (made (steps.Taken reported live) own words) (needs sheet rule) (taken_from state reported live) (omega (arith, own_long, fit.cells_are)) a.takes
+        ticked Stands state (made (Ok (record { reported = reported; live = live })) own words) (needs sheet rule) (taken_from state reported live) (omega (arith, own_long, fit.cells_are)) a.takes
 
     moved : (index : ℕ) (cells' report' : List ℕ) → cells' ≡ take (4 * rule.first) cells ++ (own ++ drop (4 * rule.cells) (drop (4 * rule.first) cells))
         → report' ≡ numbered index (take reported (words ++ drop half report)) ++ drop (2 * reported) (words ++ drop half report)
@@ -105,24 +108,28 @@ module _ (sheet : List ℕ) (rule : Running) (history : List ℕ) (flag : ℕ) (
 
 -- ---- for the function
 
+-- The counts of a tick that was not refused are those that are read off its answer.
+taken_off : (answer : Result StepCounts Refusal) (none counts read : StepCounts) → answer ≡ Ok counts → read ≡ result_unwrap_or answer none → counts ≡ read
+taken_off answer none counts read e h = rw e at (sym h)
+
 module _ (sheet : List ℕ) (rule : Running) (history : List ℕ) (flag : ℕ) (cells report : List ℕ) (fit : RuleFit sheet rule (length history) (length cells) (length report))
-    (answer : StepAnswer) (bytes own₀ own words : List ℕ) (bytes_are : bytes ≡ body_at sheet rule) (own₀_is : own₀ ≡ own_cells rule cells)
+    (answer : Result StepCounts Refusal) (bytes own₀ own words : List ℕ) (bytes_are : bytes ≡ body_at sheet rule) (own₀_is : own₀ ≡ own_cells rule cells)
     (long : length own ≡ length own₀)
-    (told : TickOf bytes rule.opened rule.next flag history own₀ (take (rule.delay + 1) report) answer own words) where
-  took : Alone sheet rule history flag cells report fit own words (ticks_taken answer) (live_taken answer)
+    (told : TickOf bytes rule.opened rule.next flag history own₀ (take (rule.delay + 1) report) answer own words)
+    (none read : StepCounts) (read_is : read ≡ result_unwrap_or answer none) where
+  took : Alone sheet rule history flag cells report fit own words read.reported read.live
   took =
       let told' : TickOf (body_at sheet rule) rule.opened rule.next flag history (own_cells rule cells) (take (rule.delay + 1) report) answer own words =
       rw (← bytes_are, ← own₀_is) told in
-      alone sheet rule history flag cells report fit answer own words (told' rule.live)
+      let a = alone sheet rule history flag cells report fit answer own words (told' rule.live) in
+      subst (λ (counts : StepCounts). Alone sheet rule history flag cells report fit own words counts.reported counts.live) (taken_off answer none a.0 read a.1 read_is) a.2
 
-  pub rule_room : (reported : ℕ) → reported ≡ ticks_taken answer → 2 * reported ≤ length (words ++ drop (rule.delay + 1) report)
-  rule_room reported e = rw e (report_room sheet rule history flag cells report fit own words (ticks_taken answer) (live_taken answer) took (long ∙ ap length own₀_is))
+  pub rule_room : 2 * read.reported ≤ length (words ++ drop (rule.delay + 1) report)
+  rule_room = report_room sheet rule history flag cells report fit own words read.reported read.live took (long ∙ ap length own₀_is)
 
-  pub rule_moved : (reported live index : ℕ) (cells' report' : List ℕ) → reported ≡ ticks_taken answer → live ≡ live_taken answer
+  pub rule_moved : (index : ℕ) (cells' report' : List ℕ)
       → cells' ≡ take (4 * rule.first) cells ++ (own ++ drop (4 * rule.cells) (drop (4 * rule.first) cells))
-      → report' ≡ numbered index (take reported (words ++ drop (rule.delay + 1) report)) ++ drop (2 * reported) (words ++ drop (rule.delay + 1) report)
-      → RuleMoved sheet rule index history flag cells report reported live cells' report'
-  rule_moved reported live index cells' report' e₁ e₂ cells_are report_is =
-      rw (e₁, e₂)
-      (moved sheet rule history flag cells report fit own words (ticks_taken answer) (live_taken answer) took (long ∙ ap length own₀_is) index cells' report' cells_are
-      (subst (λ (n : ℕ). report' ≡ numbered index (take n (words ++ drop (rule.delay + 1) report)) ++ drop (2 * n) (words ++ drop (rule.delay + 1) report)) e₁ report_is))
+      → report' ≡ numbered index (take read.reported (words ++ drop (rule.delay + 1) report)) ++ drop (2 * read.reported) (words ++ drop (rule.delay + 1) report)
+      → RuleMoved sheet rule index history flag cells report read.reported read.live cells' report'
+  rule_moved index cells' report' cells_are report_is =
+      moved sheet rule history flag cells report fit own words read.reported read.live took (long ∙ ap length own₀_is) index cells' report' cells_are report_is

@@ -1,13 +1,12 @@
 -- What the answers of a step and of a batch of a set stand for.
-use Rattle.std.specs.Prelude.{ℕ, List}
+use Rattle.std.specs.Prelude.{ℕ, List, Result, Ok, Err}
+use Rattle.refusal.specs.declared.Refusal.{Refusal}
 use Rattle.refusal.specs.Answer.{Answer, refused, accepted}
 use Rattle.refusal.specs.Numbers.{number_of}
 use Rattle.demand.specs.declared.Running.{Running}
 use Rattle.demand.specs.SetContract.{SetTaken, SetCounts, running_rules}
-use Rattle.set_stepping.specs.declared.stepping.SetStepAnswer.{SetStepAnswer}
-use Rattle.set_stepping.specs.declared.stepping.SetStepAnswer.TheVariants as steps
-use Rattle.set_stepping.specs.declared.batch.SetBatchAnswer.{SetBatchAnswer}
-use Rattle.set_stepping.specs.declared.batch.SetBatchAnswer.TheVariants as batches
+use Rattle.instances.specs.declared.stepping.StepCounts.{StepCounts}
+use Rattle.set_stepping.specs.declared.batch.SetBatchCounts.{SetBatchCounts}
 
 -- With the running rules of this sheet, in the records as they are then; or the refusal's number.
 abbrev pub set_taken : ℕ → ℕ → List ℕ → List Running → SetTaken
@@ -16,10 +15,10 @@ set_taken pairs live sheet records = record { pairs = pairs; live_count = live; 
 abbrev pub set_counts : ℕ → ℕ → ℕ → List ℕ → List Running → SetCounts
 set_counts taken triples live sheet records = record { taken = taken; triples = triples; live_count = live; running = running_rules sheet records }
 
-abbrev pub set_step_answer : SetStepAnswer → List ℕ → List Running → Answer SetTaken
-set_step_answer (steps.Taken pairs live) sheet records = accepted (set_taken pairs live sheet records)
-set_step_answer (steps.Refused refusal) sheet records = refused (number_of refusal)
+abbrev pub set_step_answer : Result StepCounts Refusal → List ℕ → List Running → Answer SetTaken
+set_step_answer (Ok counts) sheet records = accepted (set_taken counts.reported counts.live sheet records)
+set_step_answer (Err refusal) sheet records = refused (number_of refusal)
 
-abbrev pub set_batch_answer : SetBatchAnswer → List ℕ → List Running → Answer SetCounts
-set_batch_answer (batches.Taken taken triples live) sheet records = accepted (set_counts taken triples live sheet records)
-set_batch_answer (batches.Refused refusal) sheet records = refused (number_of refusal)
+abbrev pub set_batch_answer : Result SetBatchCounts Refusal → List ℕ → List Running → Answer SetCounts
+set_batch_answer (Ok counts) sheet records = accepted (set_counts counts.taken counts.triples counts.live sheet records)
+set_batch_answer (Err refusal) sheet records = refused (number_of refusal)

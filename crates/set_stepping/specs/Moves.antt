@@ -6,8 +6,6 @@ use Rattle.demand.specs.declared.Running.{Running}
 use Rattle.demand.specs.Contract.{admit_lengths}
 use Rattle.demand.specs.SetContract.{body_at, rule_state, own_cells, next_rule, opened_length, next_tick, numbered, needs, admit_records, set_step_of, Ticked, SetTakes}
 use Rattle.cell_runs.specs.Moves.{Stands}
-use Rattle.instances.specs.declared.stepping.StepAnswer.{StepAnswer}
-use Rattle.instances.specs.declared.stepping.StepAnswer.TheVariants as steps
 use Rattle.set_stepping.specs.Answers.{set_taken}
 
 -- ---- one rule
@@ -58,12 +56,3 @@ stored_byte records history flag = set history (next_tick records % opened_lengt
 pub record NextFit (rule : Running) (live : ℕ) : Type 0 where
   pub timely : rule.next < 4611686018427387904
   pub few : live ≤ 4096
-
--- The counts of a rule's step; none where it was refused.
-abbrev pub ticks_taken : StepAnswer → ℕ
-ticks_taken (steps.Taken reported live) = reported
-ticks_taken (steps.Refused refusal) = 0
-
-abbrev pub live_taken : StepAnswer → ℕ
-live_taken (steps.Taken reported live) = live
-live_taken (steps.Refused refusal) = 0

@@ -7,26 +7,19 @@ ghost use Rattle.set_stepping.specs.Answers.{set_batch_answer};
 ghost use Rattle.set_stepping.specs.Batches.{TimedFit, TimedMoved, SetBatchFit, SetFlagsTaken};
 
 use crate::pairs::time_pairs;
-use crate::rules::{StepCounts, take_flag};
+use crate::rules::take_flag;
 use admission::flags_left;
+use instances::StepCounts;
 use refusal::Refusal;
 use running::{RECORD_WORDS, rule_at};
-use set_admission::SetFit;
 use words::byte_after;
 
 // The words that one step of any set can report.
 const SET_REPORT_WORDS: usize = 8192;
 
-// How many flags were taken, how many triples were written and how many ticks are live in all, or why the batch was refused.
-#[derive(Clone, Copy)]
-pub enum SetBatchAnswer {
-    Taken(usize, usize, usize),
-    Refused(Refusal),
-}
-
-// How many flags were taken, how many triples were written and how many ticks are live.
-#[derive(Clone, Copy)]
-struct SetBatchCounts {
+// How many flags were taken, how many triples were written and how many ticks are live in all.
+#[derive(Clone, Copy, Debug, PartialEq, Eq)]
+pub struct SetBatchCounts {
     pub taken: usize,
     pub triples: usize,
     pub live: usize,
@@ -38,11 +31,8 @@ fn all_live(records: &[[u32; RECORD_WORDS]], count: usize) -> usize
     ensures { result ≡ all_live (take count (rules_in records.now)) }
 {
     let mut live: usize = 0;
-    let mut index: usize = 0;
-    while index < count {
-        let rule = rule_at(records, index);
-        live += rule.live as usize;
-        index += 1;
+    for index in 0..count {
+        live += rule_at(records, index).live as usize;
     }
     live
 }
@@ -82,10 +72,9 @@ fn take_flags(
 {
     let lead = rule_at(records, 0);
     let count = flags_left(flags.len(), lead.next);
-    let mut taken: usize = 0;
     let mut triples: usize = 0;
     let mut live = all_live(records, byte_after(sheet, 0, 0));
-    while taken < count {
+    for taken in 0..count {
         let at = 3 * triples;
         if report.len() - at < 3 * most {
             return SetBatchCounts {
@@ -106,10 +95,9 @@ fn take_flags(
         );
         triples += moved.reported;
         live = moved.live;
-        taken += 1;
     }
     SetBatchCounts {
-        taken,
+        taken: count,
         triples,
         live,
     }
@@ -124,21 +112,16 @@ pub fn steps(
     history: &mut [u8],
     cells: &mut [u32],
     report: &mut [u64],
-) -> SetBatchAnswer
+) -> Result<SetBatchCounts, Refusal>
     ensures { SetBatchPromise Stands (set_batch_of (set_batch_answer result sheet.now (rules_in records.new)) sheet.now (rules_in records.old) flags.now history.old cells.old report.old (rules_in records.new) history.new cells.new report.new) }
 {
-    let fit = set_admission::admit_records(
+    let most = set_admission::admit_records(
         sheet,
         records,
         history.len(),
         cells.len(),
         SET_REPORT_WORDS,
-    );
-    match fit {
-        SetFit::Refused(refusal) => SetBatchAnswer::Refused(refusal),
-        SetFit::Fits(most) => {
-            let counts = take_flags(sheet, records, flags, history, cells, report, most);
-            SetBatchAnswer::Taken(counts.taken, counts.triples, counts.live)
-        }
-    }
+    )?;
+    let counts = take_flags(sheet, records, flags, history, cells, report, most);
+    Ok(counts)
 }

@@ -6,5 +6,5 @@ mod pairs;
 mod rules;
 mod stepping;
 
-pub use batch::{SetBatchAnswer, steps};
-pub use stepping::{SetStepAnswer, step};
+pub use batch::{SetBatchCounts, steps};
+pub use stepping::step;

@@ -7,9 +7,7 @@ pub(crate) fn number_ticks(report: &mut [u64], count: usize, rule: u64)
     requires { 2 * count ≤ length report.old }
     ensures { report.new ≡ numbered rule (take count report.old) ++ drop (2 * count) report.old }
 {
-    let mut at = count;
-    while 0 < at {
-        at -= 1;
+    for at in (0..count).rev() {
         let tick = report[at];
         report[2 * at] = rule;
         report[2 * at + 1] = tick;
@@ -21,9 +19,7 @@ pub(crate) fn time_pairs(report: &mut [u64], count: usize, step: u64)
     requires { 3 * count ≤ length report.old }
     ensures { report.new ≡ timed step (take (2 * count) report.old) ++ drop (3 * count) report.old }
 {
-    let mut at = count;
-    while 0 < at {
-        at -= 1;
+    for at in (0..count).rev() {
         let rule = report[2 * at];
         let tick = report[2 * at + 1];
         report[3 * at] = rule;

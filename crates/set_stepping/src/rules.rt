@@ -2,36 +2,16 @@
 ghost use Rattle.std.specs.Prelude.{◌≡◌, length};
 ghost use Rattle.demand.specs.SetContract.{next_rule};
 ghost use Rattle.running.specs.Records.{rules_in};
-ghost use Rattle.set_stepping.specs.Moves.{RuleFit, RuleMoved, SetFits, SetMoved, stored_byte, NextFit, ticks_taken, live_taken};
+ghost use Rattle.set_stepping.specs.Moves.{RuleFit, RuleMoved, SetFits, SetMoved, stored_byte, NextFit};
 
 use crate::pairs::number_ticks;
 use demand::Running;
-use instances::StepAnswer;
+use instances::StepCounts;
 use ring::remember;
 use running::{RECORD_WORDS, rule_at, store_rule};
 use words::byte_after;
 
-// How many pairs, or ticks of one rule, were reported, and how many ticks are live.
-#[derive(Clone, Copy)]
-pub(crate) struct StepCounts {
-    pub reported: usize,
-    pub live: usize,
-}
-
-// The counts of a rule's step; none where it was refused.
-fn counts(answer: StepAnswer) -> StepCounts
-    ensures { (result.reported ≡ ticks_taken answer) × (result.live ≡ live_taken answer) }
-{
-    match answer {
-        StepAnswer::Taken(reported, live) => StepCounts { reported, live },
-        StepAnswer::Refused(_) => StepCounts {
-            reported: 0,
-            live: 0,
-        },
-    }
-}
-
-// Moves rule `index` by one tick in its own part of the cells, and writes its pairs at the report's start.
+// Moves rule `index` by one tick in its own part of the cells, and writes its pairs at the report's start. Its tick is not refused, since the set is admitted.
 fn take_rule(
     sheet: &[u8],
     rule: Running,
@@ -48,8 +28,8 @@ fn take_rule(
     let end = start + rule.size as usize;
     let low = 4 * rule.first as usize;
     let high = low + 4 * rule.cells as usize;
-    let ticks = rule.delay as usize + 1;
-    let answer = instances::take_tick(
+    let ticks = usize::from(rule.delay) + 1;
+    let moved = instances::take_tick(
         &sheet[start..end],
         rule.opened as usize,
         rule.next,
@@ -57,8 +37,11 @@ fn take_rule(
         flag,
         &mut cells[low..high],
         &mut report[..ticks],
-    );
-    let moved = counts(answer);
+    )
+    .unwrap_or(StepCounts {
+        reported: 0,
+        live: 0,
+    });
     number_ticks(report, moved.reported, index);
     moved
 }
@@ -85,18 +68,23 @@ fn move_rules(
     requires { SetFits sheet.now (rules_in records.old) (length history.now) (length cells.old) (length report.old) }
     ensures { SetMoved sheet.now (rules_in records.old) history.now flag cells.old report.old result.reported result.live (rules_in records.new) (stored_byte (rules_in records.old) history.now flag) cells.new report.new }
 {
-    let count = byte_after(sheet, 0, 0) as u64;
     let mut pairs: usize = 0;
     let mut live: usize = 0;
-    let mut index: u64 = 0;
-    while index < count {
-        let rule = rule_at(records, index as usize);
+    for index in 0..byte_after(sheet, 0, 0) {
+        let rule = rule_at(records, index);
         let at = 2 * pairs;
-        let moved = take_rule(sheet, rule, index, history, flag, cells, &mut report[at..]);
-        store_rule(records, index as usize, next_rule(rule, moved.live));
+        let moved = take_rule(
+            sheet,
+            rule,
+            index as u64,
+            history,
+            flag,
+            cells,
+            &mut report[at..],
+        );
+        store_rule(records, index, next_rule(rule, moved.live));
         pairs += moved.reported;
         live += moved.live;
-        index += 1;
     }
     StepCounts {
         reported: pairs,

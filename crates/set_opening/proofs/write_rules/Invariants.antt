@@ -1,5 +1,4 @@
 -- `set_opening::write_rules` meets its contract.
-use Prim.Native.Nat.{◌≤◌, ◌-◌}
 use mathlib.Core.Path.{◌≡◌}
 use mathlib.Core.List.{List}
 use lib.ListN.{length}
@@ -12,8 +11,5 @@ use Rattle.set_opening.proofs.write_rules.Given as goal
 
 abbrev pub invariant-loop-index : goal.invariant-loop-index
 invariant-loop-index l =
-    (l.index ≤ l.count) × (length l.records ≡ length l.initial.records)
+    (length l.records ≡ length l.initial.records)
     × ((figures : List Figures) → set_figures l.sheet ≡ accepted figures → Written l.sheet l.opened (rules_in l.initial.records) (rules_in l.records) l.first l.index figures)
-
-abbrev pub decreases-loop-index : goal.decreases-loop-index
-decreases-loop-index l = l.count - l.index

@@ -10,12 +10,7 @@ use Rattle.set_stepping.proofs.batch.all_live.Goals as goal
 pub loop-index-preserved : goal.loop-index-preserved
 loop-index-preserved c =
     let l = c.loop-index in
-    let read = c.rule_at-rule in
-    let a = c.args in
     rw (add-one l.index) (
-      omega (arith, c.loop-index-test.true),
-      (
-        omega (arith, l.invariant.1.0),
-        omega (arith, l.invariant.1.1, live_next (rules_in a.records.now) l.index, ap (λ (r : Running). r.live) read.ensures),
-      ),
+      omega (arith, l.invariant.0),
+      omega (arith, l.invariant.1, live_next (rules_in c.args.records.now) l.index, ap (λ (r : Running). r.live) c.rule_at.ensures),
     )

@@ -1,5 +1,5 @@
 -- `set_stepping::batch::take_flags` meets its contract.
-use Prim.Native.Nat.{ℕ, suc, ◌+◌, ◌*◌, ◌-◌}
+use Prim.Native.Nat.{ℕ, suc, ◌+◌, ◌*◌, ◌-◌, min}
 use mathlib.Core.Path.{◌≡◌, refl, sym, ap, subst, ◌∙◌}
 use mathlib.Core.List.{List, [], ◌++◌, append-nil}
 use native.Mathlib.Omega.{arith}
@@ -11,7 +11,7 @@ use Rattle.rule.specs.declared.Figures.{Figures}
 use Rattle.demand.specs.declared.Running.{Running}
 use Rattle.demand.specs.SetContract.{all_live, running_rules, next_tick}
 use Rattle.running.specs.Records.{rules_in}
-use Rattle.set_stepping.proofs.ManyFlags.{Under, few, under_start, timed_fits, flag_pairs, under_more}
+use Rattle.set_stepping.proofs.ManyFlags.{Under, few, under_start, timed_fits, flag_pairs, under_more, ends_all}
 use Rattle.set_stepping.proofs.batch.take_flags.Goals as goal
 
 pub loop-taken-init : goal.loop-taken-init
@@ -77,3 +77,14 @@ loop-taken-preserved c =
           subst (λ (fs : List Figures). Under a.sheet.now (rules_in a.records.now) a.flags.now a.history.now a.cells.now a.report.now fs (rules_in m.new.records) m.new.history m.new.cells report' (suc l.taken) (l.triples + m.result.reported) m.result.live)
           (same_value (sym c.requires.admitted ∙ admitted)) one,
     )
+
+pub returns : goal.returns
+returns c figures admitted =
+    let a = c.args in
+    let l = c.loop-taken in
+    let count = c.flags_left-count in
+    let all : l.taken ≡ count.result = omega (arith, l.auto.taken-end, c.loop-taken-test.false) in
+    rw (← all)
+    (ends_all a.sheet.now (rules_in a.records.now) a.flags.now a.history.now a.cells.now a.report.now figures (rules_in l.records) l.history l.cells l.report l.taken l.triples l.live
+    (l.invariant.1 figures admitted) count.result
+    (count.ensures ∙ ap (λ (r : Running). min (length a.flags.now) (4611686018427387904 - r.next)) c.rule_at-lead.ensures) (omega (arith, c.loop-taken-test.false)))

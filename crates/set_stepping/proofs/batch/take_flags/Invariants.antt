@@ -1,5 +1,4 @@
 -- `set_stepping::batch::take_flags` meets its contract.
-use Prim.Native.Nat.{◌-◌}
 use mathlib.Core.Path.{◌≡◌}
 use mathlib.Core.List.{List}
 use lib.ListN.{length}
@@ -15,6 +14,3 @@ invariant-loop-taken l =
     (length l.records ≡ length l.initial.records)
     × ((figures : List Figures) → admit_records l.sheet (rules_in l.initial.records) (length l.initial.history) (length l.initial.cells) 8192 ≡ accepted figures
     → Under l.sheet (rules_in l.initial.records) l.flags l.initial.history l.initial.cells l.initial.report figures (rules_in l.records) l.history l.cells l.report l.taken l.triples l.live)
-
-abbrev pub decreases-loop-taken : goal.decreases-loop-taken
-decreases-loop-taken l = l.count - l.taken

@@ -12,5 +12,5 @@ loop-at-preserved c =
     let a = c.args in
     let j : ℕ = l.at - 1 in
     let e : l.at ≡ suc j = omega arith in
-    let so_far : TimedFrom a.report.now a.count a.step (suc j) l.report = rw e at l.invariant.1 in
-    (omega arith, (simp length-set l.invariant.1.0, timed_turn a.report.now a.count a.step c.requires l.report j (omega arith) so_far))
+    let so_far : TimedFrom a.report.now a.count a.step (suc j) l.report = rw e at l.invariant in
+    (simp length-set l.invariant.0, timed_turn a.report.now a.count a.step c.requires l.report j (omega arith) so_far)

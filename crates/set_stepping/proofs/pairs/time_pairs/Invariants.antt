@@ -1,10 +1,6 @@
 -- `set_stepping::pairs::time_pairs` meets its contract: the pairs from `at` on are triples, the words before are as they were.
-use Prim.Native.Nat.{◌≤◌}
 use Rattle.set_stepping.proofs.InPlace.{TimedFrom}
 use Rattle.set_stepping.proofs.pairs.time_pairs.Given as goal
 
 abbrev pub invariant-loop-at : goal.invariant-loop-at
-invariant-loop-at l = (l.at ≤ l.count) × TimedFrom l.initial.report l.count l.step l.at l.report
-
-abbrev pub decreases-loop-at : goal.decreases-loop-at
-decreases-loop-at l = l.at
+invariant-loop-at l = TimedFrom l.initial.report l.count l.step l.at l.report

@@ -16,8 +16,8 @@ pub overflow_mul-at : goal.overflow_mul-at
 overflow_mul-at c =
     let a = c.args in
     let l = c.loop-index in
-    let u = l.invariant.1.1.1.1 c.requires.figures c.requires.admitted in
-    let count : c.byte_after-count.result ≡ rule_count a.sheet.now = c.byte_after-count.ensures.0 in
+    let u = l.invariant.1.1.1 c.requires.figures c.requires.admitted in
+    let count : c.byte_after-index-end.result ≡ rule_count a.sheet.now = c.byte_after-index-end.ensures.0 in
     let more : l.index < rule_count a.sheet.now = omega (arith, count, c.loop-index-test.true) in
     omega (
       arith,
@@ -29,8 +29,8 @@ pub offset_bounds-report-at : goal.offset_bounds-report-at
 offset_bounds-report-at c =
     let a = c.args in
     let l = c.loop-index in
-    let u = l.invariant.1.1.1.1 c.requires.figures c.requires.admitted in
-    let count : c.byte_after-count.result ≡ rule_count a.sheet.now = c.byte_after-count.ensures.0 in
+    let u = l.invariant.1.1.1 c.requires.figures c.requires.admitted in
+    let count : c.byte_after-index-end.result ≡ rule_count a.sheet.now = c.byte_after-index-end.ensures.0 in
     let more : l.index < rule_count a.sheet.now = omega (arith, count, c.loop-index-test.true) in
     omega (
       arith,
@@ -44,8 +44,8 @@ pub slice_bounds-take_rule-count : goal.slice_bounds-take_rule-count
 slice_bounds-take_rule-count c =
     let a = c.args in
     let l = c.loop-index in
-    let u = l.invariant.1.1.1.1 c.requires.figures c.requires.admitted in
-    let count : c.byte_after-count.result ≡ rule_count a.sheet.now = c.byte_after-count.ensures.0 in
+    let u = l.invariant.1.1.1 c.requires.figures c.requires.admitted in
+    let count : c.byte_after-index-end.result ≡ rule_count a.sheet.now = c.byte_after-index-end.ensures.0 in
     let more : l.index < rule_count a.sheet.now = omega (arith, count, c.loop-index-test.true) in
     omega (
       arith,
@@ -59,8 +59,8 @@ pub slice_bounds-take_rule-start : goal.slice_bounds-take_rule-start
 slice_bounds-take_rule-start c =
     let a = c.args in
     let l = c.loop-index in
-    let u = l.invariant.1.1.1.1 c.requires.figures c.requires.admitted in
-    let count : c.byte_after-count.result ≡ rule_count a.sheet.now = c.byte_after-count.ensures.0 in
+    let u = l.invariant.1.1.1 c.requires.figures c.requires.admitted in
+    let count : c.byte_after-index-end.result ≡ rule_count a.sheet.now = c.byte_after-index-end.ensures.0 in
     let more : l.index < rule_count a.sheet.now = omega (arith, count, c.loop-index-test.true) in
     omega (
       arith,
@@ -74,8 +74,8 @@ pub take_rule-moved-requires : goal.take_rule-moved-requires
 take_rule-moved-requires c =
     let a = c.args in
     let l = c.loop-index in
-    let u = l.invariant.1.1.1.1 c.requires.figures c.requires.admitted in
-    let count : c.byte_after-count.result ≡ rule_count a.sheet.now = c.byte_after-count.ensures.0 in
+    let u = l.invariant.1.1.1 c.requires.figures c.requires.admitted in
+    let count : c.byte_after-index-end.result ≡ rule_count a.sheet.now = c.byte_after-index-end.ensures.0 in
     let more : l.index < rule_count a.sheet.now = omega (arith, count, c.loop-index-test.true) in
     rule_fits a.sheet.now (rules_in a.records.now) a.history.now a.flag a.cells.now a.report.now c.requires.figures c.requires.admitted l.index l.pairs l.live (rules_in l.records) l.cells l.report u more
     c.rule_at-rule.result c.rule_at-rule.ensures (length (take (length l.report - 2 * l.pairs) (drop (2 * l.pairs) l.report)))
@@ -85,8 +85,8 @@ pub next_rule-requires : goal.next_rule-requires
 next_rule-requires c =
     let a = c.args in
     let l = c.loop-index in
-    let u = l.invariant.1.1.1.1 c.requires.figures c.requires.admitted in
-    let count : c.byte_after-count.result ≡ rule_count a.sheet.now = c.byte_after-count.ensures.0 in
+    let u = l.invariant.1.1.1 c.requires.figures c.requires.admitted in
+    let count : c.byte_after-index-end.result ≡ rule_count a.sheet.now = c.byte_after-index-end.ensures.0 in
     let more : l.index < rule_count a.sheet.now = omega (arith, count, c.loop-index-test.true) in
     let m = c.take_rule-moved in
     next_fits a.sheet.now (rules_in a.records.now) a.history.now a.flag a.cells.now a.report.now c.requires.figures c.requires.admitted l.index l.pairs l.live (rules_in l.records) l.cells l.report u more
@@ -98,8 +98,8 @@ pub overflow_add-pairs : goal.overflow_add-pairs
 overflow_add-pairs c =
     let a = c.args in
     let l = c.loop-index in
-    let u = l.invariant.1.1.1.1 c.requires.figures c.requires.admitted in
-    let count : c.byte_after-count.result ≡ rule_count a.sheet.now = c.byte_after-count.ensures.0 in
+    let u = l.invariant.1.1.1 c.requires.figures c.requires.admitted in
+    let count : c.byte_after-index-end.result ≡ rule_count a.sheet.now = c.byte_after-index-end.ensures.0 in
     let more : l.index < rule_count a.sheet.now = omega (arith, count, c.loop-index-test.true) in
     let m = c.take_rule-moved in
     let few = sums_few a.sheet.now (rules_in a.records.now) a.history.now a.flag a.cells.now a.report.now c.requires.figures c.requires.admitted l.index l.pairs l.live (rules_in l.records) l.cells l.report u more
@@ -117,8 +117,8 @@ pub overflow_add-live : goal.overflow_add-live
 overflow_add-live c =
     let a = c.args in
     let l = c.loop-index in
-    let u = l.invariant.1.1.1.1 c.requires.figures c.requires.admitted in
-    let count : c.byte_after-count.result ≡ rule_count a.sheet.now = c.byte_after-count.ensures.0 in
+    let u = l.invariant.1.1.1 c.requires.figures c.requires.admitted in
+    let count : c.byte_after-index-end.result ≡ rule_count a.sheet.now = c.byte_after-index-end.ensures.0 in
     let more : l.index < rule_count a.sheet.now = omega (arith, count, c.loop-index-test.true) in
     let m = c.take_rule-moved in
     let few = sums_few a.sheet.now (rules_in a.records.now) a.history.now a.flag a.cells.now a.report.now c.requires.figures c.requires.admitted l.index l.pairs l.live (rules_in l.records) l.cells l.report u more
@@ -136,7 +136,7 @@ pub loop-index-preserved : goal.loop-index-preserved
 loop-index-preserved c =
     let a = c.args in
     let l = c.loop-index in
-    let count : c.byte_after-count.result ≡ rule_count a.sheet.now = c.byte_after-count.ensures.0 in
+    let count : c.byte_after-index-end.result ≡ rule_count a.sheet.now = c.byte_after-index-end.ensures.0 in
     let more : l.index < rule_count a.sheet.now = omega (arith, count, c.loop-index-test.true) in
     let m = c.take_rule-moved in
     let read = c.rule_at-rule in
@@ -151,15 +151,15 @@ loop-index-preserved c =
     let kept : rules_in stored.new.records ≡ set (rules_in l.records) l.index (next_rule read.result m.result.live) =
     stored.ensures ∙ ap (set (rules_in l.records) l.index) next.ensures in
     let turn = next_so_far a.sheet.now (rules_in a.records.now) a.history.now a.flag a.cells.now a.report.now l.index l.pairs l.live (rules_in l.records) l.cells l.report
-    l.invariant.1.1.1.1 more read.result read.ensures (take words (drop at l.report)) part
+    l.invariant.1.1.1 more read.result read.ensures (take words (drop at l.report)) part
     m.result.reported m.result.live m.new.cells m.new.report m.ensures (rules_in stored.new.records)
     (take at l.report ++ (m.new.report ++ drop words (drop at l.report))) kept pasted in
-    rw (add-one l.index) (omega arith, (stored.auto.records ∙ l.invariant.1.0, (m.auto.cells ∙ l.invariant.1.1.0, ((turn c.requires.figures c.requires.admitted).report_length, turn))))
+    rw (add-one l.index) (stored.auto.records ∙ l.invariant.0, (m.auto.cells ∙ l.invariant.1.0, ((turn c.requires.figures c.requires.admitted).report_length, turn)))
 
 pub returns : goal.returns
 returns c =
     let a = c.args in
     let l = c.loop-index in
-    let count : c.byte_after-count.result ≡ rule_count a.sheet.now = c.byte_after-count.ensures.0 in
+    let count : c.byte_after-index-end.result ≡ rule_count a.sheet.now = c.byte_after-index-end.ensures.0 in
     all_taken a.sheet.now (rules_in a.records.now) a.history.now a.flag a.cells.now a.report.now l.index (rules_in l.records) l.cells l.report l.pairs l.live
-    (omega (arith, count, l.invariant.0, c.loop-index-test.false)) l.invariant.1.1.1.1
+    (omega (arith, count, l.auto.index-end, c.loop-index-test.false)) l.invariant.1.1.1

@@ -1,5 +1,4 @@
 -- `set_stepping::rules::move_rules` meets its contract: the invariant is that the first `index` rules have taken the tick.
-use Prim.Native.Nat.{◌-◌, ◌≤◌}
 use mathlib.Core.Path.{◌≡◌}
 use lib.ListN.{length}
 use Rattle.running.specs.Records.{rules_in}
@@ -8,8 +7,5 @@ use Rattle.set_stepping.proofs.rules.move_rules.Given as goal
 
 abbrev pub invariant-loop-index : goal.invariant-loop-index
 invariant-loop-index l =
-    (l.index ≤ l.count) × ((length l.records ≡ length l.initial.records) × ((length l.cells ≡ length l.initial.cells) × ((length l.report ≡ length l.initial.report)
-    × SoFar l.sheet (rules_in l.initial.records) l.history l.flag l.initial.cells l.initial.report l.index (rules_in l.records) l.cells l.report l.pairs l.live)))
-
-abbrev pub decreases-loop-index : goal.decreases-loop-index
-decreases-loop-index l = l.count - l.index
+    (length l.records ≡ length l.initial.records) × ((length l.cells ≡ length l.initial.cells) × ((length l.report ≡ length l.initial.report)
+    × SoFar l.sheet (rules_in l.initial.records) l.history l.flag l.initial.cells l.initial.report l.index (rules_in l.records) l.cells l.report l.pairs l.live))

@@ -10,31 +10,30 @@ use Rattle.set_stepping.proofs.rules.take_rule.Goals as goal
 pub number_ticks-requires : goal.number_ticks-requires
 number_ticks-requires c =
     let a = c.args in
-    let tick = c.take_tick-answer in
+    let tick = c.take_tick in
     let rule = a.rule in
     let size : rule.start + rule.size - rule.start ≡ rule.size = omega arith in
     let room : 4 * rule.first + 4 * rule.cells - 4 * rule.first ≡ 4 * rule.cells = omega arith in
-    rule_room a.sheet.now rule a.history.now a.flag a.cells.now a.report.now c.requires
+    rw c.from-ticks.ensures
+    (rule_room a.sheet.now rule a.history.now a.flag a.cells.now a.report.now c.requires
     tick.result (take (rule.start + rule.size - rule.start) (drop rule.start a.sheet.now))
     (take (4 * rule.first + 4 * rule.cells - 4 * rule.first) (drop (4 * rule.first) a.cells.now))
     tick.new.cells tick.new.report
     (ap (λ (n : ℕ). take n (drop rule.start a.sheet.now)) size) (ap (λ (n : ℕ). take n (drop (4 * rule.first) a.cells.now)) room)
-    tick.auto.cells tick.ensures
-    c.counts-moved.result.reported c.counts-moved.ensures.0
+    tick.auto.cells (rw c.from-ticks.ensures at tick.ensures) _ _ c.unwrap_or-moved.ensures)
 
 pub returns : goal.returns
 returns c =
     let a = c.args in
-    let tick = c.take_tick-answer in
+    let tick = c.take_tick in
     let rule = a.rule in
     let size : rule.start + rule.size - rule.start ≡ rule.size = omega arith in
     let room : 4 * rule.first + 4 * rule.cells - 4 * rule.first ≡ 4 * rule.cells = omega arith in
-    let counted = c.counts-moved in
     rule_moved a.sheet.now rule a.history.now a.flag a.cells.now a.report.now c.requires
     tick.result (take (rule.start + rule.size - rule.start) (drop rule.start a.sheet.now))
     (take (4 * rule.first + 4 * rule.cells - 4 * rule.first) (drop (4 * rule.first) a.cells.now))
     tick.new.cells tick.new.report
     (ap (λ (n : ℕ). take n (drop rule.start a.sheet.now)) size) (ap (λ (n : ℕ). take n (drop (4 * rule.first) a.cells.now)) room)
-    tick.auto.cells tick.ensures
-    counted.result.reported counted.result.live a.index _ c.number_ticks.new.report counted.ensures.0 counted.ensures.1
-    (ap (λ (n : ℕ). take (4 * rule.first) a.cells.now ++ (tick.new.cells ++ drop n (drop (4 * rule.first) a.cells.now))) room) c.number_ticks.ensures
+    tick.auto.cells (rw c.from-ticks.ensures at tick.ensures) _ _ c.unwrap_or-moved.ensures a.index _ c.number_ticks.new.report
+    (ap (λ (n : ℕ). take (4 * rule.first) a.cells.now ++ (tick.new.cells ++ drop n (drop (4 * rule.first) a.cells.now))) room)
+    (rw c.from-ticks.ensures at c.number_ticks.ensures)
