@@ -10,6 +10,8 @@ use lib.Dec.{leb, eqb}
 use lib.ListN.{length, get_or, take, drop, set, length-take, take-append-drop}
 use lib.Seq.{take-take, get_or-take}
 use borrow.Author.Tests.{leb-true, le-leb, lt-leb, ne_eqb}
+use Rattle.std.specs.Prelude.{Result, Ok, Err}
+use Rattle.refusal.specs.declared.Refusal.{Refusal}
 use Rattle.refusal.specs.Answer.{Answer, refused, accepted, and_then}
 use Rattle.refusal.specs.Numbers.{number_of}
 use Rattle.refusal.proofs.Answers.{both_accepted}
@@ -24,11 +26,8 @@ use Rattle.demand.proofs.SetLists.{all_figures_told}
 use Rattle.demand.proofs.SetAdmission.{set_step_admitted}
 use Rattle.demand.proofs.SetRules.{sheet_told, figures_told}
 use Rattle.cell_runs.specs.Moves.{Stands}
-use Rattle.set_opening.specs.declared.SetOpenAnswer.{SetOpenAnswer}
-use Rattle.set_opening.specs.declared.SetOpenAnswer.TheVariants as opens
 use Rattle.set_opening.specs.Opening.{set_open_answer}
-use Rattle.set_stepping.specs.declared.stepping.SetStepAnswer.{SetStepAnswer}
-use Rattle.set_stepping.specs.declared.stepping.SetStepAnswer.TheVariants as steps
+use Rattle.instances.specs.declared.stepping.StepCounts.{StepCounts}
 use Rattle.set_stepping.specs.Answers.{set_step_answer}
 use Rattle.set_values.specs.declared.RuleSet.{RuleSet}
 use Rattle.set_values.specs.declared.opening.OpenedSet.{OpenedSet}
@@ -221,10 +220,10 @@ open_whole sheet ys history table t zs history' all e p =
     let q = by_value (λ records records'. SetOpenPromise Stands (set_opening_of (set_open_answer t.answer sheet records') sheet records history table records' history')) ys zs t.set all e p.1 p.0 in
     go t.answer q.0 q.1
   where
-    go : (answer : SetOpenAnswer) → SetOpenPromise Stands (set_opening_of (set_open_answer answer sheet (take 32 zs)) sheet (take 32 ys) history table (take 32 zs) history') → drop 32 zs ≡ drop 32 ys
+    go : (answer : Result (Unit {0}) Refusal) → SetOpenPromise Stands (set_opening_of (set_open_answer answer sheet (take 32 zs)) sheet (take 32 ys) history table (take 32 zs) history') → drop 32 zs ≡ drop 32 ys
         → SetOpenPromise Stands (set_opening_of (set_open_answer answer sheet zs) sheet ys history table zs history')
-    go opens.Opened h same = opening_accepted Stands sheet ys zs history table history' same h
-    go (opens.Refused refusal) h same = opening_refused Stands sheet ys zs history table history' same (number_of refusal) h
+    go (Ok opened) h same = opening_accepted Stands sheet ys zs history table history' same h
+    go (Err refusal) h same = opening_refused Stands sheet ys zs history table history' same (number_of refusal) h
 
 -- Likewise a step.
 pub step_whole : (sheet : List ℕ) (ys : List Running) (history cells : List ℕ) (flag : ℕ) (report : List ℕ) (t : SteppedSet) (zs : List Running) (history' cells' report' : List ℕ)
@@ -236,7 +235,7 @@ step_whole sheet ys history cells flag report t zs history' cells' report' all e
     let q = by_value (λ records records'. SetStepPromise Stands (set_step_of (set_step_answer t.answer sheet records') sheet records flag history cells report records' history' cells' report')) ys zs t.set all e p.1 p.0 in
     go t.answer q.0 q.1
   where
-    go : (answer : SetStepAnswer) → SetStepPromise Stands (set_step_of (set_step_answer answer sheet (take 32 zs)) sheet (take 32 ys) flag history cells report (take 32 zs) history' cells' report')
+    go : (answer : Result StepCounts Refusal) → SetStepPromise Stands (set_step_of (set_step_answer answer sheet (take 32 zs)) sheet (take 32 ys) flag history cells report (take 32 zs) history' cells' report')
         → drop 32 zs ≡ drop 32 ys → SetStepPromise Stands (set_step_of (set_step_answer answer sheet zs) sheet ys flag history cells report zs history' cells' report')
-    go (steps.Taken pairs live) h same = step_accepted Stands sheet ys zs flag history cells report history' cells' report' same pairs live h
-    go (steps.Refused refusal) h same = step_refused Stands sheet ys zs flag history cells report history' cells' report' same (number_of refusal) h
+    go (Ok counts) h same = step_accepted Stands sheet ys zs flag history cells report history' cells' report' same counts.reported counts.live h
+    go (Err refusal) h same = step_refused Stands sheet ys zs flag history cells report history' cells' report' same (number_of refusal) h

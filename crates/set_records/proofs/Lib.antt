@@ -1,3 +1,2 @@
-mod Element
 pub mod Further
 mod Lists

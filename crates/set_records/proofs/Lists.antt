@@ -10,8 +10,8 @@ use Rattle.rule.proofs.Order.{by_order}
 use Rattle.demand.specs.declared.Running.{Running}
 use Rattle.demand.specs.SetContract.{no_rule}
 use Rattle.set_values.specs.declared.RuleSet.{RuleSet}
-use Rattle.set_values.specs.Values.{held_rules, values_with}
-use Rattle.set_values.proofs.Lists.{mixed, mixed_turn}
+use Rattle.set_values.specs.Values.{held_rules}
+use Rattle.set_values.proofs.Lists.{mixed}
 use Rattle.set_records.specs.Lent.{loaded, saved}
 
 -- Part of a list of equal elements.
@@ -40,15 +40,7 @@ blanks = replicate 32 no_rule
 abbrev pub loading : List Running → ℕ → RuleSet
 loading records n = record { rules = mixed (supply records) blanks n; lent = length records }
 
-pub loading_next : (records : List Running) (n : ℕ) (rule : Running) (values : RuleSet) → n < min (length records) 32
-    → rule ≡ get_or records n no_rule → values ≡ values_with (loading records n) n rule → values ≡ loading records (n + 1)
-loading_next records n rule values h read so =
-    so ∙ ap (λ (l : List Running). record { rules = l; lent = length records })
-    (mixed_turn (supply records) blanks (mixed (supply records) blanks n) (set (mixed (supply records) blanks n) n rule) n no_rule rule
-    (omega (arith, h, length-append records blanks)) (omega (arith, h, length-replicate 32 no_rule)) refl refl
-    (read ∙ sym (get_or-append records blanks no_rule n (omega (arith, h)))))
-
-pub loading_all : (records : List Running) (n : ℕ) → n ≡ min (length records) 32 → loading records n ≡ loaded records
+loading_all : (records : List Running) (n : ℕ) → n ≡ min (length records) 32 → loading records n ≡ loaded records
 unfolding loaded
 loading_all records n e = ap (λ (l : List Running). record { rules = l; lent = length records }) (by_length (by_order (length records) 32))
   where
@@ -66,6 +58,15 @@ loading_all records n e = ap (λ (l : List Running). record { rules = l; lent = 
         ap (mixed (supply records) blanks) n_is
         ∙ ap (λ (l : List Running). take 32 (supply records) ++ l) (drop_of_length-le blanks {i = 32} (omega (arith, length-replicate 32 no_rule)))
         ∙ append-nil (take 32 (supply records))
+
+-- The first n records are put over records of no rule.
+pub loaded_over : (records : List Running) (n : ℕ) (none : Running) (part : List Running) → none ≡ no_rule → n ≡ min (length records) 32 → part ≡ take n records
+    → ◌≡◌ {A = RuleSet} (record { rules = part ++ drop n (replicate 32 none); lent = length records }) (loaded records)
+loaded_over records n none part none_is e part_is =
+    ap (λ (l : List Running). record { rules = l; lent = length records })
+    (ap (λ (x : Running). part ++ drop n (replicate 32 x)) none_is
+    ∙ ap (λ (l : List Running). l ++ drop n blanks) (part_is ∙ sym (take-append-le n records blanks (omega (arith, e)))))
+    ∙ loading_all records n e
 
 -- ---- saving
 

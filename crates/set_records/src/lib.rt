@@ -9,9 +9,9 @@ ghost use Rattle.set_stepping.specs.Answers.{set_step_answer};
 ghost use Rattle.set_records.specs.Lent.{loaded, saved};
 
 use demand::Running;
-use set_opening::SetOpenAnswer;
-use set_stepping::SetStepAnswer;
-use set_values::{RuleSet, empty_set, held_count, open_set, step_set};
+use instances::StepCounts;
+use refusal::Refusal;
+use set_values::{MOST_RULES, RuleSet, held_count, open_set, step_set};
 
 // How many records there are.
 pub fn record_count(records: &[Running]) -> usize
@@ -24,22 +24,10 @@ pub fn record_count(records: &[Running]) -> usize
 pub fn record_at(records: &[Running], index: usize) -> Running
     ensures { result ≡ get_or records.now index no_rule }
 {
-    if index < records.len() {
-        return records[index];
-    }
-    Running {
-        start: 0,
-        size: 0,
-        first: 0,
-        cells: 0,
-        delay: 0,
-        opened: 0,
-        live: 0,
-        next: 0,
-    }
+    records.get(index).copied().unwrap_or_default()
 }
 
-// Writes the record at a place, and nothing past the end.
+// Writes the record at a place, and nothing past the end. (`get_mut` would say nothing of the elements.)
 pub fn store_record(records: &mut [Running], index: usize, rule: Running)
     ensures { records.new ≡ set records.old index rule }
 {
@@ -54,13 +42,9 @@ pub fn load_records(records: &[Running]) -> RuleSet
 {
     let lent = records.len();
     let count = held_count(lent);
-    let mut set = empty_set(lent);
-    let mut index: usize = 0;
-    while index < count {
-        set.rules[index] = record_at(records, index);
-        index += 1;
-    }
-    set
+    let mut rules = [Running::default(); MOST_RULES];
+    rules[..count].copy_from_slice(&records[..count]);
+    RuleSet { rules, lent }
 }
 
 // Writes the records of a set into the first 32 places, as far as they are there; further ones keep their content.
@@ -68,11 +52,7 @@ pub fn save_records(records: &mut [Running], set: RuleSet)
     ensures { records.new ≡ saved records.old set }
 {
     let count = held_count(records.len());
-    let mut index: usize = 0;
-    while index < count {
-        store_record(records, index, set.rules[index]);
-        index += 1;
-    }
+    records[..count].copy_from_slice(&set.rules[..count]);
 }
 
 // Opens a set whose records are lent, as `set_opening::open` does.
@@ -81,7 +61,7 @@ pub fn open_records(
     records: &mut [Running],
     history: &mut [u8],
     cells: &[u32],
-) -> SetOpenAnswer
+) -> Result<(), Refusal>
     ensures { SetOpenPromise Stands (set_opening_of (set_open_answer result sheet.now records.new) sheet.now records.old history.old cells.now records.new history.new) }
 {
     let set = load_records(records);
@@ -98,7 +78,7 @@ pub fn step_records(
     history: &mut [u8],
     cells: &mut [u32],
     report: &mut [u64],
-) -> SetStepAnswer
+) -> Result<StepCounts, Refusal>
     ensures { SetStepPromise Stands (set_step_of (set_step_answer result sheet.now records.new) sheet.now records.old flag history.old cells.old report.old records.new history.new cells.new report.new) }
 {
     let set = load_records(records);

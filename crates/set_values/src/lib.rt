@@ -2,7 +2,6 @@
 #![tactic(auto)]
 
 ghost use Rattle.std.specs.Prelude.{◌≡◌, min};
-ghost use Rattle.demand.specs.SetContract.{no_rule};
 ghost use Rattle.set_values.specs.Values.{empty_values, rule_of_values, values_with};
 
 use demand::Running;
@@ -24,39 +23,19 @@ pub struct RuleSet {
     pub lent: usize,
 }
 
-// The record of no rule.
-fn no_rule() -> Running
-    ensures { result ≡ no_rule }
-{
-    Running {
-        start: 0,
-        size: 0,
-        first: 0,
-        cells: 0,
-        delay: 0,
-        opened: 0,
-        live: 0,
-        next: 0,
-    }
-}
-
 // How many records a set has of which so many are lent.
 pub fn held_count(lent: usize) -> usize
     ensures { result ≡ min lent 32 }
 {
-    if MOST_RULES < lent {
-        return MOST_RULES;
-    }
-    lent
+    lent.min(MOST_RULES)
 }
 
 // A set of so many records, all of no rule.
 pub fn empty_set(lent: usize) -> RuleSet
     ensures { result ≡ empty_values lent }
 {
-    let none = no_rule();
     RuleSet {
-        rules: [none; MOST_RULES],
+        rules: [Running::default(); MOST_RULES],
         lent,
     }
 }
@@ -65,19 +44,15 @@ pub fn empty_set(lent: usize) -> RuleSet
 pub fn rule_of(set: RuleSet, index: usize) -> Running
     ensures { result ≡ rule_of_values set index }
 {
-    if MOST_RULES <= index {
-        return no_rule();
-    }
-    set.rules[index]
+    set.rules.get(index).copied().unwrap_or_default()
 }
 
 // The set with a rule in the record at a place, and as it was past the 32.
 pub fn with_rule(mut set: RuleSet, index: usize, rule: Running) -> RuleSet
     ensures { result ≡ values_with set index rule }
 {
-    if MOST_RULES <= index {
-        return set;
+    if index < MOST_RULES {
+        set.rules[index] = rule;
     }
-    set.rules[index] = rule;
     set
 }

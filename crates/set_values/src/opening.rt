@@ -7,15 +7,15 @@ ghost use Rattle.set_values.specs.Values.{held_rules, OthersKept};
 
 use crate::record_words::{read_words, write_words};
 use crate::{MOST_RULES, RuleSet, held_count};
+use refusal::Refusal;
 use running::RECORD_WORDS;
-use set_opening::SetOpenAnswer;
 
 // Whether the set was opened, and the set as it is then.
 // Kept: document 01, "Forms", asks for a set by value, so `open_set` and `step_set` take the set by value and hand it back beside the answer (a `Result`), and not
 // through a `&mut`; README names them so.
 #[derive(Clone, Copy)]
 pub struct OpenedSet {
-    pub answer: SetOpenAnswer,
+    pub answer: Result<(), Refusal>,
     pub set: RuleSet,
 }
 

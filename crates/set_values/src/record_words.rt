@@ -11,11 +11,9 @@ pub(crate) fn write_words(set: RuleSet, words: &mut [[u32; RECORD_WORDS]])
     requires { length words.old ≤ 32 }
     ensures { rules_in words.new ≡ take (length words.old) set.rules }
 {
-    let mut index: usize = 0;
-    while index < words.len() {
+    for index in 0..words.len() {
         let rule = set.rules[index];
         store_rule(words, index, rule);
-        index += 1;
     }
 }
 
@@ -24,11 +22,8 @@ pub(crate) fn read_words(mut set: RuleSet, words: &[[u32; RECORD_WORDS]]) -> Rul
     requires { length words.now ≤ 32 }
     ensures { result ≡ values_from set (rules_in words.now) }
 {
-    let mut index: usize = 0;
-    while index < words.len() {
-        let rule = rule_at(words, index);
-        set.rules[index] = rule;
-        index += 1;
+    for index in 0..words.len() {
+        set.rules[index] = rule_at(words, index);
     }
     set
 }

@@ -7,13 +7,14 @@ ghost use Rattle.set_values.specs.Values.{held_rules, OthersKept};
 
 use crate::record_words::{read_words, write_words};
 use crate::{MOST_RULES, RuleSet, held_count};
+use instances::StepCounts;
+use refusal::Refusal;
 use running::RECORD_WORDS;
-use set_stepping::SetStepAnswer;
 
 // How many pairs were written and how many ticks are live in all, or why the step was refused; and the set as it is then.
 #[derive(Clone, Copy)]
 pub struct SteppedSet {
-    pub answer: SetStepAnswer,
+    pub answer: Result<StepCounts, Refusal>,
     pub set: RuleSet,
 }
 

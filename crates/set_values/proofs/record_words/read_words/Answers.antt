@@ -1,5 +1,4 @@
 -- `set_values::words::read_words` meets its contract.
--- One turn, over plain values.
 use Prim.Native.Nat.{ℕ, ◌+◌, ◌<◌}
 use mathlib.Core.Path.{◌≡◌, refl, ap, ◌∙◌}
 use mathlib.Core.List.{List}
@@ -13,6 +12,7 @@ use Rattle.set_values.proofs.Lists.{length_mapped, mixed, mixed_turn}
 use borrow.Author.Rules.{rules}
 use Rattle.set_values.proofs.record_words.read_words.Goals as goal
 
+-- One turn, over plain values.
 values-turn : (front : List Running) (values₀ values : RuleSet) (n : ℕ) (rule : Running) → n < length front → n < length values₀.rules
     → values ≡ record { rules = mixed front values₀.rules n; lent = values₀.lent } → rule ≡ get_or front n no_rule
     → ◌≡◌ {A = RuleSet} (record { rules = set values.rules n rule; lent = values.lent }) (record { rules = mixed front values₀.rules (n + 1); lent = values₀.lent })
@@ -25,9 +25,7 @@ pub loop-index-preserved : goal.loop-index-preserved
 loop-index-preserved c =
     let values : RuleSet = c.args.set in
     let words = c.args.words.now in
-    let all : length values.rules ≡ 32 = search (rules, length_mapped) in (
-      values-turn (rules_in words) values c.loop-index.set c.loop-index.index c.rule_at-rule.result
-          (omega (arith, c.loop-index-test.true, length-map words rule_in)) (omega (arith, c.loop-index-test.true, c.requires, all))
-          c.loop-index.invariant.0 c.rule_at-rule.ensures,
-      omega (arith, c.loop-index-test.true),
-    )
+    let all : length values.rules ≡ 32 = search (rules, length_mapped) in
+    values-turn (rules_in words) values c.loop-index.set c.loop-index.index c.rule_at.result
+    (omega (arith, c.loop-index-test.true, length-map words rule_in)) (omega (arith, c.loop-index-test.true, c.requires, all))
+    c.loop-index.invariant c.rule_at.ensures

@@ -15,7 +15,7 @@ loop-index-preserved c =
     let words = c.args.words.now in
     let all : length values.rules ≡ 32 = search (rules, length_mapped) in (
       mixed_turn values.rules (rules_in words) (rules_in c.loop-index.words) (rules_in c.store_rule.new.records) c.loop-index.index no_rule _
-          (omega (arith, c.loop-index-test.true, c.loop-index.invariant.1.1, c.requires, all)) (omega (arith, c.loop-index-test.true, c.loop-index.invariant.1.1, length-map words rule_in))
+          (omega (arith, c.loop-index-test.true, c.loop-index.invariant.1, c.requires, all)) (omega (arith, c.loop-index-test.true, c.loop-index.invariant.1, length-map words rule_in))
           c.loop-index.invariant.0 c.store_rule.ensures refl,
-      (omega (arith, c.loop-index-test.true, c.store_rule.auto.records), c.store_rule.auto.records ∙ c.loop-index.invariant.1.1),
+      c.store_rule.auto.records ∙ c.loop-index.invariant.1,
     )

@@ -1,5 +1,4 @@
 -- `set_values::words::write_words` meets its contract.
-use Prim.Native.Nat.{◌-◌, ◌≤◌}
 use mathlib.Core.Path.{◌≡◌}
 use lib.ListN.{length}
 use Rattle.running.specs.Records.{rules_in}
@@ -7,8 +6,4 @@ use Rattle.set_values.proofs.Lists.{mixed}
 use Rattle.set_values.proofs.record_words.write_words.Given as goal
 
 abbrev pub invariant-loop-index : goal.invariant-loop-index
-invariant-loop-index l =
-    (rules_in l.words ≡ mixed l.set.rules (rules_in l.initial.words) l.index) × ((l.index ≤ length l.words) × (length l.words ≡ length l.initial.words))
-
-abbrev pub decreases-loop-index : goal.decreases-loop-index
-decreases-loop-index l = length l.words - l.index
+invariant-loop-index l = (rules_in l.words ≡ mixed l.set.rules (rules_in l.initial.words) l.index) × (length l.words ≡ length l.initial.words)
