@@ -7,9 +7,6 @@ ghost use Rattle.running.specs.Records.{rules_in};
 ghost use Rattle.set_stepping.specs.Answers.{set_taken, set_counts};
 
 use running::RECORD_WORDS;
-use set_admission::SetFiguresAnswer;
-use set_opening::SetOpenAnswer;
-use set_stepping::{SetBatchAnswer, SetStepAnswer};
 
 // What all rules of a sheet need together: refusals 1, 2, each rule's own 4 to 15, 23, 24 in rule order, 27.
 pub fn sw_set_figures(
@@ -25,16 +22,15 @@ pub fn sw_set_figures(
     ensures cells_after { cells.new ≡ or_kept all_cells (set_figures sheet.now) cells.old }
     ensures pairs_after { pairs.new ≡ or_kept all_delays (set_figures sheet.now) pairs.old }
 {
-    let answer = set_admission::set_figures(sheet);
-    match answer {
-        SetFiguresAnswer::Refused(refusal) => refusal::number(refusal),
-        SetFiguresAnswer::Sized(sums) => {
+    match set_admission::set_figures(sheet) {
+        Ok(sums) => {
             *rules = sums.rules;
             *history = sums.history;
             *cells = sums.cells;
             *pairs = sums.pairs;
             0
         }
+        Err(refusal) => refusal::number(refusal),
     }
 }
 
@@ -47,10 +43,9 @@ pub fn sw_set_open(
 ) -> u32
     ensures { SetOpenPromise Stands (set_opening_of (answered result (running_rules sheet.now (rules_in records.new))) sheet.now (rules_in records.old) history.old cells.now (rules_in records.new) history.new) }
 {
-    let answer = set_opening::open(sheet, records, history, cells);
-    match answer {
-        SetOpenAnswer::Refused(refusal) => refusal::number(refusal),
-        SetOpenAnswer::Opened => 0,
+    match set_opening::open(sheet, records, history, cells) {
+        Ok(()) => 0,
+        Err(refusal) => refusal::number(refusal),
     }
 }
 
@@ -69,14 +64,13 @@ pub fn sw_set_step(
     ensures kept_if_refused { KeptIfRefused result pairs.old pairs.new }
     ensures kept_if_refused_2 { KeptIfRefused result live.old live.new }
 {
-    let answer = set_stepping::step(sheet, records, flag, history, cells, report);
-    match answer {
-        SetStepAnswer::Refused(refusal) => refusal::number(refusal),
-        SetStepAnswer::Taken(pair_count, live_count) => {
-            *pairs = pair_count;
-            *live = live_count;
+    match set_stepping::step(sheet, records, flag, history, cells, report) {
+        Ok(counts) => {
+            *pairs = counts.reported;
+            *live = counts.live;
             0
         }
+        Err(refusal) => refusal::number(refusal),
     }
 }
 
@@ -97,14 +91,13 @@ pub fn sw_set_steps(
     ensures kept_if_refused_2 { KeptIfRefused result triples.old triples.new }
     ensures kept_if_refused_3 { KeptIfRefused result live.old live.new }
 {
-    let answer = set_stepping::steps(sheet, records, flags, history, cells, report);
-    match answer {
-        SetBatchAnswer::Refused(refusal) => refusal::number(refusal),
-        SetBatchAnswer::Taken(flag_count, triple_count, live_count) => {
-            *taken = flag_count;
-            *triples = triple_count;
-            *live = live_count;
+    match set_stepping::steps(sheet, records, flags, history, cells, report) {
+        Ok(counts) => {
+            *taken = counts.taken;
+            *triples = counts.triples;
+            *live = counts.live;
             0
         }
+        Err(refusal) => refusal::number(refusal),
     }
 }
