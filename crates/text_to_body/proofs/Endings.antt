@@ -3,20 +3,26 @@ use Prim.Native.Nat.{ℕ, zero, suc, ◌+◌, ◌-◌, ◌≤◌, ◌<◌}
 use mathlib.Core.Path.{◌≡◌, refl, ap, sym, ◌∙◌}
 use mathlib.Core.Bool.{Bool, true, false, cond}
 use mathlib.Core.List.{List, [], ◌∷◌}
+use mathlib.Core.Logic.{inr}
 use native.Mathlib.Omega.{arith}
-use lib.ListN.{length, drop, take, get_or, set, length-set, drop_of_length-le}
+use lib.ListN.{length, drop, take, get_or, set, drop_of_length-le}
 use lib.Seq.{drop-cons, drop-drop}
+use Rattle.std.specs.Prelude.{Some, None}
+use Rattle.refusal.specs.Answer.{refused}
 use Rattle.notation.specs.Notation.{then_sign, beside_sign}
 use Rattle.notation.specs.Reading.{got, none, starts, expect, Joint, then_joint, beside_joint, joint}
 use Rattle.notation.specs.Bodies.{joint_code}
 use Rattle.text_pieces.specs.Spots.{Found}
 use Rattle.text_to_body.specs.Work.{finish, before_formula, after_formula, scope_of}
-use Rattle.text_to_body.specs.Cursors.{to_come, CursorFits, Moved, Nowhere}
+use Rattle.text_to_body.specs.Cursors.{to_come, answer_at, CursorFits, Moved}
 use Rattle.text_to_body.specs.declared.cursor.Cursor.{Cursor}
+use Rattle.text_to_body.specs.declared.cursor.Frame.{Frame}
+use Rattle.text_to_body.specs.declared.cursor.Frame.TheVariants.{Second, Range, First}
+use Rattle.text_to_body.specs.declared.cursor.Mode.TheVariants.{Before, After, Whole}
 use Rattle.text_pieces.proofs.Finding.{found_some, found_none, word_fits}
 use Rattle.text_to_body.proofs.Costs.{joint_ends}
 use Rattle.text_to_body.proofs.Works.{after_joint, after_unjoined, after_binding, after_close, after_unclosed}
-use Rattle.text_to_body.proofs.Moves.{goes, stops, wrong}
+use Rattle.text_to_body.proofs.Moves.{going, goes, stops}
 
 -- ---- which connective stands there
 
@@ -50,42 +56,41 @@ scope_pop s names (suc m) = ap (scope_of s names) (sym (natural m))
     natural : (m : ℕ) → suc m - 1 ≡ m
     natural m = omega arith
 
-module _ (s frames names out : List ℕ) (p : Cursor) (w : CursorFits s p) (z : p.mode ≡ 1) where
+module _ (s : List ℕ) (frames : List Frame) (names out : List ℕ) (p : Cursor) (w : CursorFits s p) (z : p.mode ≡ After) where
   -- ---- with nothing open
 
   module _ (d : p.opened ≡ 0) where
-    pub early_arm : (r : Cursor) → Nowhere r → (p.at ≡ length s → ⊥) → Moved s frames names out p frames names out r
+    pub early_arm : (p.at ≡ length s → ⊥) → answer_at s frames names out p ≡ refused 25
     unfolding to_come after_formula finish
-    early_arm r e n =
+    early_arm n =
         let l : p.at < length s = omega (arith, w.place, n) in
-        wrong s frames names out p w r e (omega (arith, z)) (rw (z, d, drop-cons s p.at 0 l))
+        rw (z, d, drop-cons s p.at 0 l)
 
     pub whole_arm : p.at ≡ length s
-        → Moved s frames names out p frames names out (record { mode = 2; at = p.at; opened = 0; scope = p.scope; written = p.written; resolved = p.resolved })
+        → Moved s frames names out p frames names out (record { mode = Whole; at = p.at; opened = p.opened; scope = p.scope; written = p.written; resolved = p.resolved })
     unfolding to_come after_formula finish
     whole_arm e =
-        stops s frames names out p w (record { mode = 2; at = p.at; opened = 0; scope = p.scope; written = p.written; resolved = p.resolved })
-        (omega (arith, z)) (omega arith) (rw (z, d, drop_of_length-le s {i = p.at} (omega (arith, e))))
-        (record { place = w.place; frames_fit = omega arith; bytes_fit = w.bytes_fit; names_fit = w.names_fit })
+        stops s frames names out p w (record { mode = Whole; at = p.at; opened = p.opened; scope = p.scope; written = p.written; resolved = p.resolved })
+        (going p.mode (inr z)) refl (rw (z, d, drop_of_length-le s {i = p.at} (omega (arith, e))))
+        (record { place = w.place; frames_fit = w.frames_fit; bytes_fit = w.bytes_fit; names_fit = w.names_fit })
 
   -- ---- with a frame open
 
   module _ (d : ℕ) (one_less : p.opened ≡ suc d) where
-    module _ (f : get_or frames d 0 ≡ 0) where
-      pub unclosed_arm : (r : Cursor) → Nowhere r → starts (41 ∷ []) (drop p.at s) ≡ false → Moved s frames names out p frames names out r
+    module _ (f : get_or frames d Second ≡ Second) where
+      pub unclosed_arm : starts (41 ∷ []) (drop p.at s) ≡ false → answer_at s frames names out p ≡ refused 25
       unfolding to_come
-      unclosed_arm r e t =
-          wrong s frames names out p w r e (omega (arith, z))
-          (rw (z, one_less) (after_unclosed d frames (scope_of s names p.scope) (take p.written out) p.resolved (drop p.at s) f t))
+      unclosed_arm t =
+          rw (z, one_less) (after_unclosed d frames (scope_of s names p.scope) (take p.written out) p.resolved (drop p.at s) f t)
 
       pub close_arm : starts (41 ∷ []) (drop p.at s) ≡ true
           → Moved s frames names out p frames names out
-          (record { mode = 1; at = p.at + 1; opened = d; scope = p.scope; written = p.written; resolved = p.resolved })
+          (record { mode = p.mode; at = p.at + 1; opened = d; scope = p.scope; written = p.written; resolved = p.resolved })
       unfolding to_come
       close_arm t =
           goes s frames names out p w frames names out
-          (record { mode = 1; at = p.at + 1; opened = d; scope = p.scope; written = p.written; resolved = p.resolved })
-          (omega (arith, z)) (omega arith)
+          (record { mode = p.mode; at = p.at + 1; opened = d; scope = p.scope; written = p.written; resolved = p.resolved })
+          (going p.mode (inr z))
           (rw (z, one_less, ← drop-drop 1 p.at s) (after_close d frames (scope_of s names p.scope) (take p.written out) p.resolved (drop p.at s) f t))
           (omega (arith, one_less))
           (record {
@@ -94,51 +99,45 @@ module _ (s frames names out : List ℕ) (p : Cursor) (w : CursorFits s p) (z : 
             bytes_fit = omega (arith, w.bytes_fit);
             names_fit = omega (arith, w.names_fit);
           })
-          refl refl refl
 
-    pub range_over_arm : get_or frames d 0 ≡ 1 → (m : ℕ) → m ≡ p.scope - 1
-        → Moved s frames names out p frames names out (record { mode = 1; at = p.at; opened = d; scope = m; written = p.written; resolved = p.resolved })
+    pub range_over_arm : get_or frames d Second ≡ Range → (m : ℕ) → m ≡ p.scope - 1
+        → Moved s frames names out p frames names out (record { mode = p.mode; at = p.at; opened = d; scope = m; written = p.written; resolved = p.resolved })
     unfolding to_come
     range_over_arm f m e =
         goes s frames names out p w frames names out
-        (record { mode = 1; at = p.at; opened = d; scope = m; written = p.written; resolved = p.resolved })
-        (omega (arith, z)) (omega arith)
+        (record { mode = p.mode; at = p.at; opened = d; scope = m; written = p.written; resolved = p.resolved })
+        (going p.mode (inr z))
         (rw (z, one_less, e, ← scope_pop s names p.scope) (after_binding d frames (scope_of s names p.scope) (take p.written out) p.resolved (drop p.at s) f))
         (omega (arith, one_less))
         (record { place = w.place; frames_fit = omega (arith, one_less, w.frames_fit); bytes_fit = w.bytes_fit; names_fit = omega (arith, e, w.names_fit) })
-        refl refl refl
 
-    module _ (top : ℕ) (two : 2 ≤ top) (f : get_or frames d 0 ≡ top) (q : ℕ) (g : Found s q (joint (drop p.at s))) where
-      above : get_or frames d 0 ≡ suc (suc (top - 2))
-      above = omega (arith, f, two)
-
-      pub unjoined_arm : (r : Cursor) → Nowhere r → q ≡ 0 → Moved s frames names out p frames names out r
+    module _ (top : ℕ) (f : get_or frames d Second ≡ First top) where
+      pub unjoined_arm : Found s None (joint (drop p.at s)) → answer_at s frames names out p ≡ refused 25
       unfolding to_come
-      unjoined_arm r e n =
-          wrong s frames names out p w r e (omega (arith, z))
-          (rw (z, one_less) (after_unjoined d frames (scope_of s names p.scope) (take p.written out) p.resolved (drop p.at s) (top - 2) above
-          (found_none s q (joint (drop p.at s)) n g)))
+      unjoined_arm g =
+          rw (z, one_less) (after_unjoined d frames (scope_of s names p.scope) (take p.written out) p.resolved (drop p.at s) top f
+          (found_none s (joint (drop p.at s)) g))
 
-      pub joint_arm : (q ≡ 0 → ⊥) → p.opened ≤ length frames → (code : ℕ) → ((j : Joint) (t : List ℕ) → joint (drop p.at s) ≡ got j t → code ≡ joint_code j)
-          → (out' : List ℕ) → out' ≡ set out (top - 2) code
-          → Moved s frames names out p (set frames d 0) names out'
-          (record { mode = 0; at = q; opened = p.opened; scope = p.scope; written = p.written; resolved = p.resolved })
+      pub joint_arm : (q : ℕ) → Found s (Some q) (joint (drop p.at s)) → p.opened ≤ length frames → (code : ℕ)
+          → ((j : Joint) (t : List ℕ) → joint (drop p.at s) ≡ got j t → code ≡ joint_code j)
+          → (out' : List ℕ) → out' ≡ set out top code
+          → Moved s frames names out p (set frames d Second) names out'
+          (record { mode = Before; at = q; opened = p.opened; scope = p.scope; written = p.written; resolved = p.resolved })
       unfolding to_come
-      joint_arm n l code k out' same =
-          let h = found_some s q (joint (drop p.at s)) n g in
+      joint_arm q g l code k out' same =
+          let h = found_some s (joint (drop p.at s)) q g in
           let c = joint_ends s p.at q h.2 w.place h.0 h.1 in
-          goes s frames names out p w (set frames d 0) names out'
-          (record { mode = 0; at = q; opened = p.opened; scope = p.scope; written = p.written; resolved = p.resolved })
-          (omega (arith, z)) (omega arith)
-          (rw (z, same, take_set p.written out (top - 2) code, k h.0 (drop q s) h.1) (joined h.0 h.1))
+          goes s frames names out p w (set frames d Second) names out'
+          (record { mode = Before; at = q; opened = p.opened; scope = p.scope; written = p.written; resolved = p.resolved })
+          (going p.mode (inr z))
+          (rw (z, same, take_set p.written out top code, k h.0 (drop q s) h.1) (joined h.0 h.1))
           (omega (arith, c))
           (record { place = h.2; frames_fit = omega (arith, c, w.frames_fit); bytes_fit = omega (arith, c, w.bytes_fit); names_fit = omega (arith, c, w.names_fit) })
-          (length-set frames d 0) refl (ap length same ∙ length-set out (top - 2) code)
         where
           joined : (j : Joint) → joint (drop p.at s) ≡ got j (drop q s)
               → after_formula p.opened frames (scope_of s names p.scope) (take p.written out) p.resolved (drop p.at s)
-              ≡ before_formula p.opened (set frames d 0) (scope_of s names p.scope) (set (take p.written out) (top - 2) (joint_code j)) p.resolved (drop q s)
+              ≡ before_formula p.opened (set frames d Second) (scope_of s names p.scope) (set (take p.written out) top (joint_code j)) p.resolved (drop q s)
           joined j e =
               ap (λ (n : ℕ). after_formula n frames (scope_of s names p.scope) (take p.written out) p.resolved (drop p.at s)) one_less
-              ∙ after_joint d frames (scope_of s names p.scope) (take p.written out) p.resolved (drop p.at s) (drop q s) (top - 2) j (omega (arith, one_less, l)) above e
-              ∙ ap (λ (n : ℕ). before_formula n (set frames d 0) (scope_of s names p.scope) (set (take p.written out) (top - 2) (joint_code j)) p.resolved (drop q s)) (sym one_less)
+              ∙ after_joint d frames (scope_of s names p.scope) (take p.written out) p.resolved (drop p.at s) (drop q s) top j (omega (arith, one_less, l)) f e
+              ∙ ap (λ (n : ℕ). before_formula n (set frames d Second) (scope_of s names p.scope) (set (take p.written out) top (joint_code j)) p.resolved (drop q s)) (sym one_less)

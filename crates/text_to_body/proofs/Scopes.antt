@@ -7,12 +7,13 @@ use native.Mathlib.Omega.{arith}
 use lib.Dec.{leb}
 use lib.ListN.{length, drop, take, get_or, set, length-set, length-drop}
 use lib.Seq.{drop-cons, drop-drop, take_at, take-suc-set, get_or-drop}
-use borrow.Author.Tests.{leb-true}
+use borrow.Author.Tests.{leb-true, le-leb}
+use Rattle.std.specs.Prelude.{Option, Some, None, is_some, IsSome}
 use Rattle.notation.specs.Notation.{Base, origin, infinity, position, infinity_word, in_sign, to_sign, colon_sign, is_name, End, end, Offset, nothing, plus, minus, letter, digit, between, same, is_numeral}
 use Rattle.notation.specs.Reading.{Got, none, got, and_read, starts, Token, flag_token, negate_token, open_token, forall_token, one_digit, flag_digit, flag_point, read_flag, forall_colon, forall_second, forall_to, forall_first, forall_range, read_forall, run, past, read_name, read_base, read_numeral, read_offset, read_end}
 use Rattle.notation.specs.Bodies.{seek, value_on, offset_word, base_bytes, word_bytes, end_bytes}
 use Rattle.text_pieces.specs.Spots.{Found}
-use Rattle.text_to_body.specs.Work.{scope_of}
+use Rattle.text_to_body.specs.Work.{scope_of, sought}
 use Rattle.refusal.proofs.Bools.{and_true}
 use Rattle.notation.proofs.Spelling.{run_past, Gets, gets_bind, gets_cond, gets_expect, gets_digit}
 use Rattle.text_pieces.proofs.Scanning.{run_rest}
@@ -48,6 +49,11 @@ module _ (s names n : List ℕ) (i : ℕ) (e : i ≡ suc (i - 1)) where
 pub seek_none : (s names n : List ℕ) (i : ℕ) → i ≡ 0 → seek (scope_of s names i) n ≡ 0
 unfolding seek scope_of
 seek_none s names n i e = rw e
+
+-- A name is bound where it was found.
+pub sought_bound : (o : Option ℕ) (n : ℕ) → sought o ≡ n → is_some o ≡ leb 1 n
+sought_bound None n e = ap (leb 1) e
+sought_bound (Some v) n e = sym (le-leb 1 n (omega arith))
 
 -- ---- numbers
 
@@ -114,7 +120,7 @@ module _ (s : List ℕ) (at : ℕ) (b : Base) (t : List ℕ) (e : read_base (dro
       go false e = absurd (let z : ◌≡◌ {A = ℕ} 0 1 = cc in omega arith)
 
 -- A bound, from its base and its offset.
-module _ (s : List ℕ) (at q : ℕ) (f : Found s q (read_base (drop at s))) where
+module _ (s : List ℕ) (at q : ℕ) (f : Found s (Some q) (read_base (drop at s))) where
   pub end_parts : (E : End) (t : List ℕ) → read_end (drop at s) ≡ got E t
       → (b : Base) × (o : Offset) × (E ≡ end b o) × (read_base (drop at s) ≡ got b (drop q s)) × (read_offset (drop q s) ≡ got o t)
   unfolding read_end and_read
@@ -124,10 +130,40 @@ module _ (s : List ℕ) (at q : ℕ) (f : Found s q (read_base (drop at s))) whe
       ends b none e = absurd (let z : ◌≡◌ {A = ℕ} 0 1 = cc in omega arith)
       ends b (got o v) e = (o, cc, cc)
 
-      go : (x : Got Base) → Found s q x → and_read x (λ b u. and_read (read_offset u) (λ o v. got (end b o) v)) ≡ got E t
+      go : (x : Got Base) → Found s (Some q) x → and_read x (λ b u. and_read (read_offset u) (λ o v. got (end b o) v)) ≡ got E t
           → (b : Base) × (o : Offset) × (E ≡ end b o) × (x ≡ got b (drop q s)) × (read_offset (drop q s) ≡ got o t)
       go none f e = absurd (let z : ◌≡◌ {A = ℕ} 0 1 = cc in omega arith)
       go (got b u) f e = let g = ends b (read_offset u) (e) in (b, g.0, g.1, ap (got b) f.2, ap read_offset (sym f.2) ∙ g.2)
+
+-- Its base alone.
+pub end_base : (y : List ℕ) (E : End) (t : List ℕ) → read_end y ≡ got E t → (b : Base) × (o : Offset) × (u : List ℕ) × (E ≡ end b o) × (read_base y ≡ got b u)
+unfolding read_end and_read
+end_base y E t e = go (read_base y) e
+  where
+    ends : (b : Base) (y : Got Offset) → and_read y (λ o v. got (end b o) v) ≡ got E t → (o : Offset) × (E ≡ end b o)
+    ends b none e = absurd (let z : ◌≡◌ {A = ℕ} 0 1 = cc in omega arith)
+    ends b (got o v) e = (o, cc)
+
+    go : (x : Got Base) → and_read x (λ b u. and_read (read_offset u) (λ o v. got (end b o) v)) ≡ got E t
+        → (b : Base) × (o : Offset) × (u : List ℕ) × (E ≡ end b o) × (x ≡ got b u)
+    go none e = absurd (let z : ◌≡◌ {A = ℕ} 0 1 = cc in omega arith)
+    go (got b u) e = let g = ends b (read_offset u) e in (b, g.0, u, g.1, refl)
+
+-- Without a base there is no bound.
+pub no_end : (s : List ℕ) (at : ℕ) (E : End) (t : List ℕ) → Found s None (read_base (drop at s)) → read_end (drop at s) ≡ got E t → ⊥
+no_end s at E t f e = let b = end_base (drop at s) E t e in let g = subst (Found s None) b.4 f in g
+
+-- The offset of a bound, where its base ends at `q`.
+pub end_offset : (s : List ℕ) (at q : ℕ) (b : Base) (o : Offset) (t : List ℕ) → Found s (Some q) (read_base (drop at s)) → read_end (drop at s) ≡ got (end b o) t → read_offset (drop q s) ≡ got o t
+end_offset s at q b o t f e =
+    let p = end_parts s at q f (end b o) t e in
+    let m : o ≡ p.1 = let n : end b o ≡ end p.0 p.1 = p.2 in cc in
+    p.4 ∙ ap (λ (x : Offset). got x t) (sym m)
+
+-- What is read is found.
+pub there : {A : Type 0} (s : List ℕ) (o : Option ℕ) (x : Got A) (a : A) (t : List ℕ) → Found s o x → x ≡ got a t → IsSome o
+there s None x a t f e = absurd (subst (Found s None) e f)
+there s (Some q) x a t f e = refl
 
 pub end_written : (scope : List (List ℕ)) (b : Base) (o : Offset) (l m : List ℕ) (x : ℕ) → x ≡ offset_word o → m ≡ l ++ base_bytes scope b
     → m ++ ((x % 256) ∷ (x / 256 % 256) ∷ []) ≡ l ++ end_bytes scope (end b o)
@@ -222,9 +258,9 @@ module _ (s : List ℕ) (at e : ℕ) (r : e ≡ at + length (run letter (drop at
   pub first_end : read_end (drop (e + 4) s) ≡ got A (to_sign ++ forall_facts.1.1)
   first_end = ap read_end first_text ∙ forall_facts.1.3
 
-  module _ (q : ℕ) (f : Found s q (read_end (drop (e + 4) s))) where
+  module _ (q : ℕ) (f : Found s (Some q) (read_end (drop (e + 4) s))) where
     first_found : (q ≤ length s) × (to_sign ++ forall_facts.1.1 ≡ drop q s)
-    first_found = let g = subst (Found s q) first_end f in (g.1, g.2)
+    first_found = let g = subst (Found s (Some q)) first_end f in (g.1, g.2)
 
     pub second_room : q + 2 ≤ length s
     second_room = omega (arith, first_found.0, ap length first_found.1, length-drop q s)

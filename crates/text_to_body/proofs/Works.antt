@@ -11,6 +11,8 @@ use Rattle.notation.specs.Notation.{End, Named, negate, forall}
 use Rattle.notation.specs.Reading.{Got, none, got, and_read, starts, expect, Token, flag_token, negate_token, open_token, forall_token, read_token, Joint, then_joint, beside_joint, joint, joined, second, read_parts, formula_read}
 use Rattle.notation.specs.Bodies.{is_bound, flag_bytes, forall_bytes, joint_code, formula_bytes, end_bound, all_bound}
 use Rattle.text_to_body.specs.Work.{read_on, close_with, Next, resume_frame, after_formula, before_formula}
+use Rattle.text_to_body.specs.declared.cursor.Frame.{Frame}
+use Rattle.text_to_body.specs.declared.cursor.Frame.TheVariants.{Second, Range, First}
 use Rattle.notation.proofs.OneReading.{formula_step}
 
 and_assoc : (a b c : Bool) → (a && (b && c)) ≡ ((a && b) && c)
@@ -40,30 +42,30 @@ unfolding close_with
 close_same s f g h = ap (λ (x : Answer (List ℕ)). cond (starts (41 ∷ []) s) x (refused 25)) (h (drop 1 s))
 
 frame_same : (f g : Next) → ((sc : List (List ℕ)) (l : List ℕ) (u : Bool) (s : List ℕ) → f sc l u s ≡ g sc l u s)
-    → (n : ℕ) (sc : List (List ℕ)) (l : List ℕ) (u : Bool) (s : List ℕ) → resume_frame f n sc l u s ≡ resume_frame g n sc l u s
+    → (n : Frame) (sc : List (List ℕ)) (l : List ℕ) (u : Bool) (s : List ℕ) → resume_frame f n sc l u s ≡ resume_frame g n sc l u s
 unfolding resume_frame
-frame_same f g h zero sc l u s = close_same s (f sc l u) (g sc l u) (h sc l u)
-frame_same f g h (suc zero) sc l u s = h (drop 1 sc) l u s
-frame_same f g h (suc (suc p)) sc l u s =
+frame_same f g h Second sc l u s = close_same s (f sc l u) (g sc l u) (h sc l u)
+frame_same f g h Range sc l u s = h (drop 1 sc) l u s
+frame_same f g h (First p) sc l u s =
     answer_same (joint s) _ _ (λ j t. answer_same (formula_read t) _ _ (λ G v.
     close_same v (f sc (set l p (joint_code j) ++ formula_bytes sc G) (u && all_bound sc G)) (g sc (set l p (joint_code j) ++ formula_bytes sc G) (u && all_bound sc G))
     (h sc (set l p (joint_code j) ++ formula_bytes sc G) (u && all_bound sc G))))
 
 -- The frames above the opened do not matter.
-pub after_below : (d e v : ℕ) (frames : List ℕ) (sc : List (List ℕ)) (l : List ℕ) (u : Bool) (s : List ℕ) → d ≤ e → after_formula d (set frames e v) sc l u s ≡ after_formula d frames sc l u s
+pub after_below : (d e : ℕ) (v : Frame) (frames : List Frame) (sc : List (List ℕ)) (l : List ℕ) (u : Bool) (s : List ℕ) → d ≤ e → after_formula d (set frames e v) sc l u s ≡ after_formula d frames sc l u s
 unfolding after_formula
 after_below zero e v frames sc l u s h = refl
 after_below (suc d) e v frames sc l u s h =
-    ap (λ (n : ℕ). resume_frame (after_formula d (set frames e v)) n sc l u s) (get_or-set_other frames e d v 0 (omega arith))
-    ∙ frame_same (after_formula d (set frames e v)) (after_formula d frames) (λ sc' l' u' s'. after_below d e v frames sc' l' u' s' (omega arith)) (get_or frames d 0) sc l u s
+    ap (λ (n : Frame). resume_frame (after_formula d (set frames e v)) n sc l u s) (get_or-set_other frames e d v Second (omega arith))
+    ∙ frame_same (after_formula d (set frames e v)) (after_formula d frames) (λ sc' l' u' s'. after_below d e v frames sc' l' u' s' (omega arith)) (get_or frames d Second) sc l u s
 
 -- A formula whose frame was just pushed.
-pushed : (d v : ℕ) (frames : List ℕ) (sc : List (List ℕ)) (l : List ℕ) (u : Bool) (s : List ℕ) → d < length frames
+pushed : (d : ℕ) (v : Frame) (frames : List Frame) (sc : List (List ℕ)) (l : List ℕ) (u : Bool) (s : List ℕ) → d < length frames
     → resume_frame (after_formula d frames) v sc l u s ≡ after_formula (suc d) (set frames d v) sc l u s
 unfolding after_formula
 pushed d v frames sc l u s h =
     frame_same (after_formula d frames) (after_formula d (set frames d v)) (λ sc' l' u' s'. sym (after_below d d v frames sc' l' u' s' (omega arith))) v sc l u s
-    ∙ ap (λ (n : ℕ). resume_frame (after_formula d (set frames d v)) n sc l u s) (sym (get_or-set_same frames d v 0 h))
+    ∙ ap (λ (n : Frame). resume_frame (after_formula d (set frames d v)) n sc l u s) (sym (get_or-set_same frames d v Second h))
 
 joined_bytes : (j : Joint) (F G : Named) (sc : List (List ℕ)) (l : List ℕ)
     → l ++ formula_bytes sc (joined j F G) ≡ set ((l ++ (0 ∷ [])) ++ formula_bytes sc F) (length l) (joint_code j) ++ formula_bytes sc G
@@ -82,7 +84,7 @@ unfolding joined all_bound
 joined_bound then_joint F G sc u = and_assoc u (all_bound sc F) (all_bound sc G)
 joined_bound beside_joint F G sc u = and_assoc u (all_bound sc F) (all_bound sc G)
 
-module _ (d : ℕ) (frames : List ℕ) (sc : List (List ℕ)) (l : List ℕ) (u : Bool) (s : List ℕ) where
+module _ (d : ℕ) (frames : List Frame) (sc : List (List ℕ)) (l : List ℕ) (u : Bool) (s : List ℕ) where
   abbrev Then : Named → List ℕ → Answer (List ℕ)
   Then F t = after_formula d frames sc (l ++ formula_bytes sc F) (u && all_bound sc F) t
 
@@ -106,16 +108,16 @@ module _ (d : ℕ) (frames : List ℕ) (sc : List (List ℕ)) (l : List ℕ) (u 
         ∙ answer_same (formula_read t) _ _ (λ F v. ap (λ (x : List ℕ). after_formula d frames sc x (u && all_bound sc F) v) (sym (append_assoc l (2 ∷ []) (formula_bytes sc F)))))
 
     pub before_forall : (n : List ℕ) (A B : End) → d < length frames → read_token s ≡ got (forall_token n A B) t
-        → before_formula d frames sc l u s ≡ before_formula (suc d) (set frames d 1) (n ∷ sc) (l ++ forall_bytes sc A B) (u && (end_bound sc A && end_bound sc B)) t
+        → before_formula d frames sc l u s ≡ before_formula (suc d) (set frames d Range) (n ∷ sc) (l ++ forall_bytes sc A B) (u && (end_bound sc A && end_bound sc B)) t
     unfolding before_formula read_on and_read read_parts formula_bytes all_bound resume_frame
     before_forall n A B h e =
         open_step ∙ rw e (answer_bind (formula_read t) (λ F v. got (forall n A B F) v) (Then)
         ∙ answer_same (formula_read t) _ _ (λ F v.
         ap (λ (x : List ℕ). after_formula d frames sc x (u && ((end_bound sc A && end_bound sc B) && all_bound (n ∷ sc) F)) v) (sym (append_assoc l (forall_bytes sc A B) (formula_bytes (n ∷ sc) F)))
         ∙ ap (λ (b : Bool). after_formula d frames sc ((l ++ forall_bytes sc A B) ++ formula_bytes (n ∷ sc) F) b v) (and_assoc u (end_bound sc A && end_bound sc B) (all_bound (n ∷ sc) F))
-        ∙ pushed d 1 frames (n ∷ sc) ((l ++ forall_bytes sc A B) ++ formula_bytes (n ∷ sc) F) ((u && (end_bound sc A && end_bound sc B)) && all_bound (n ∷ sc) F) v h))
+        ∙ pushed d Range frames (n ∷ sc) ((l ++ forall_bytes sc A B) ++ formula_bytes (n ∷ sc) F) ((u && (end_bound sc A && end_bound sc B)) && all_bound (n ∷ sc) F) v h))
 
-    pub before_open : d < length frames → read_token s ≡ got open_token t → before_formula d frames sc l u s ≡ before_formula (suc d) (set frames d (suc (suc (length l)))) sc (l ++ (0 ∷ [])) u t
+    pub before_open : d < length frames → read_token s ≡ got open_token t → before_formula d frames sc l u s ≡ before_formula (suc d) (set frames d (First (length l))) sc (l ++ (0 ∷ [])) u t
     unfolding before_formula and_read read_parts second resume_frame
     before_open h e =
         open_step
@@ -130,26 +132,26 @@ module _ (d : ℕ) (frames : List ℕ) (sc : List (List ℕ)) (l : List ℕ) (u 
         ∙ close_same x _ _ (λ y.
         ap (λ (z : List ℕ). after_formula d frames sc z (u && all_bound sc (joined j F G)) y) (joined_bytes j F G sc l)
         ∙ ap (λ (b : Bool). after_formula d frames sc (set ((l ++ (0 ∷ [])) ++ formula_bytes sc F) (length l) (joint_code j) ++ formula_bytes sc G) b y) (joined_bound j F G sc u))))
-        ∙ pushed d (suc (suc (length l))) frames sc ((l ++ (0 ∷ [])) ++ formula_bytes sc F) (u && all_bound sc F) v h)
+        ∙ pushed d (First (length l)) frames sc ((l ++ (0 ∷ [])) ++ formula_bytes sc F) (u && all_bound sc F) v h)
 
-    pub after_joint : (p : ℕ) (j : Joint) → d < length frames → get_or frames d 0 ≡ suc (suc p) → joint s ≡ got j t
-        → after_formula (suc d) frames sc l u s ≡ before_formula (suc d) (set frames d 0) sc (set l p (joint_code j)) u t
+    pub after_joint : (p : ℕ) (j : Joint) → d < length frames → get_or frames d Second ≡ First p → joint s ≡ got j t
+        → after_formula (suc d) frames sc l u s ≡ before_formula (suc d) (set frames d Second) sc (set l p (joint_code j)) u t
     unfolding before_formula read_on after_formula resume_frame
     after_joint p j h z e =
-        rw (z, e) (answer_same (formula_read t) _ _ (λ G v. pushed d 0 frames sc (set l p (joint_code j) ++ formula_bytes sc G) (u && all_bound sc G) v h))
+        rw (z, e) (answer_same (formula_read t) _ _ (λ G v. pushed d Second frames sc (set l p (joint_code j) ++ formula_bytes sc G) (u && all_bound sc G) v h))
 
-  pub after_unjoined : (p : ℕ) → get_or frames d 0 ≡ suc (suc p) → joint s ≡ none → after_formula (suc d) frames sc l u s ≡ refused 25
+  pub after_unjoined : (p : ℕ) → get_or frames d Second ≡ First p → joint s ≡ none → after_formula (suc d) frames sc l u s ≡ refused 25
   unfolding read_on after_formula resume_frame
   after_unjoined p z e = rw (z, e)
 
-  pub after_binding : get_or frames d 0 ≡ 1 → after_formula (suc d) frames sc l u s ≡ after_formula d frames (drop 1 sc) l u s
+  pub after_binding : get_or frames d Second ≡ Range → after_formula (suc d) frames sc l u s ≡ after_formula d frames (drop 1 sc) l u s
   unfolding after_formula resume_frame
   after_binding z = rw z
 
-  pub after_close : get_or frames d 0 ≡ 0 → starts (41 ∷ []) s ≡ true → after_formula (suc d) frames sc l u s ≡ after_formula d frames sc l u (drop 1 s)
+  pub after_close : get_or frames d Second ≡ Second → starts (41 ∷ []) s ≡ true → after_formula (suc d) frames sc l u s ≡ after_formula d frames sc l u (drop 1 s)
   unfolding after_formula resume_frame close_with
   after_close z e = rw (z, e)
 
-  pub after_unclosed : get_or frames d 0 ≡ 0 → starts (41 ∷ []) s ≡ false → after_formula (suc d) frames sc l u s ≡ refused 25
+  pub after_unclosed : get_or frames d Second ≡ Second → starts (41 ∷ []) s ≡ false → after_formula (suc d) frames sc l u s ≡ refused 25
   unfolding after_formula resume_frame close_with
   after_unclosed z e = rw (z, e)

@@ -1,12 +1,19 @@
-// A cursor in a text.
-ghost use Rattle.std.specs.Prelude.{◌≡◌, suc, ◌≤◌};
-ghost use Rattle.text_to_body.specs.Cursors.{Nowhere};
+// A cursor in a text, and what a translation works in.
+ghost use Rattle.std.specs.Prelude.{◌≤◌, length};
 
-// Before a formula (mode 0), after one (1), at the text's end with nothing open (2), or misspelt (3); the position in the text, how many frames are
-// open, how many names are in scope, how many bytes of the body are written, and whether all names so far are bound.
+// What comes next: a formula, what follows one, or nothing, where the text has ended with nothing open.
+#[derive(Clone, Copy)]
+pub(crate) enum Mode {
+    Before,
+    After,
+    Whole,
+}
+
+// The position in the text, how many frames are open, how many names are in scope, how many bytes of the body are written, and whether all names so
+// far are bound.
 #[derive(Clone, Copy)]
 pub(crate) struct Cursor {
-    pub mode: u8,
+    pub mode: Mode,
     pub at: usize,
     pub opened: usize,
     pub scope: usize,
@@ -14,24 +21,21 @@ pub(crate) struct Cursor {
     pub resolved: bool,
 }
 
-// Where a misspelt text leads.
-pub(crate) fn misspelt() -> Cursor
-    ensures { Nowhere result }
-{
-    Cursor {
-        mode: 3,
-        at: 0,
-        opened: 0,
-        scope: 0,
-        written: 0,
-        resolved: true,
-    }
+// What is open: a bracket whose second part is being read, a quantifier whose formula is being read, or a bracket whose first part is being read and
+// whose code is to stand at a byte of the body.
+#[derive(Clone, Copy)]
+pub(crate) enum Frame {
+    Second,
+    Range,
+    First(u16),
 }
 
-// The frame of a bracket whose code is to stand at a byte of the body.
-pub(crate) fn bracket_frame(at: usize) -> u16
-    requires { at ≤ 4096 }
-    ensures { result ≡ suc (suc at) }
-{
-    (at + 2) as u16
+// A text, and the memory to translate it in: the frames that are open, the positions of the names in scope, the innermost last, and the body's bytes.
+#[derive(Drop)]
+pub(crate) struct Work<'a> {
+    pub text: &'a [u8],
+    pub frames: [Frame; 4096],
+    pub names: [usize; 256],
+    pub bytes: [u8; 4096],
+    ghost short: { length text.now ≤ 4096 },
 }

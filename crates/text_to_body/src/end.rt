@@ -1,14 +1,15 @@
 // One step after a formula: what is open around it goes on or is closed.
-ghost use Rattle.std.specs.Prelude.{◌≡◌, List, ℕ, ◌-◌, ◌≤◌, length, drop, get_or};
+ghost use Rattle.std.specs.Prelude.{◌≡◌, Some, List, ℕ, ◌-◌, ◌≤◌, length, drop, get_or};
 ghost use Rattle.notation.specs.Reading.{Joint, joint, got};
 ghost use Rattle.notation.specs.Bodies.{joint_code};
-ghost use Rattle.text_to_body.specs.Cursors.{CursorFits, Moved};
+ghost use Rattle.text_to_body.specs.declared.cursor.Mode.TheVariants.{After};
+ghost use Rattle.text_to_body.specs.declared.cursor.Frame.TheVariants.{Second, Range, First};
+ghost use Rattle.text_to_body.specs.Cursors.{CursorFits, Stepped};
 
 use crate::codes::{BESIDE_CODE_BYTE, THEN_CODE_BYTE};
-use crate::cursor::{Cursor, misspelt};
+use crate::cursor::{Cursor, Frame, Mode, Work};
 use crate::scope::put;
 use text_pieces::{joint_end, starts_at};
-use words::word_value;
 
 // The code of the connective at a position: 03 for "&&", 04 for "/\".
 fn joint_code(text: &[u8], at: usize) -> u8
@@ -20,104 +21,76 @@ fn joint_code(text: &[u8], at: usize) -> u8
     BESIDE_CODE_BYTE
 }
 
-// One less, and 0 for 0.
-fn less_one(number: usize) -> usize
-    ensures { result ≡ number - 1 }
-{
-    if number == 0 {
-        return 0;
+impl<'a> Work<'a> {
+    // At the text's end nothing may be open.
+    fn end_text(&mut self, cursor: Cursor) -> Option<Cursor>
+        requires { (cursor.mode ≡ After) × CursorFits self.old.text.now cursor × (cursor.opened ≡ 0) }
+        ensures { Stepped self.old cursor self.new result }
+    {
+        if cursor.at != self.text.len() {
+            return None;
+        }
+        Some(Cursor {
+            mode: Mode::Whole,
+            ..cursor
+        })
     }
-    number - 1
-}
 
-// At the text's end nothing may be open.
-fn end_text(text: &[u8], cursor: Cursor) -> Cursor
-    requires { (cursor.mode ≡ 1) × CursorFits text.now cursor × (cursor.opened ≡ 0) }
-    ensures { (frames names out : List ℕ) → Moved text.now frames names out cursor frames names out result }
-{
-    if cursor.at != text.len() {
-        return misspelt();
+    // After a bracket's second part.
+    fn end_bracket(&mut self, cursor: Cursor) -> Option<Cursor>
+        requires { (cursor.mode ≡ After) × CursorFits self.old.text.now cursor × (1 ≤ cursor.opened) × (get_or self.old.frames (cursor.opened - 1) Second ≡ Second) }
+        ensures { Stepped self.old cursor self.new result }
+    {
+        if !starts_at(self.text, cursor.at, b")") {
+            return None;
+        }
+        Some(Cursor {
+            at: cursor.at + 1,
+            opened: cursor.opened - 1,
+            ..cursor
+        })
     }
-    Cursor {
-        mode: 2,
-        at: cursor.at,
-        opened: 0,
-        scope: cursor.scope,
-        written: cursor.written,
-        resolved: cursor.resolved,
-    }
-}
 
-// After a bracket's second part.
-fn end_bracket(text: &[u8], cursor: Cursor) -> Cursor
-    requires { (cursor.mode ≡ 1) × CursorFits text.now cursor × (1 ≤ cursor.opened) }
-    ensures { (frames names out : List ℕ) → get_or frames (cursor.opened - 1) 0 ≡ 0 → Moved text.now frames names out cursor frames names out result }
-{
-    if !starts_at(text, cursor.at, b")") {
-        return misspelt();
+    // After a quantifier's formula: its name goes out of scope.
+    fn end_range(&mut self, cursor: Cursor) -> Cursor
+        requires { (cursor.mode ≡ After) × CursorFits self.old.text.now cursor × (1 ≤ cursor.opened) × (get_or self.old.frames (cursor.opened - 1) Second ≡ Range) }
+        ensures { Stepped self.old cursor self.new (Some result) }
+    {
+        Cursor {
+            opened: cursor.opened - 1,
+            scope: cursor.scope.saturating_sub(1),
+            ..cursor
+        }
     }
-    Cursor {
-        mode: 1,
-        at: cursor.at + 1,
-        opened: cursor.opened - 1,
-        scope: cursor.scope,
-        written: cursor.written,
-        resolved: cursor.resolved,
-    }
-}
 
-// After a quantifier's formula: its name goes out of scope.
-fn end_range(cursor: Cursor) -> Cursor
-    requires { (cursor.mode ≡ 1) × (1 ≤ cursor.opened) }
-    ensures { (text frames names out : List ℕ) → CursorFits text cursor → get_or frames (cursor.opened - 1) 0 ≡ 1 → Moved text frames names out cursor frames names out result }
-{
-    Cursor {
-        mode: 1,
-        at: cursor.at,
-        opened: cursor.opened - 1,
-        scope: less_one(cursor.scope),
-        written: cursor.written,
-        resolved: cursor.resolved,
+    // After a bracket's first part, whose code is to stand at byte `at`: now it is known which code the bracket has.
+    fn end_first(&mut self, cursor: Cursor, at: u16) -> Option<Cursor>
+        requires { (cursor.mode ≡ After) × CursorFits self.old.text.now cursor × (1 ≤ cursor.opened) × (get_or self.old.frames (cursor.opened - 1) Second ≡ First at) }
+        ensures { Stepped self.old cursor self.new result }
+    {
+        let end = joint_end(self.text, cursor.at)?;
+        let code = joint_code(self.text, cursor.at);
+        put(&mut self.bytes, usize::from(at), code);
+        self.frames[cursor.opened - 1] = Frame::Second;
+        Some(Cursor {
+            mode: Mode::Before,
+            at: end,
+            ..cursor
+        })
     }
-}
 
-// After a bracket's first part, whose frame is `top`: now it is known which code the bracket has.
-fn end_first(text: &[u8], frames: &mut [u16], out: &mut [u8], cursor: Cursor, top: usize) -> Cursor
-    requires { (cursor.mode ≡ 1) × CursorFits text.now cursor × (1 ≤ cursor.opened) × (cursor.opened ≤ length frames.old) × (2 ≤ top) × (get_or frames.old (cursor.opened - 1) 0 ≡ top) }
-    ensures { (names : List ℕ) → Moved text.now frames.old names out.old cursor frames.new names out.new result }
-{
-    let inner = cursor.opened - 1;
-    let end = joint_end(text, cursor.at);
-    if end == 0 {
-        return misspelt();
+    // By the innermost frame that is open.
+    pub(crate) fn end_formula(&mut self, cursor: Cursor) -> Option<Cursor>
+        requires { (cursor.mode ≡ After) × CursorFits self.old.text.now cursor }
+        ensures { Stepped self.old cursor self.new result }
+    {
+        if cursor.opened == 0 {
+            return self.end_text(cursor);
+        }
+        match self.frames[cursor.opened - 1] {
+            Frame::Second => self.end_bracket(cursor),
+            Frame::Range => Some(self.end_range(cursor)),
+            Frame::First(at) => self.end_first(cursor, at),
+        }
     }
-    put(out, top - 2, joint_code(text, cursor.at));
-    frames[inner] = 0;
-    Cursor {
-        mode: 0,
-        at: end,
-        opened: cursor.opened,
-        scope: cursor.scope,
-        written: cursor.written,
-        resolved: cursor.resolved,
-    }
-}
-
-// By the innermost frame that is open.
-pub(crate) fn end_formula(text: &[u8], frames: &mut [u16], out: &mut [u8], cursor: Cursor) -> Cursor
-    requires { (cursor.mode ≡ 1) × CursorFits text.now cursor × (cursor.opened ≤ length frames.old) }
-    ensures { (names : List ℕ) → Moved text.now frames.old names out.old cursor frames.new names out.new result }
-{
-    if cursor.opened == 0 {
-        return end_text(text, cursor);
-    }
-    let inner = cursor.opened - 1;
-    let top = word_value(frames[inner]);
-    if top == 0 {
-        return end_bracket(text, cursor);
-    }
-    if top == 1 {
-        return end_range(cursor);
-    }
-    end_first(text, frames, out, cursor, top)
 }

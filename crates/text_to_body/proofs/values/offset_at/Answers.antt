@@ -20,19 +20,19 @@ returns-then-starts_at c =
 pub overflow_add-at-then-starts_at-2 : goal.overflow_add-at-then-starts_at-2
 overflow_add-at-then-starts_at-2 c =
     let a = c.args in
-    let w = word_fits a.text.now (45 ∷ []) a.at (omega arith) (sym c.starts_at-2.ensures ∙ c.if-starts_at-2.true) in omega (arith, w)
+    let w = word_fits a.text.now (45 ∷ []) a.at (omega arith) (sym c.starts_at-else-starts_at.ensures ∙ c.if-starts_at-2.true) in omega (arith, w)
 
 pub returns-then-starts_at-2 : goal.returns-then-starts_at-2
 returns-then-starts_at-2 c =
     let a = c.args in
     let v = c.value_at-then-starts_at-2.ensures.0 in
     let e₁ = sym c.starts_at.ensures ∙ c.if-starts_at.false in
-    let e₂ = sym c.starts_at-2.ensures ∙ c.if-starts_at-2.true in
+    let e₂ = sym c.starts_at-else-starts_at.ensures ∙ c.if-starts_at-2.true in
     (omega arith, λ o t e. ap (λ (n : ℕ). (65536 - n) % 65536) v ∙ sym (minus_word a.text.now a.at o t e e₁ e₂))
 
-pub returns : goal.returns
-returns c =
+pub returns-else-starts_at-2 : goal.returns-else-starts_at-2
+returns-else-starts_at-2 c =
     let a = c.args in
     let e₁ = sym c.starts_at.ensures ∙ c.if-starts_at.false in
-    let e₂ = sym c.starts_at-2.ensures ∙ c.if-starts_at-2.false in
+    let e₂ = sym c.starts_at-else-starts_at.ensures ∙ c.if-starts_at-2.false in
     (omega arith, λ o t e. sym (no_word a.text.now a.at o t e e₁ e₂))

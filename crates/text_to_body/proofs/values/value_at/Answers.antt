@@ -7,26 +7,26 @@ use Rattle.text_pieces.proofs.Scanning.{run_stop, run_none}
 use Rattle.text_to_body.proofs.Scopes.{digit_least, value_more, value_done}
 use Rattle.text_to_body.proofs.values.value_at.Goals as goal
 
+pub with_digit-number-requires : goal.with_digit-number-requires
+with_digit-number-requires c =
+    let a = c.args in
+    let t = sym c.is_between.ensures ∙ c.if-not-is_between.false in
+    (c.loop-index.invariant.0, digit_least (get_or a.text.now c.loop-index.index 0) t)
+
+pub loop-index-preserved : goal.loop-index-preserved
+loop-index-preserved c =
+    let a = c.args in
+    let l = c.loop-index in
+    let t = sym c.is_between.ensures ∙ c.if-not-is_between.false in
+    let q = value_more a.text.now l.index l.number c.loop-index-test.true t in
+    (c.with_digit-number.ensures.1, rw (add-one l.index, c.with_digit-number.ensures.0) (l.invariant.1 ∙ q))
+
 pub returns-then-not-is_between : goal.returns-then-not-is_between
 returns-then-not-is_between c =
     let l = c.loop-index in
     let t = sym c.is_between.ensures ∙ c.if-not-is_between.true in
     let q = run_stop digit c.args.text.now l.index c.loop-index-test.true t in
     (sym (l.invariant.1 ∙ value_done c.args.text.now l.index l.number q), l.invariant.0)
-
-pub with_digit-number-requires : goal.with_digit-number-requires
-with_digit-number-requires c =
-    let args = c.args in
-    let t = sym c.is_between.ensures ∙ c.if-not-is_between.false in
-    (c.loop-index.invariant.0, digit_least (get_or args.text.now c.loop-index.index 0) t)
-
-pub loop-index-preserved : goal.loop-index-preserved
-loop-index-preserved c =
-    let args = c.args in
-    let l = c.loop-index in
-    let t = sym c.is_between.ensures ∙ c.if-not-is_between.false in
-    let q = value_more args.text.now l.index l.number c.loop-index-test.true t in
-    (c.with_digit-number.ensures.1, rw (add-one l.index, c.with_digit-number.ensures.0) (l.invariant.1 ∙ q))
 
 pub returns : goal.returns
 returns c =
