@@ -5,8 +5,6 @@ ghost use Rattle.cell_runs.specs.Moves.{Stands};
 ghost use Rattle.state_bytes.specs.States.{state_in, in_bytes};
 ghost use Rattle.refusal.specs.Answer.{answered, KeptIfRefused};
 
-use engine::OpenAnswer;
-use instances::{BatchAnswer, StepAnswer};
 use state_bytes::{STATE_BYTES, load, store, store_progress};
 
 // Opens a rule of a sheet over a lent history, which is zeroed, and a lent cell table, which is only measured: refusals 1 to 15, 23, 24,
@@ -20,14 +18,12 @@ pub fn sw_open(
 ) -> u32
     ensures { OpenPromise Stands in_bytes state.old (opening_of (answered result (state_in state.new)) sheet.now rule history.old cells.now history.new) state.new }
 {
-    let opened = engine::open(sheet, rule, history, cells);
-    let answer = opened.answer;
-    match answer {
-        OpenAnswer::Refused(refusal) => refusal::number(refusal),
-        OpenAnswer::Opened => {
-            store(state, opened.state);
+    match engine::open(sheet, rule, history, cells) {
+        Ok(opened) => {
+            store(state, opened);
             0
         }
+        Err(why) => refusal::number(why),
     }
 }
 
@@ -45,17 +41,16 @@ pub fn sw_step(
     ensures kept_if_refused { KeptIfRefused result reported.old reported.new }
     ensures kept_if_refused_2 { KeptIfRefused result live.old live.new }
 {
-    let stepped = engine::step(load(state), flag, history, cells, report);
-    let answer = stepped.answer;
-    let next = stepped.state.next;
-    match answer {
-        StepAnswer::Refused(refusal) => refusal::number(refusal),
-        StepAnswer::Taken(report_count, live_count) => {
-            store_progress(state, next, live_count);
-            *reported = report_count;
-            *live = live_count;
+    let mut held = load(state);
+    match engine::step(&mut held, flag, history, cells, report) {
+        Ok(counts) => {
+            let next = held.next;
+            store_progress(state, next, counts.live);
+            *reported = counts.reported;
+            *live = counts.live;
             0
         }
+        Err(refusal) => refusal::number(refusal),
     }
 }
 
@@ -76,17 +71,16 @@ pub fn sw_steps(
     ensures kept_if_refused_2 { KeptIfRefused result pairs.old pairs.new }
     ensures kept_if_refused_3 { KeptIfRefused result live.old live.new }
 {
-    let batched = engine::steps(load(state), flags, history, cells, report);
-    let answer = batched.answer;
-    let next = batched.state.next;
-    match answer {
-        BatchAnswer::Refused(refusal) => refusal::number(refusal),
-        BatchAnswer::Taken(flag_count, pair_count, live_count) => {
-            store_progress(state, next, live_count);
-            *taken = flag_count;
-            *pairs = pair_count;
-            *live = live_count;
+    let mut held = load(state);
+    match engine::steps(&mut held, flags, history, cells, report) {
+        Ok(batch) => {
+            let next = held.next;
+            store_progress(state, next, batch.live);
+            *taken = batch.taken;
+            *pairs = batch.pairs;
+            *live = batch.live;
             0
         }
+        Err(refusal) => refusal::number(refusal),
     }
 }

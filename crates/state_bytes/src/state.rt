@@ -1,5 +1,5 @@
 // The state's parts in their places.
-ghost use Rattle.std.specs.Prelude.{◌≡◌, ◌≤◌, length, take};
+ghost use Rattle.std.specs.Prelude.{◌≡◌, ◌≤◌, ◌<◌, length, take};
 ghost use Rattle.state_bytes.specs.Numbers.{number_at};
 ghost use Rattle.state_bytes.specs.States.{loaded, stored, moved_bytes};
 
@@ -54,8 +54,7 @@ pub fn load(state: &[u8; STATE_BYTES]) -> State
 pub fn store(bytes: &mut [u8; STATE_BYTES], state: State)
     ensures { bytes.new ≡ stored state }
 {
-    let body = state.body;
-    bytes[..MAX_BODY].copy_from_slice(&body);
+    bytes[..MAX_BODY].copy_from_slice(&state.body);
     put_number(bytes, SIZE_AT, state.size);
     put_number(bytes, OPENED_AT, state.opened);
     put_number(bytes, NEXT_AT, state.next as usize);
@@ -64,7 +63,8 @@ pub fn store(bytes: &mut [u8; STATE_BYTES], state: State)
 
 // Stores another next tick and live count.
 pub fn store_progress(state: &mut [u8; STATE_BYTES], next: u64, live: usize)
-    ensures { state.new ≡ moved_bytes state.old next live }
+    ensures state_after { state.new ≡ moved_bytes state.old next live }
+    ensures next_fits { next < 18446744073709551616 }
 {
     put_number(state, NEXT_AT, next as usize);
     put_number(state, LIVE_AT, live);
