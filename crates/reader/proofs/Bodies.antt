@@ -14,7 +14,7 @@ use Rattle.rule.specs.Formula.{Formula, formulas}
 use Rattle.rule.specs.Body.{Read, stop, read, formula_at, whole, body}
 use Rattle.nodes.specs.Table.{formula_in, Holds, Cleared}
 use Rattle.nodes.proofs.Nodes.{tabled}
-use Rattle.reader.specs.declared.FormulaEnd.{FormulaEnd}
+use Rattle.reader.specs.declared.Position.{Position}
 use Rattle.reader.specs.Written.{node_start}
 use Rattle.reader.specs.Filled.{ending, formula_end, Placed, Filled}
 use Rattle.reader.specs.Decoded.{reading_answer, Tabled, Decoded}
@@ -25,7 +25,7 @@ use Rattle.reader.proofs.Nodes.{end_at}
 decoded : (s ns : List ℕ) (r : Result (Unit {0}) Refusal) (b : Answer Formula) → b ≡ body s → reading_answer r ns ≡ b → Tabled ns b → Decoded s r ns
 decoded s ns r b e f t = record { answer = f ∙ e; tabled = subst (Tabled ns) e t }
 
-module _ (s old new : List ℕ) (p : Result FormulaEnd Refusal) (f : Filled s 0 0 64 old p new) where
+module _ (s old new : List ℕ) (p : Result Position Refusal) (f : Filled s 0 0 64 old p new) where
   pub body_refused : (ns : List ℕ) (x : Refusal) → p ≡ Err x → Cleared ns → Decoded s (Err x) ns
   unfolding body whole
   body_refused ns x e t = go (formula_at s 0 0 64) refl (sym (ap answer_of e) ∙ f.answer)

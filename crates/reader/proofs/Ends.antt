@@ -4,6 +4,7 @@ use mathlib.Core.Path.{◌≡◌, refl, sym, ap, ◌∙◌}
 use mathlib.Core.Logic.{◌⊎◌, inl, inr}
 use mathlib.Core.List.{List}
 use native.Mathlib.Omega.{arith}
+use lib.ListN.{length}
 use Rattle.words.specs.Words.{byte}
 use Rattle.refusal.specs.Answer.{Answer, refused, accepted}
 use Rattle.refusal.proofs.Answers.{same_value}
@@ -11,9 +12,9 @@ use Rattle.rule.specs.Formula.{Formula, negate, then, beside, forall}
 use Rattle.rule.specs.Body.{Head, refuse, flag_head, negate_head, then_head, beside_head, forall_head, bound, after_code, head, Read, stop, read, one, two, parts, formula_at}
 use Rattle.rule.proofs.Order.{by_order}
 use Rattle.rule.proofs.Reading.{require_holds, bound_holds, formula_step, Advances, advances}
-use Rattle.rule.proofs.Heads.{Only, Accepts, accepts_reads, Positive, head_positive}
+use Rattle.rule.proofs.Heads.{Only, Accepts, Tested, accepts_tested, accepts_reads, Positive, head_positive}
 use Rattle.formula_bytes.specs.Checks.{head_number}
-use Rattle.reader.specs.declared.FormulaEnd.{FormulaEnd}
+use Rattle.reader.specs.declared.Position.{Position}
 use Rattle.reader.specs.Filled.{ending, formula_end}
 
 pub head_accepts : (s : List ℕ) (at m left : ℕ) → head_number (head s at m left) ≡ 0 → Accepts (head s at m left)
@@ -27,9 +28,26 @@ head_accepts s at m left e = go (head s at m left) (head_positive s at m left) e
     go beside_head p e = tt
     go (forall_head B₁ B₂) p e = tt
 
+-- what a head without a refusal says of the bytes, the formulas left and the nesting
+module _ (s : List ℕ) (at m left : ℕ) (e : 0 ≡ head_number (head s at m left)) where
+  tested : Tested s at m left
+  tested = accepts_tested s at m left (head_accepts s at m left (sym e))
+
+  pub head_there : at < length s
+  head_there = tested.there
+
+  pub head_left : 1 ≤ left
+  head_left = tested.some_left
+
+  pub head_nested : byte s at ≡ 5 → m < 4
+  head_nested = tested.nested
+
+  pub head_two : (byte s at ≡ 1 → ⊥) → (byte s at ≡ 2 → ⊥) → (byte s at ≡ 5 → ⊥) → (3 ≤ byte s at) × (byte s at ≤ 4)
+  head_two a b c = let f = tested in (omega (arith, f.known_low), omega (arith, f.known_high))
+
 -- the same end
 pub same_ends : {x y next rest : ℕ} → accepted (ending x y) ≡ accepted (ending next rest) → (x ≡ next) × (y ≡ rest)
-same_ends e = let q = same_value e in (ap (λ (z : FormulaEnd). z.next) q, ap (λ (z : FormulaEnd). z.left) q)
+same_ends e = let q = same_value e in (ap (λ (z : Position). z.at) q, ap (λ (z : Position). z.left) q)
 
 pub refused_end : (s : List ℕ) (at m left n : ℕ) → n ≡ head_number (head s at m left) → (n ≡ 0 → ⊥) → refused n ≡ formula_end (formula_at s at m left)
 unfolding parts
@@ -73,7 +91,7 @@ module _ (s : List ℕ) (at m left : ℕ) (a : Accepts (head s at m left)) where
       go (inl k) = let e : byte s at ≡ 3 = omega arith in (then, accepts_reads then_head s at m left (rw e refl) a)
       go (inr k) = let e : byte s at ≡ 4 = omega arith in (beside, accepts_reads beside_head s at m left (rw e refl) a)
 
-  module _ (i : 3 ≤ byte s at) (j : byte s at ≤ 4) {o : Answer FormulaEnd} (e : o ≡ formula_end (formula_at s (at + 1) m (left - 1))) where
+  module _ (i : 3 ≤ byte s at) (j : byte s at ≤ 4) {o : Answer Position} (e : o ≡ formula_end (formula_at s (at + 1) m (left - 1))) where
     pub first_refused : {n : ℕ} → o ≡ refused n → refused n ≡ formula_end (formula_at s at m left)
     unfolding two
     first_refused {n} x = go (formula_at s (at + 1) m (left - 1)) (sym x ∙ e) ∙ sym (ap formula_end (two_shape i j).1)

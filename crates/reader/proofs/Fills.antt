@@ -19,11 +19,11 @@ use Rattle.rule.proofs.Reading.{require_holds, bound_holds, formula_step}
 use Rattle.rule.proofs.Heads.{Only, Accepts, accepts_tested, accepts_reads}
 use Rattle.nodes.specs.Table.{bound_of, bound_at, Holds}
 use Rattle.nodes.proofs.Nodes.{frame}
-use Rattle.reader.specs.declared.FormulaEnd.{FormulaEnd}
+use Rattle.reader.specs.declared.Position.{Position}
 use Rattle.formula_bytes.specs.Checks.{head_number}
 use Rattle.reader.specs.Written.{node_start, head_word, Headed}
 use Rattle.reader.specs.Filled.{ending, formula_end, Placed, Filled}
-use Rattle.reader.proofs.Ends.{same_ends, refused_end, flag_end, negate_end, forall_end, first_refused, second_end, second_below}
+use Rattle.reader.proofs.Ends.{head_accepts, same_ends, refused_end, flag_end, negate_end, forall_end, first_refused, second_end, second_below}
 
 -- a refusal of the head
 pub refused_fill : (s : List ℕ) (at m left : ℕ) (ns : List ℕ) (x : Refusal) → number_of x ≡ head_number (head s at m left) → Filled s at m left ns (Err x) ns
@@ -78,7 +78,13 @@ module _ (s : List ℕ) (at i : ℕ) (old new : List ℕ) (h : Headed s at i old
       simp (o, a, b, x, y, h.words 4 (omega arith), h.words 5 (omega arith), h.words 6 (omega arith))
 
 -- the arms that write a node
-module _ (s : List ℕ) (at m left : ℕ) (bounded : left ≤ 64) (a : Accepts (head s at m left)) (n₀ n₁ : List ℕ) (w : Headed s at (node_start left) n₀ n₁) where
+module _ (s : List ℕ) (at m left : ℕ) (bounded : left ≤ 64) (z : 0 ≡ head_number (head s at m left)) (n₀ n₁ : List ℕ) {node : ℕ} (o : node ≡ node_start left) (written : Headed s at node n₀ n₁) where
+  a : Accepts (head s at m left)
+  a = head_accepts s at m left (sym z)
+
+  w : Headed s at (node_start left) n₀ n₁
+  w = subst (λ (i : ℕ). Headed s at i n₀ n₁) o written
+
   some : 1 ≤ left
   some = (accepts_tested s at m left a).some_left
 
@@ -101,7 +107,7 @@ module _ (s : List ℕ) (at m left : ℕ) (bounded : left ≤ 64) (a : Accepts (
   kept : (n₂ : List ℕ) → ((k : ℕ) → k < node_start (left - 1) → get_or n₂ k 0 ≡ get_or n₁ k 0) → (k : ℕ) → k < node_start left → get_or n₂ k 0 ≡ get_or n₀ k 0
   kept n₂ b k h = b k (omega (arith, step)) ∙ w.below k h
 
-  pub negate_fill : byte s at ≡ 2 → (p : Result FormulaEnd Refusal) (n₂ : List ℕ) → Filled s (at + 1) m (left - 1) n₁ p n₂ → Filled s at m left n₀ p n₂
+  pub negate_fill : byte s at ≡ 2 → (p : Result Position Refusal) (n₂ : List ℕ) → Filled s (at + 1) m (left - 1) n₁ p n₂ → Filled s at m left n₀ p n₂
   unfolding after_code parts one Holds
   negate_fill e p n₂ f =
       record {
@@ -115,7 +121,7 @@ module _ (s : List ℕ) (at m left : ℕ) (bounded : left ≤ 64) (a : Accepts (
       go (read F next rest) p =
           (f.below (node_start left + 0) (omega (arith, step)) ∙ code_word s at (node_start left) n₀ n₁ w ∙ e, subst (λ (j : ℕ). Holds F n₂ m j (node_start rest)) step p)
 
-  pub forall_fill : byte s at ≡ 5 → (p : Result FormulaEnd Refusal) (n₂ : List ℕ) → Filled s (at + 9) (m + 1) (left - 1) n₁ p n₂ → Filled s at m left n₀ p n₂
+  pub forall_fill : byte s at ≡ 5 → (p : Result Position Refusal) (n₂ : List ℕ) → Filled s (at + 9) (m + 1) (left - 1) n₁ p n₂ → Filled s at m left n₀ p n₂
   unfolding after_code parts one Holds bound_at
   forall_fill e p n₂ f =
       record {
@@ -166,7 +172,7 @@ module _ (s : List ℕ) (at m left : ℕ) (bounded : left ≤ 64) (a : Accepts (
       go (inr k) = let e : byte s at ≡ 4 = omega arith in
           record { make = beside; shape = accepts_reads beside_head s at m left (rw e refl) a; makes = λ F G ns z c f g. (c ∙ e, (f, g)) }
 
-  module _ (i : 3 ≤ byte s at) (j : byte s at ≤ 4) (p : Result FormulaEnd Refusal) (n₂ : List ℕ) (f : Filled s (at + 1) m (left - 1) n₁ p n₂) where
+  module _ (i : 3 ≤ byte s at) (j : byte s at ≤ 4) (p : Result Position Refusal) (n₂ : List ℕ) (f : Filled s (at + 1) m (left - 1) n₁ p n₂) where
     pub first_fill : (x : Refusal) → p ≡ Err x → Filled s at m left n₀ (Err x) n₂
     unfolding two
     first_fill x e =
@@ -183,7 +189,7 @@ module _ (s : List ℕ) (at m left : ℕ) (bounded : left ≤ 64) (a : Accepts (
     pub second_left : (x y : ℕ) → p ≡ Ok (ending x y) → y < left
     second_left x y e = second_below s at m left a i j f.answer (ap answer_of e)
 
-    pub second_fill : (x y : ℕ) → p ≡ Ok (ending x y) → node_start left + 12 ≤ length n₂ → (r : Result FormulaEnd Refusal) (n₄ : List ℕ)
+    pub second_fill : (x y : ℕ) → p ≡ Ok (ending x y) → node_start left + 12 ≤ length n₂ → (r : Result Position Refusal) (n₄ : List ℕ)
         → Filled s x m y (set n₂ (node_start left + 7) (node_start y)) r n₄ → Filled s at m left n₀ r n₄
     unfolding two one
     second_fill x y e room r n₄ g =

@@ -3,7 +3,7 @@
 
 mod writer;
 
-ghost use Rattle.std.specs.Prelude.{◌≤◌, length};
+ghost use Rattle.std.specs.Prelude.{◌≡◌, ◌+◌, ◌-◌, ◌^◌, ◌<◌, ◌≤◌, length};
 ghost use Rattle.reader.specs.Filled.{Filled};
 ghost use Rattle.reader.specs.Decoded.{Decoded};
 
@@ -12,38 +12,48 @@ use nodes::{FLAG_CODE_BYTE, FORALL_CODE_BYTE, FORMULAS, NOT_CODE_BYTE, TABLE_WOR
 use refusal::Refusal;
 use writer::{node_place, write_head, write_second};
 
-// Where a formula ends: the position after it, and the formulas left.
+// Where the reading stands: at which byte, and with how many formulas left.
 #[derive(Clone, Copy)]
-struct FormulaEnd {
-    next: usize,
+struct Position {
+    at: usize,
     left: usize,
 }
 
-// Reads the formula at a position, inside `depth` quantifiers and with some formulas left, into the table.
+impl Position {
+    // One formula and so many bytes on.
+    fn past(self, bytes: usize) -> Position
+        requires { (1 ≤ self.left) × (self.at + bytes < 2 ^ 64) }
+        ensures { result ≡ record { at = self.at + bytes; left = self.left - 1 } }
+    {
+        Position {
+            at: self.at + bytes,
+            left: self.left - 1,
+        }
+    }
+}
+
+// Reads the formula at a position, inside `depth` quantifiers, into the table, and answers the position after it.
+#[tactic(auto, using(crate::proofs::Ends::head_there, crate::proofs::Ends::head_left, crate::proofs::Ends::head_nested))]
 fn read_formula(
     body: &[u8],
     nodes: &mut [u32],
-    at: usize,
+    start: Position,
     depth: usize,
-    left: usize,
-) -> Result<FormulaEnd, Refusal>
-    requires { (left ≤ 64) × (768 ≤ length nodes.old) }
-    ensures { Filled body.now at depth left nodes.old result nodes.new }
+) -> Result<Position, Refusal>
+    requires { (start.left ≤ 64) × (768 ≤ length nodes.old) }
+    ensures { Filled body.now start.at depth start.left nodes.old result nodes.new }
 {
-    head_check(body, at, depth, left)?;
-    let node = node_place(left);
-    write_head(body, at, nodes, node);
-    match body[at] {
-        FLAG_CODE_BYTE => Ok(FormulaEnd {
-            next: at + 3,
-            left: left - 1,
-        }),
-        NOT_CODE_BYTE => read_formula(body, nodes, at + 1, depth, left - 1),
-        FORALL_CODE_BYTE => read_formula(body, nodes, at + 9, depth + 1, left - 1),
+    head_check(body, start.at, depth, start.left)?;
+    let node = node_place(start.left);
+    write_head(body, start.at, nodes, node);
+    match body[start.at] {
+        FLAG_CODE_BYTE => Ok(start.past(3)),
+        NOT_CODE_BYTE => read_formula(body, nodes, start.past(1), depth),
+        FORALL_CODE_BYTE => read_formula(body, nodes, start.past(9), depth + 1),
         _ => {
-            let first = read_formula(body, nodes, at + 1, depth, left - 1)?;
-            write_second(nodes, node, first.left);
-            read_formula(body, nodes, first.next, depth, first.left)
+            let second = read_formula(body, nodes, start.past(1), depth)?;
+            write_second(nodes, node, second.left);
+            read_formula(body, nodes, second, depth)
         }
     }
 }
@@ -53,8 +63,12 @@ fn read_formula(
 pub fn read_body(body: &[u8], nodes: &mut [u32; TABLE_WORDS]) -> Result<(), Refusal>
     ensures { Decoded body.now result nodes.new }
 {
-    match read_formula(body, nodes, 0, 0, FORMULAS) {
-        Ok(end) if end.next == body.len() => Ok(()),
+    let start = Position {
+        at: 0,
+        left: FORMULAS,
+    };
+    match read_formula(body, nodes, start, 0) {
+        Ok(end) if end.at == body.len() => Ok(()),
         Ok(_) => {
             clear(nodes);
             Err(Refusal::BytesLeftOver)

@@ -2,4 +2,4 @@
 use Rattle.reader.proofs.+read_formula.Given as goal
 
 abbrev pub decreases-read_formula : goal.decreases-read_formula
-decreases-read_formula l = l.left
+decreases-read_formula l = l.start.left
