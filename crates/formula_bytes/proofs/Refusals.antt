@@ -149,6 +149,10 @@ module _ (s : List ℕ) (at m : ℕ) where
 
 -- ---- the head
 
+pub fixed_of_forall : (code : ℕ) → code ≡ 5 → fixed code ≡ 9
+unfolding fixed
+fixed_of_forall code e = simp e
+
 module _ (s : List ℕ) (at m left : ℕ) where
   number_of_head : head_number (head s at m left) ≡
       cond (ltb at (length s)) (cond (leb 1 (byte s at) && leb (byte s at) 5) (cond (leb 1 left) (cond (not (eqb (byte s at) 5) || ltb m 4)

@@ -27,25 +27,13 @@ fn flag_check(body: &[u8], at: usize, depth: usize) -> Result<(), Refusal>
 }
 
 // A quantifier's two bounds, inside `depth` others.
+#[tactic(auto, using(refusal::proofs::Answers::handed_on, refusal::proofs::Positive::not_zero, crate::proofs::Refusals::contents_first, crate::proofs::Refusals::contents_second))]
 fn bounds_check(body: &[u8], at: usize, depth: usize) -> Result<(), Refusal>
     requires { (byte body.now at ≡ 5) × (at + 9 ≤ length body.now) }
     ensures { number (answer_of result) ≡ head_number (after_code body.now at depth) }
 {
     bound_check(body, at + 1, depth)?;
     bound_check(body, at + 5, depth)
-}
-
-// What follows a known code, of which all fixed bytes are there.
-#[tactic(auto, using(crate::proofs::Refusals::contents_plain))]
-fn contents_check(body: &[u8], at: usize, depth: usize) -> Result<(), Refusal>
-    requires { (at < length body.now) × (byte body.now at ≡ 5 → at + 9 ≤ length body.now) × (1 ≤ byte body.now at) × (byte body.now at ≤ 5) }
-    ensures { number (answer_of result) ≡ head_number (after_code body.now at depth) }
-{
-    match body[at] {
-        FLAG_CODE_BYTE => flag_check(body, at, depth),
-        FORALL_CODE_BYTE => bounds_check(body, at, depth),
-        _ => Ok(()),
-    }
 }
 
 // How many bytes a formula has before its parts.
@@ -74,7 +62,7 @@ fn formula_fits(code: u8, depth: usize, left: usize) -> bool
 }
 
 // The formula's own bytes at a position, inside `depth` quantifiers and with some formulas left.
-#[tactic(auto, using(crate::proofs::Refusals::head_4, crate::proofs::Refusals::head_5, crate::proofs::Refusals::head_9, crate::proofs::Refusals::head_4b, crate::proofs::Refusals::head_contents))]
+#[tactic(auto, using(crate::proofs::Refusals::head_4, crate::proofs::Refusals::head_5, crate::proofs::Refusals::head_9, crate::proofs::Refusals::head_4b, crate::proofs::Refusals::head_contents, crate::proofs::Refusals::contents_plain, crate::proofs::Refusals::fixed_of_forall))]
 pub fn head_check(body: &[u8], at: usize, depth: usize, left: usize) -> Result<(), Refusal>
     ensures { number (answer_of result) ≡ head_number (head body.now at depth left) }
 {
@@ -91,5 +79,9 @@ pub fn head_check(body: &[u8], at: usize, depth: usize, left: usize) -> Result<(
     if body.len() - at < fixed_bytes(code) {
         return Err(Refusal::BodyEndsEarly);
     }
-    contents_check(body, at, depth)
+    match code {
+        FLAG_CODE_BYTE => flag_check(body, at, depth),
+        FORALL_CODE_BYTE => bounds_check(body, at, depth),
+        _ => Ok(()),
+    }
 }
