@@ -9,8 +9,6 @@ ghost use Rattle.complete_report.specs.Lists.{violations_in};
 ghost use Rattle.exports_reports.specs.Comparisons.{comparison_number, entry_number, tick_number, step_number};
 
 use complete_report::{Comparison, VIOLATION_WORDS};
-use refusal::Written;
-use report_check::CheckAnswer;
 
 // 0 the same, 1 a violation stands there in the complete report, 2 the complete report has ended.
 fn comparison_number(comparison: Comparison) -> u32
@@ -28,8 +26,7 @@ fn entry_number(comparison: Comparison) -> usize
 {
     match comparison {
         Comparison::Same => 0,
-        Comparison::Differs(entry, _) => entry,
-        Comparison::Ends(entry) => entry,
+        Comparison::Differs(entry, _) | Comparison::Ends(entry) => entry,
     }
 }
 
@@ -37,9 +34,8 @@ fn tick_number(comparison: Comparison) -> u64
     ensures { result ≡ tick_number comparison }
 {
     match comparison {
-        Comparison::Same => 0,
         Comparison::Differs(_, violation) => violation.tick,
-        Comparison::Ends(_) => 0,
+        Comparison::Same | Comparison::Ends(_) => 0,
     }
 }
 
@@ -47,9 +43,8 @@ fn step_number(comparison: Comparison) -> u64
     ensures { result ≡ step_number comparison }
 {
     match comparison {
-        Comparison::Same => 0,
         Comparison::Differs(_, violation) => violation.step,
-        Comparison::Ends(_) => 0,
+        Comparison::Same | Comparison::Ends(_) => 0,
     }
 }
 
@@ -70,16 +65,15 @@ pub fn sw_check_report(
     ensures tick_after { tick.new ≡ or_kept tick_number (checked_report sheet.now rule recording.now (violations_in claimed.now)) tick.old }
     ensures step_after { step.new ≡ or_kept step_number (checked_report sheet.now rule recording.now (violations_in claimed.now)) step.old }
 {
-    let answer = report_check::check(sheet, rule, recording, claimed);
-    match answer {
-        CheckAnswer::Compared(comparison) => {
+    match report_check::check(sheet, rule, recording, claimed) {
+        Ok(comparison) => {
             *difference = comparison_number(comparison);
             *entry = entry_number(comparison);
             *tick = tick_number(comparison);
             *step = step_number(comparison);
             0
         }
-        CheckAnswer::Refused(refusal) => refusal::number(refusal),
+        Err(refusal) => refusal::number(refusal),
     }
 }
 
@@ -95,12 +89,11 @@ pub fn sw_complete_report(
     ensures report_after { violations_in report.new ≡ list_with (delivered_report sheet.now rule recording.now (length report.old)) (violations_in report.old) }
     ensures written_after { written.new ≡ or_kept length (delivered_report sheet.now rule recording.now (length report.old)) written.old }
 {
-    let answer = report_writing::write(sheet, rule, recording, report);
-    match answer {
-        Written::Length(count) => {
+    match report_writing::write(sheet, rule, recording, report) {
+        Ok(count) => {
             *written = count;
             0
         }
-        Written::Refused(refusal) => refusal::number(refusal),
+        Err(refusal) => refusal::number(refusal),
     }
 }

@@ -1,3 +1,4 @@
+pub mod FirstOf
 pub mod CheckLaw
 pub mod Marking
 pub mod Entries

@@ -1,3 +1,3 @@
 pub mod Checking
 pub mod Marks
-pub mod Answers
+pub mod Absent

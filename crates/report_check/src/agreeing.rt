@@ -15,23 +15,18 @@ use recorded_rule::false_step;
 fn is_violation(nodes: &[u32; TABLE_WORDS], recording: &[u8], claimed: Violation) -> bool
     ensures { result ≡ is_violation (false_step (formula_in 64 nodes.now 0 0) recording.now) (length recording.now) claimed }
 {
-    if recording.len() as u64 <= claimed.step {
-        return false;
-    }
-    false_step(nodes, recording, claimed.tick as usize) == claimed.step
+    false_step(nodes, recording, claimed.tick as usize) == Some(claimed.step)
 }
 
 // Whether an entry comes after the one before it.
 fn ascends(claimed: &[[u64; VIOLATION_WORDS]], index: usize) -> bool
     ensures { result ≡ above_at (violations_in claimed.now) index (get_or (violations_in claimed.now) index none_lent) }
 {
-    if index == 0 {
-        return true;
-    }
-    before(
-        violation_at(claimed, index - 1),
-        violation_at(claimed, index),
-    )
+    index == 0
+        || before(
+            violation_at(claimed, index - 1),
+            violation_at(claimed, index),
+        )
 }
 
 // How many of the list's first entries ascend and are violations; their ticks are marked.
@@ -44,17 +39,12 @@ pub(crate) fn agree(
     ensures value { result ≡ agreed (false_step (formula_in 64 nodes.now 0 0) recording.now) (length recording.now) (λ any. true) (violations_in claimed.now) }
     ensures marks_after { marks.new ≡ all_marked marks.old (take result (violations_in claimed.now)) }
 {
-    let mut index = 0;
-    while index < claimed.len() {
-        if !ascends(claimed, index) {
-            return index;
-        }
+    for index in 0..claimed.len() {
         let next = violation_at(claimed, index);
-        if !is_violation(nodes, recording, next) {
+        if !ascends(claimed, index) || !is_violation(nodes, recording, next) {
             return index;
         }
         mark(marks, next.tick);
-        index += 1;
     }
-    index
+    claimed.len()
 }

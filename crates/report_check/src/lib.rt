@@ -7,59 +7,47 @@ mod marks;
 mod missing;
 
 ghost use Rattle.std.specs.Prelude.{◌≡◌, ◌≤◌, length, take};
+ghost use Rattle.refusal.specs.Answer.{answer_of};
 ghost use Rattle.nodes.specs.Table.{formula_in};
 ghost use Rattle.complete_report.specs.Report.{complete, compared, checked_report};
 ghost use Rattle.complete_report.specs.Lists.{violations_in};
-ghost use Rattle.report_check.specs.Checking.{place, comparison};
-ghost use Rattle.report_check.specs.Answers.{check_answer};
+ghost use Rattle.report_check.specs.Checking.{place};
+ghost use Rattle.report_check.specs.Absent.{beside};
 
 use crate::agreeing::agree;
 use crate::marks::MARK_WORDS;
 use crate::missing::first_missing;
 use complete_report::{Comparison, VIOLATION_WORDS, Violation, before, violation_at};
 use nodes::TABLE_WORDS;
-use reader::Reading;
 use refusal::Refusal;
-
-// How a list compares with the complete report, or why there is none.
-#[derive(Clone, Copy)]
-pub enum CheckAnswer {
-    Compared(Comparison),
-    Refused(Refusal),
-}
 
 // How many of the first entries come before a violation.
 fn place_of(claimed: &[[u64; VIOLATION_WORDS]], count: usize, violation: Violation) -> usize
     requires { count ≤ length claimed.now }
     ensures { result ≡ place violation (take count (violations_in claimed.now)) }
 {
-    let mut index = 0;
-    while index < count {
+    for index in 0..count {
         if !before(violation_at(claimed, index), violation) {
             return index;
         }
-        index += 1;
     }
-    index
+    count
 }
 
-// A list beside a report of which the list's first entries are a part, and this violation is the first that they lack.
+// A list beside a report of which the list's first entries are a part, and the first violation that they lack, if there is one.
 fn comparison(
-    end: u64,
     claimed: &[[u64; VIOLATION_WORDS]],
     agreed: usize,
-    missing: Violation,
+    missing: Option<Violation>,
 ) -> Comparison
     requires { agreed ≤ length claimed.now }
-    ensures { result ≡ comparison end (violations_in claimed.now) agreed missing }
+    ensures { result ≡ beside (violations_in claimed.now) agreed missing }
 {
-    if missing.step < end {
-        return Comparison::Differs(place_of(claimed, agreed, missing), missing);
+    match missing {
+        Some(first) => Comparison::Differs(place_of(claimed, agreed, first), first),
+        None if agreed < claimed.len() => Comparison::Ends(agreed),
+        None => Comparison::Same,
     }
-    if agreed < claimed.len() {
-        return Comparison::Ends(agreed);
-    }
-    Comparison::Same
 }
 
 // The list beside the complete report of the rule in the table.
@@ -74,7 +62,7 @@ fn compare(
     let mut marks = [0u64; MARK_WORDS];
     let agreed = agree(nodes, recording, claimed, &mut marks);
     let missing = first_missing(nodes, recording, &marks);
-    comparison(recording.len() as u64, claimed, agreed, missing)
+    comparison(claimed, agreed, missing)
 }
 
 // Compares a list with the complete report of a sheet's rule over a recording: refusals 1 to 10, 23, 24, and 16 for a recording above 65,535 bytes.
@@ -83,13 +71,10 @@ pub fn check(
     rule: usize,
     recording: &[u8],
     claimed: &[[u64; VIOLATION_WORDS]],
-) -> CheckAnswer
-    ensures { check_answer result ≡ checked_report sheet.now rule recording.now (violations_in claimed.now) }
+) -> Result<Comparison, Refusal>
+    ensures { answer_of result ≡ checked_report sheet.now rule recording.now (violations_in claimed.now) }
 {
     let mut nodes = [0u32; TABLE_WORDS];
-    let reading = recorded_rule::read_rule(sheet, rule, recording, &mut nodes);
-    match reading {
-        Reading::Stored => CheckAnswer::Compared(compare(&nodes, recording, claimed)),
-        Reading::Refused(refusal) => CheckAnswer::Refused(refusal),
-    }
+    recorded_rule::read_rule(sheet, rule, recording, &mut nodes)?;
+    Ok(compare(&nodes, recording, claimed))
 }

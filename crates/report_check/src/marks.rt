@@ -11,16 +11,13 @@ pub(crate) fn mark(marks: &mut [u64], tick: u64)
 {
     let word = (tick / 64) as usize;
     if word < marks.len() {
-        marks[word] = marks[word] | (1 << (tick % 64));
+        marks[word] |= 1 << (tick % 64);
     }
 }
 
 pub(crate) fn is_marked(marks: &[u64], tick: u64) -> bool
     ensures { result ≡ is_marked marks.now tick }
 {
-    let word = (tick / 64) as usize;
-    if word < marks.len() {
-        return (marks[word] >> (tick % 64)) & 1 == 1;
-    }
-    false
+    let word = marks.get((tick / 64) as usize).copied().unwrap_or(0);
+    (word >> (tick % 64)) & 1 == 1
 }

@@ -3,7 +3,8 @@ ghost use Rattle.std.specs.Prelude.{◌≡◌, length};
 ghost use Rattle.nodes.specs.Table.{formula_in};
 ghost use Rattle.complete_report.specs.Report.{violation};
 ghost use Rattle.complete_report.specs.FalseSteps.{false_step};
-ghost use Rattle.report_check.specs.Checking.{earlier, missing_at, first_missing};
+ghost use Rattle.report_check.specs.Absent.{some_below, earlier_of};
+ghost use Rattle.report_check.specs.Checking.{missing_at, first_missing};
 ghost use Rattle.report_check.specs.Marks.{is_marked};
 
 use crate::marks::is_marked;
@@ -11,48 +12,44 @@ use complete_report::{Violation, before};
 use nodes::TABLE_WORDS;
 use recorded_rule::false_step;
 
-// The violation of a tick that is not marked. The recording's length is the step of one that is marked, or is none.
-fn unmarked(nodes: &[u32; TABLE_WORDS], recording: &[u8], marks: &[u64], tick: u64) -> Violation
-    ensures { result ≡ missing_at (false_step (formula_in 64 nodes.now 0 0) recording.now) (length recording.now) (is_marked marks.now) tick }
+// The violation of a tick that is not marked.
+fn unmarked(
+    nodes: &[u32; TABLE_WORDS],
+    recording: &[u8],
+    marks: &[u64],
+    tick: usize,
+) -> Option<Violation>
+    ensures { result ≡ some_below (length recording.now) (missing_at (false_step (formula_in 64 nodes.now 0 0) recording.now) (length recording.now) (is_marked marks.now) tick) }
 {
-    if is_marked(marks, tick) {
-        return Violation {
-            tick: tick,
-            step: recording.len() as u64,
-        };
+    if is_marked(marks, tick as u64) {
+        return None;
     }
-    Violation {
-        tick: tick,
-        step: false_step(nodes, recording, tick as usize),
+    let step = false_step(nodes, recording, tick)?;
+    let tick = tick as u64;
+    Some(Violation { tick, step })
+}
+
+// The one that comes first in a report, of those that are there.
+fn earlier(first: Option<Violation>, second: Option<Violation>) -> Option<Violation>
+    ensures { result ≡ earlier_of first second }
+{
+    match (first, second) {
+        (Some(one), Some(other)) if before(one, other) => first,
+        (Some(_), None) => first,
+        _ => second,
     }
 }
 
-// The one that comes first in a report.
-fn earlier(first: Violation, second: Violation) -> Violation
-    ensures { result ≡ earlier first second }
-{
-    if before(first, second) {
-        return first;
-    }
-    second
-}
-
-// The first violation whose tick is not marked. The recording's length is its step where there is none.
+// The first violation whose tick is not marked.
 pub(crate) fn first_missing(
     nodes: &[u32; TABLE_WORDS],
     recording: &[u8],
     marks: &[u64],
-) -> Violation
-    ensures { result ≡ first_missing (false_step (formula_in 64 nodes.now 0 0) recording.now) (length recording.now) (is_marked marks.now) (length recording.now) (violation (length recording.now) (length recording.now)) }
+) -> Option<Violation>
+    ensures { result ≡ some_below (length recording.now) (first_missing (false_step (formula_in 64 nodes.now 0 0) recording.now) (length recording.now) (is_marked marks.now) (length recording.now) (violation (length recording.now) (length recording.now))) }
 {
-    let end = recording.len() as u64;
-    let mut first = Violation {
-        tick: end,
-        step: end,
-    };
-    let mut tick = end;
-    while 0 < tick {
-        tick -= 1;
+    let mut first = None;
+    for tick in (0..recording.len()).rev() {
         first = earlier(unmarked(nodes, recording, marks, tick), first);
     }
     first

@@ -1,9 +1,16 @@
 -- `report_check::compare` meets its contract.
+use mathlib.Core.Path.{refl, ap, ◌∙◌}
 use native.Mathlib.Omega.{arith}
-use lib.ListN.{length-map}
+use lib.ListN.{length, length-map}
 use Rattle.nodes.specs.Table.{formula_in}
 use Rattle.complete_report.specs.Lists.{violation_in, violations_in}
+use Rattle.complete_report.specs.Report.{violation}
+use Rattle.complete_report.specs.FalseSteps.{false_step}
+use Rattle.report_check.specs.Absent.{beside}
+use Rattle.report_check.specs.Checking.{first_missing}
+use Rattle.report_check.specs.Marks.{is_marked}
 use Rattle.report_check.proofs.Compares.{count_few, compares}
+use Rattle.report_check.proofs.FirstOf.{beside_first}
 use Rattle.report_check.proofs.compare.Goals as goal
 
 pub comparison-requires : goal.comparison-requires
@@ -14,6 +21,10 @@ comparison-requires c =
 pub returns : goal.returns
 returns c =
     let a = c.agree-agreed in
-    let f = c.first_missing-missing in
-    compares (formula_in 64 c.args.nodes.now 0 0) c.args.recording.now (violations_in c.args.claimed.now) c.requires a.result a.new.marks f.result
-    c.comparison.result a.ensures.value a.ensures.marks_after f.ensures c.comparison.ensures
+    let F = formula_in 64 c.args.nodes.now 0 0 in
+    let rec = c.args.recording.now in
+    let first = first_missing (false_step F rec) (length rec) (is_marked a.new.marks) (length rec) (violation (length rec) (length rec)) in
+    compares F rec (violations_in c.args.claimed.now) c.requires a.result a.new.marks first
+    c.comparison.result a.ensures.value a.ensures.marks_after refl
+    (c.comparison.ensures ∙ ap (beside (violations_in c.args.claimed.now) a.result) c.first_missing-missing.ensures
+    ∙ beside_first (length rec) (violations_in c.args.claimed.now) a.result first)

@@ -1,5 +1,4 @@
 -- `report_check::agreeing::agree` meets its contract: the entries before `index` agree, and those that agree are these and the ones from it on; the marks are theirs.
-use Prim.Native.Nat.{◌-◌, ◌≤◌}
 use mathlib.Core.Path.{◌≡◌}
 use lib.ListN.{length, take}
 use Rattle.nodes.specs.Table.{formula_in}
@@ -11,8 +10,5 @@ use Rattle.report_check.proofs.agreeing.agree.Given as goal
 
 abbrev pub invariant-loop-index : goal.invariant-loop-index
 invariant-loop-index l =
-    (l.index ≤ length l.claimed) × Agrees (false_step (formula_in 64 l.nodes 0 0) l.recording) (length l.recording) (violations_in l.claimed) l.index
+    Agrees (false_step (formula_in 64 l.nodes 0 0) l.recording) (length l.recording) (violations_in l.claimed) l.index
     × (l.marks ≡ all_marked l.initial.marks (take l.index (violations_in l.claimed)))
-
-abbrev pub decreases-loop-index : goal.decreases-loop-index
-decreases-loop-index l = length l.claimed - l.index

@@ -2,7 +2,10 @@
 use mathlib.Core.Path.{◌≡◌}
 use lib.ListN.{length}
 use Rattle.nodes.specs.Table.{formula_in}
+use Rattle.complete_report.specs.declared.Violation.{Violation}
+use Rattle.complete_report.specs.Report.{violation}
 use Rattle.complete_report.specs.FalseSteps.{false_step}
+use Rattle.report_check.specs.Absent.{some_below}
 use Rattle.report_check.specs.Checking.{first_missing}
 use Rattle.report_check.specs.Marks.{is_marked}
 use Rattle.report_check.proofs.missing.first_missing.Given as goal
@@ -10,7 +13,6 @@ use Rattle.report_check.proofs.missing.first_missing.Given as goal
 abbrev pub invariant-loop-tick : goal.invariant-loop-tick
 invariant-loop-tick l =
     let steps = false_step (formula_in 64 l.nodes 0 0) l.recording in
-    first_missing steps (length l.recording) (is_marked l.marks) l.initial.tick l.initial.first ≡ first_missing steps (length l.recording) (is_marked l.marks) l.tick l.first
-
-abbrev pub decreases-loop-tick : goal.decreases-loop-tick
-decreases-loop-tick l = l.tick
+    let end = length l.recording in
+    (w : Violation) × (l.first ≡ some_below end w)
+    × (first_missing steps end (is_marked l.marks) end (violation end end) ≡ first_missing steps end (is_marked l.marks) l.tick w)
