@@ -1,17 +1,18 @@
 -- A step and a batch keep their promises, by what their parts answered.
-use Prim.Native.Nat.{ℕ, suc, ◌+◌, ◌≤◌, ◌<◌}
-use mathlib.Core.Path.{◌≡◌, refl, ap, subst, ◌∙◌}
-use mathlib.Core.Bool.{Bool, true, false}
+use Prim.Native.Nat.{ℕ, suc, ◌+◌, ◌≤◌}
+use mathlib.Core.Path.{◌≡◌, refl, sym, ap, subst, ◌∙◌}
+use mathlib.Core.Bool.{Bool, true, false, cond}
 use mathlib.Core.List.{List, []}
 use native.Mathlib.Omega.{arith}
 use native.Mathlib.Numerals.{add-one}
 use lib.Dec.{leb}
 use lib.ListN.{length, take}
-use borrow.Author.Tests.{le-leb, lt-leb}
 use Rattle.std.specs.Prelude.{Result, Ok, Err}
 use Rattle.refusal.specs.declared.Refusal.{Refusal}
 use Rattle.refusal.specs.declared.Refusal.TheVariants.{StateNotOpened}
-use Rattle.refusal.specs.Answer.{refused, and_then}
+use Rattle.refusal.specs.Answer.{Answer, refused, and_then, number, answer_of}
+use Rattle.refusal.specs.Numbers.{number_of}
+use Rattle.refusal.proofs.Answers.{same_value, not_accepted}
 use Rattle.rule.specs.declared.Figures.{Figures}
 use Rattle.rule.specs.Body.{require, head, parts, formula, formula_at, whole, body}
 use Rattle.rule.specs.Figures.{body_figures}
@@ -24,7 +25,7 @@ use Rattle.instances.specs.Answers.{step_answer, batch_answer}
 use Rattle.cell_runs.specs.Moves.{Stands}
 use Rattle.instances.specs.Answers.{StepOf, BatchOf}
 use Rattle.engine.specs.declared.state.State as code
-use Rattle.engine.specs.States.{state_of, moved_code, by_value}
+use Rattle.engine.specs.States.{state_of, body_of, moved_code, by_value}
 
 -- No body is no rule: 21, whatever else is brought.
 no_rule : (L t h c n : ℕ) → admit_lengths [] L t h c n ≡ refused 21
@@ -35,15 +36,28 @@ no_rule L t h c n = go (leb L 4096)
     go true = refl
     go false = refl
 
-module _ (s : code.State) where
-  -- a size above the room stands for an empty body
-  too_long : 512 < s.size → (h c n : ℕ) → admit_lengths (state_of s).body_bytes s.opened s.next h c n ≡ refused 21
-  unfolding state_of
-  too_long i h c n = simp (lt-leb s.size 512 i) (no_rule s.opened s.next h c n)
+-- A refusal's number is all that is answered.
+refused_as : (x : Refusal) → ◌≡◌ {A = Result (List ℕ) Refusal} (Err StateNotOpened) (Err x) → ◌≡◌ {A = Answer Figures} (refused 21) (refused (number_of x))
+refused_as x e = ap (λ (r : Result (List ℕ) Refusal). refused (number (answer_of r))) e
 
-  body_is : s.size ≤ 512 → take s.size s.body ≡ (state_of s).body_bytes
-  unfolding state_of
-  body_is short = simp (le-leb s.size 512 short)
+module _ (s : code.State) where
+  -- the body as it is read is the state's; a size above the room stands for an empty body
+  pub body_is : (b : List ℕ) → body_of s ≡ Ok b → b ≡ (state_of s).body_bytes
+  unfolding state_of body_of
+  body_is b e = go (leb s.size 512) e
+    where
+      go : (room : Bool) → cond room (Ok (take s.size s.body)) (Err StateNotOpened) ≡ Ok b → b ≡ cond room (take s.size s.body) []
+      go true i = sym (same_value (ap answer_of i))
+      go false i = absurd (not_accepted (ap answer_of i))
+
+  too_long : (x : Refusal) → body_of s ≡ Err x → (h c n : ℕ) → admit_lengths (state_of s).body_bytes s.opened s.next h c n ≡ refused (number_of x)
+  unfolding state_of body_of
+  too_long x e h c n = go (leb s.size 512) e
+    where
+      go : (room : Bool) → ◌≡◌ {A = Result (List ℕ) Refusal} (cond room (Ok (take s.size s.body)) (Err StateNotOpened)) (Err x)
+          → admit_lengths (cond room (take s.size s.body) []) s.opened s.next h c n ≡ refused (number_of x)
+      go true i = absurd (not_accepted (sym (ap answer_of i)))
+      go false i = no_rule s.opened s.next h c n ∙ refused_as x i
 
 -- ---- one flag byte
 
@@ -52,17 +66,17 @@ module _ (s : code.State) (flag : ℕ) (history cells report : List ℕ) where
   StepKept a s' history' cells' report' =
       StepPromise Stands by_value s (step_of (step_answer (state_of s) a) flag history cells report history' cells' report') s'
 
-  pub step_too_long : 512 < s.size → StepKept (Err StateNotOpened) s history cells report
+  pub step_too_long : {x : Refusal} → body_of s ≡ Err x → StepKept (Err x) s history cells report
   unfolding state_of
-  step_too_long i = record { keeps = (too_long s i (length history) (length cells) (length report), (refl, refl, refl)); left = refl; goes_on = refl }
+  step_too_long {x} i = record { keeps = (too_long s x i (length history) (length cells) (length report), (refl, refl, refl)); left = refl; goes_on = refl }
 
-  module _ (short : s.size ≤ 512) (a : Result StepCounts Refusal) (history' cells' report' : List ℕ) where
+  module _ (b : List ℕ) (body_told : body_of s ≡ Ok b) (a : Result StepCounts Refusal) (history' cells' report' : List ℕ) where
     abbrev TookStep : List ℕ → Result StepCounts Refusal → Type 0
-    TookStep b a = StepOf b s.opened s.next flag history cells report a history' cells' report'
+    TookStep l a = StepOf l s.opened s.next flag history cells report a history' cells' report'
 
-    module _ (p : TookStep (take s.size s.body) a) where
+    module _ (p : TookStep b a) where
       owned : (a' : Result StepCounts Refusal) → a ≡ a' → TookStep (state_of s).body_bytes a'
-      owned a' e = subst (λ (b : List ℕ). TookStep b a') (body_is s short) (subst (TookStep (take s.size s.body)) e p)
+      owned a' e = subst (λ (l : List ℕ). TookStep l a') (body_is s b body_told) (subst (TookStep b) e p)
 
       pub step_refused : {x : Refusal} → a ≡ Err x → StepKept (Err x) s history' cells' report'
       unfolding state_of
@@ -90,17 +104,17 @@ module _ (s : code.State) (flags history cells report : List ℕ) where
   BatchKept a s' history' cells' report' =
       BatchPromise Stands by_value s (batch_of (batch_answer (state_of s) a) flags history cells report history' cells' report') s'
 
-  pub batch_too_long : 512 < s.size → BatchKept (Err StateNotOpened) s history cells report
+  pub batch_too_long : {x : Refusal} → body_of s ≡ Err x → BatchKept (Err x) s history cells report
   unfolding state_of
-  batch_too_long i = record { keeps = (too_long s i (length history) (length cells) 256, (refl, refl, refl)); left = refl; goes_on = refl }
+  batch_too_long {x} i = record { keeps = (too_long s x i (length history) (length cells) 256, (refl, refl, refl)); left = refl; goes_on = refl }
 
-  module _ (short : s.size ≤ 512) (a : Result BatchCounts Refusal) (history' cells' report' : List ℕ) where
+  module _ (b : List ℕ) (body_told : body_of s ≡ Ok b) (a : Result BatchCounts Refusal) (history' cells' report' : List ℕ) where
     abbrev TookBatch : List ℕ → Result BatchCounts Refusal → Type 0
-    TookBatch b a = BatchOf b s.opened s.next s.live flags history cells report a history' cells' report'
+    TookBatch l a = BatchOf l s.opened s.next s.live flags history cells report a history' cells' report'
 
-    module _ (p : TookBatch (take s.size s.body) a) where
+    module _ (p : TookBatch b a) where
       batch_owned : (a' : Result BatchCounts Refusal) → a ≡ a' → TookBatch (state_of s).body_bytes a'
-      batch_owned a' e = subst (λ (b : List ℕ). TookBatch b a') (body_is s short) (subst (TookBatch (take s.size s.body)) e p)
+      batch_owned a' e = subst (λ (l : List ℕ). TookBatch l a') (body_is s b body_told) (subst (TookBatch b) e p)
 
       pub batch_refused : {x : Refusal} → a ≡ Err x → BatchKept (Err x) s history' cells' report'
       unfolding state_of

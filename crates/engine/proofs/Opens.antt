@@ -6,7 +6,7 @@ use native.Mathlib.Nat.{add-sub_cancel_left}
 use lib.ListN.{length, take, drop}
 use Rattle.std.specs.Prelude.{Result, Ok, Err}
 use Rattle.refusal.specs.declared.Refusal.{Refusal}
-use Rattle.refusal.specs.Answer.{refused, accepted, and_then, answer_of}
+use Rattle.refusal.specs.Answer.{accepted, and_then, answer_of}
 use Rattle.refusal.specs.Numbers.{number_of}
 use Rattle.sheet.specs.Sheet.{rule_place, rule_body, body_part}
 use Rattle.sheet.specs.declared.reader.BodyPlace.{BodyPlace}

@@ -1,5 +1,7 @@
 -- What a state of the code stands for, and which states the calls give.
-use Rattle.std.specs.Prelude.{ℕ, ◌-◌, cond, List, [], ◌++◌, leb, length, replicate, take}
+use Rattle.std.specs.Prelude.{ℕ, ◌-◌, cond, List, [], ◌++◌, leb, length, replicate, take, Result, Ok, Err}
+use Rattle.refusal.specs.declared.Refusal.{Refusal}
+use Rattle.refusal.specs.declared.Refusal.TheVariants.{StateNotOpened}
 use Rattle.demand.specs.Contract.{State, Carrier}
 use Rattle.engine.specs.declared.state.State as code
 
@@ -12,6 +14,10 @@ state_of state =
       next = state.next;
       live_count = state.live;
     }
+
+-- The body as a step reads it: a size above 512 is refused.
+unfoldable pub body_of : code.State → Result (List ℕ) Refusal
+body_of state = cond (leb state.size 512) (Ok (take state.size state.body)) (Err StateNotOpened)
 
 -- A rule's body in the 512 bytes that a state has for it, with 0 in the rest.
 unfoldable pub padded : List ℕ → List ℕ

@@ -7,7 +7,6 @@ ghost use Rattle.engine.specs.States.{state_of, by_value};
 use crate::state::State;
 use instances::{BatchCounts, StepCounts, take_batch, take_step};
 use refusal::Refusal;
-use sheet::MAX_BODY;
 
 // Takes one flag byte: starts the instance of this tick, moves all live ones, writes the ticks that are false at this step into the report, and
 // stores the byte in the history, last. A refusal changes nothing.
@@ -20,10 +19,7 @@ pub fn step(
 ) -> Result<StepCounts, Refusal>
     ensures { StepPromise Stands by_value state.old (step_of (step_answer (state_of state.old) result) flag history.old cells.old report.old history.new cells.new report.new) state.new }
 {
-    if MAX_BODY < state.size {
-        return Err(Refusal::StateNotOpened);
-    }
-    let body = &state.body[..state.size];
+    let body = state.rule_body()?;
     let tick = state.next;
     let counts = take_step(body, state.opened, tick, history, flag, cells, report)?;
     state.next = tick + 1;
@@ -42,14 +38,20 @@ pub fn steps(
 ) -> Result<BatchCounts, Refusal>
     ensures { BatchPromise Stands by_value state.old (batch_of (batch_answer (state_of state.old) result) flags.now history.old cells.old report.old history.new cells.new report.new) state.new }
 {
-    if MAX_BODY < state.size {
-        return Err(Refusal::StateNotOpened);
-    }
-    let body = &state.body[..state.size];
+    let body = state.rule_body()?;
     let tick = state.next;
     let live = state.live;
-    let counts = take_batch(body, state.opened, tick, live, flags, history, cells, report)?;
-    state.next = tick + counts.taken as u64;
-    state.live = counts.live;
-    Ok(counts)
+    let batch = take_batch(
+        body,
+        state.opened,
+        tick,
+        live,
+        flags,
+        history,
+        cells,
+        report,
+    )?;
+    state.next = tick + batch.taken as u64;
+    state.live = batch.live;
+    Ok(batch)
 }

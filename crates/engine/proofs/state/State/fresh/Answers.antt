@@ -1,9 +1,9 @@
--- `engine::state::fresh` meets its contract: the body lies at the front of 512 bytes that are 0.
+-- `engine::state::State::fresh` meets its contract: the body lies at the front of 512 bytes that are 0.
 use Rattle.std.proofs.Common.{ℕ, List, ◌++◌, length, drop, sym, ap, ◌∙◌}
 use lib.ListN.{replicate}
 use lib.Seq.{take-length}
 use Rattle.engine.proofs.States.{copied_is}
-use Rattle.engine.proofs.state.fresh.Goals as goal
+use Rattle.engine.proofs.state.State.fresh.Goals as goal
 
 pub returns : goal.returns
 returns c =
