@@ -5,8 +5,7 @@ use mathlib.Core.List.{List}
 use Prim.Native.Nat.{ℕ, zero, suc, ◌+◌, ◌-◌, ◌<◌, min}
 use native.Mathlib.Omega.{arith}
 use Rattle.calendar.specs.Search.{tally, earliest, latest, nearer, nearest}
-use Rattle.calendar.specs.declared.UpTick.{UpTick}
-use Rattle.calendar.specs.declared.UpTick.TheVariants.{At, None}
+use Rattle.std.specs.Prelude.{Option, Some, None}
 use Rattle.calendar.specs.Calendar.{kept, up_at, flag_up, span, ups, first_up, last_up, nearest_up, cleared, filled}
 use Rattle.calendar.proofs.Counting.{Same, next, tally_same}
 use Rattle.calendar.proofs.Stream.{agrees, kept_filled, kept_cleared}
@@ -17,19 +16,19 @@ earliest_same : (f g : ℕ → Bool) (a n : ℕ) → Same f g a n → earliest f
 unfolding earliest
 earliest_same f g a zero s = refl
 earliest_same f g a (suc n) s =
-    ap₂ (λ (x : Bool) (y : UpTick). cond x (At a) y) (s a (omega arith) (omega arith)) (earliest_same f g (suc a) n (next f g a n s))
+    ap₂ (λ (x : Bool) (y : Option ℕ). cond x (Some a) y) (s a (omega arith) (omega arith)) (earliest_same f g (suc a) n (next f g a n s))
 
 latest_same : (f g : ℕ → Bool) (a n : ℕ) → Same f g a n → latest f a n ≡ latest g a n
 unfolding latest
 latest_same f g a zero s = refl
 latest_same f g a (suc n) s =
-    ap₂ (λ (x : Bool) (y : UpTick). cond x (At (a + n)) y) (s (a + n) (omega arith) (omega arith)) (latest_same f g a n (λ q l m. s q l (omega arith)))
+    ap₂ (λ (x : Bool) (y : Option ℕ). cond x (Some (a + n)) y) (s (a + n) (omega arith) (omega arith)) (latest_same f g a n (λ q l m. s q l (omega arith)))
 
 nearest_same : (f g : ℕ → Bool) (t n : ℕ) → Same f g 0 n → nearest f t n ≡ nearest g t n
 unfolding nearest
 nearest_same f g t zero s = refl
 nearest_same f g t (suc n) s =
-    ap₂ (λ (x : UpTick) (y : Bool). nearer t x (cond y (At n) None)) (nearest_same f g t n (λ q l m. s q l (omega arith))) (s n (omega arith) (omega arith))
+    ap₂ (λ (x : Option ℕ) (y : Bool). nearer t x (cond y (Some n) None)) (nearest_same f g t n (λ q l m. s q l (omega arith))) (s n (omega arith) (omega arith))
 
 -- ---- the four questions
 

@@ -3,7 +3,7 @@ use Prim.Native.Nat.{ℕ}
 use mathlib.Core.Path.{◌≡◌, refl}
 use mathlib.Core.List.{List, [], ◌∷◌}
 use Rattle.rule.specs.Meaning.{up}
-use Rattle.calendar.specs.declared.UpTick.TheVariants.{At, None}
+use Rattle.std.specs.Prelude.{Some, None}
 use Rattle.calendar.specs.Search.{tally, earliest, latest, apart, nearer, nearest}
 use Rattle.calendar.specs.Calendar.{kept, run_word, up_at, span, ups, first_up, last_up, nearest_up, each, cleared_word, cleared, with_bit, flagged, marked_word, marked, filled}
 
@@ -41,11 +41,11 @@ pub no_up : ups after 0 2 1 ≡ 0
 unfolding ups tally span kept up_at run_word up
 no_up = refl
 
-pub first_found : first_up after 7 0 18446744073709551615 ≡ At 64
+pub first_found : first_up after 7 0 18446744073709551615 ≡ Some 64
 unfolding first_up earliest span kept up_at run_word up
 first_found = refl
 
-pub last_found : last_up after 0 0 63 ≡ At 2
+pub last_found : last_up after 0 0 63 ≡ Some 2
 unfolding last_up latest span kept up_at run_word up
 last_found = refl
 
@@ -54,6 +54,6 @@ unfolding first_up earliest span kept up_at run_word up
 none_found = refl
 
 -- Ticks 0 and 2 are equally near to tick 1.
-pub earlier_found : nearest_up after 0 1 ≡ At 0
+pub earlier_found : nearest_up after 0 1 ≡ Some 0
 unfolding nearest_up nearest nearer apart kept up_at run_word up
 earlier_found = refl

@@ -12,8 +12,7 @@ use Rattle.calendar.specs.Search.{tally, earliest, latest, apart, nearer, neares
 use Rattle.calendar.specs.Said.{First, Last, Near, InRange, between, UpsIn, FirstUp, LastUp, NearestUp}
 use Rattle.calendar.proofs.Counting.{tally_parts, tally_same, tally_quiet}
 use Rattle.calendar.specs.Calendar.{kept, up_at, span, ups, first_up, last_up, nearest_up}
-use Rattle.calendar.specs.declared.UpTick.{UpTick}
-use Rattle.calendar.specs.declared.UpTick.TheVariants.{At, None}
+use Rattle.std.specs.Prelude.{Option, Some, None}
 
 -- ---- the first
 
@@ -29,9 +28,9 @@ unfolding earliest First
 earliest_said f a zero = λ q l m. absurd (omega arith)
 earliest_said f a (suc n) = go (f a) refl (earliest f (suc a) n) (earliest_said f (suc a) n)
   where
-    go : (b : Bool) → f a ≡ b → (o : UpTick) → First f (suc a) n o → First f a (suc n) (cond b (At a) o)
+    go : (b : Bool) → f a ≡ b → (o : Option ℕ) → First f (suc a) n o → First f a (suc n) (cond b (Some a) o)
     go true e o w = (omega arith, omega arith, e, λ q l m. absurd (omega arith))
-    go false e (At p) w = (omega (arith, w.0), omega (arith, w.1), w.2, λ q l m. from_next f a q e l (λ i. w.3 q i m))
+    go false e (Some p) w = (omega (arith, w.0), omega (arith, w.1), w.2, λ q l m. from_next f a q e l (λ i. w.3 q i m))
     go false e None w = λ q l m. from_next f a q e l (λ i. w q i (omega arith))
 
 -- ---- the last
@@ -48,9 +47,9 @@ unfolding latest Last
 latest_said f a zero = λ q l m. absurd (omega arith)
 latest_said f a (suc n) = go (f (a + n)) refl (latest f a n) (latest_said f a n)
   where
-    go : (b : Bool) → f (a + n) ≡ b → (o : UpTick) → Last f a n o → Last f a (suc n) (cond b (At (a + n)) o)
+    go : (b : Bool) → f (a + n) ≡ b → (o : Option ℕ) → Last f a n o → Last f a (suc n) (cond b (Some (a + n)) o)
     go true e o w = (omega arith, omega arith, e, λ q l m. absurd (omega arith))
-    go false e (At p) w = (w.0, omega (arith, w.1), w.2, λ q l m. before_last f (a + n) q e (omega arith) (λ i. w.3 q l i))
+    go false e (Some p) w = (w.0, omega (arith, w.1), w.2, λ q l m. before_last f (a + n) q e (omega arith) (λ i. w.3 q l i))
     go false e None w = λ q l m. before_last f (a + n) q e (omega arith) (λ i. w q l i)
 
 -- ---- the nearest
@@ -68,7 +67,7 @@ unfolding nearest nearer Near
 nearest_said f t zero = λ q l. absurd (omega arith)
 nearest_said f t (suc n) = go (f n) refl (nearest f t n) (nearest_said f t n)
   where
-    two : (p : ℕ) → Near f t n (At p) → f n ≡ true → (b : Bool) → ltb (apart t n) (apart t p) ≡ b → Near f t (suc n) (cond b (At n) (At p))
+    two : (p : ℕ) → Near f t n (Some p) → f n ≡ true → (b : Bool) → ltb (apart t n) (apart t p) ≡ b → Near f t (suc n) (cond b (Some n) (Some p))
     two p w e true c = (
       omega arith,
       e,
@@ -83,15 +82,15 @@ nearest_said f t (suc n) = go (f n) refl (nearest f t n) (nearest_said f t n)
       w.3,
     )
 
-    go : (b : Bool) → f n ≡ b → (o : UpTick) → Near f t n o → Near f t (suc n) (nearer t o (cond b (At n) None))
-    go false e (At p) w = (
+    go : (b : Bool) → f n ≡ b → (o : Option ℕ) → Near f t n o → Near f t (suc n) (nearer t o (cond b (Some n) None))
+    go false e (Some p) w = (
       omega (arith, w.0),
       w.1,
       λ q l u. last_or n q (apart t p ≤ apart t q) l (λ s. absurd (false≢true (sym e ∙ ap f (sym s) ∙ u))) (λ i. w.2 q i u),
       w.3,
     )
     go false e None w = λ q l. last_or n q (f q ≡ false) l (λ s. ap f s ∙ e) (λ i. w q i)
-    go true e (At p) w = two p w e (ltb (apart t n) (apart t p)) refl
+    go true e (Some p) w = two p w e (ltb (apart t n) (apart t p)) refl
     go true e None w = (
       omega arith,
       e,
@@ -163,16 +162,16 @@ module _ (words : List ℕ) (k first last : ℕ) where
   unfolding first_up First
   first_up_said = go (earliest (up_at words k) first (span (kept words) first last)) (earliest_said (up_at words k) first (span (kept words) first last))
     where
-      go : (found : UpTick) → First (up_at words k) first (span (kept words) first last) found → FirstUp words k first last found
-      go (At p) w = (outside p w.0 w.1, w.2, λ q i l. w.3 q i.0 l)
+      go : (found : Option ℕ) → First (up_at words k) first (span (kept words) first last) found → FirstUp words k first last found
+      go (Some p) w = (outside p w.0 w.1, w.2, λ q i l. w.3 q i.0 l)
       go None w = λ q i. w q i.0 (inside q i)
 
   pub last_up_said : LastUp words k first last (last_up words k first last)
   unfolding last_up Last
   last_up_said = go (latest (up_at words k) first (span (kept words) first last)) (latest_said (up_at words k) first (span (kept words) first last))
     where
-      go : (found : UpTick) → Last (up_at words k) first (span (kept words) first last) found → LastUp words k first last found
-      go (At p) w = (outside p w.0 w.1, w.2, λ q i l. w.3 q l (inside q i))
+      go : (found : Option ℕ) → Last (up_at words k) first (span (kept words) first last) found → LastUp words k first last found
+      go (Some p) w = (outside p w.0 w.1, w.2, λ q i l. w.3 q l (inside q i))
       go None w = λ q i. w q i.0 (inside q i)
 
 pub nearest_up_said : (words : List ℕ) (k t : ℕ) → NearestUp words k t (nearest_up words k t)

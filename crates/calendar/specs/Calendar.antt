@@ -1,9 +1,8 @@
 -- The flag calendar, document 02, point 5: "for each flag and each run of 64 ticks, one 64-bit word with a bit for every tick at which the flag was up. Run r of
 -- flag k is word 8r + k, its tick 64r + i the bit worth 2^i".
-use Rattle.std.specs.Prelude.{ℕ, suc, ◌+◌, ◌-◌, ◌*◌, ◌/◌, ◌%◌, ◌^◌, min, Bool, cond, List, [], ◌∷◌, ltb, eqb, length, get_or}
+use Rattle.std.specs.Prelude.{ℕ, suc, ◌+◌, ◌-◌, ◌*◌, ◌/◌, ◌%◌, ◌^◌, min, Bool, cond, List, [], ◌∷◌, ltb, eqb, length, get_or, Option}
 use Rattle.rule.specs.Meaning.{up}
 use Rattle.rule.specs.Recording.{recorded}
-use Rattle.calendar.specs.declared.UpTick.{UpTick}
 use Rattle.calendar.specs.Search.{tally, earliest, latest, nearest}
 
 -- ---- ticks
@@ -35,14 +34,14 @@ unfoldable pub ups : List ℕ → ℕ → ℕ → ℕ → ℕ
 ups words k first last = tally (up_at words k) first (span (kept words) first last)
 
 -- "the first and last up in it"
-unfoldable pub first_up : List ℕ → ℕ → ℕ → ℕ → UpTick
+unfoldable pub first_up : List ℕ → ℕ → ℕ → ℕ → Option ℕ
 first_up words k first last = earliest (up_at words k) first (span (kept words) first last)
 
-unfoldable pub last_up : List ℕ → ℕ → ℕ → ℕ → UpTick
+unfoldable pub last_up : List ℕ → ℕ → ℕ → ℕ → Option ℕ
 last_up words k first last = latest (up_at words k) first (span (kept words) first last)
 
 -- "the up nearest to a tick, the earlier of two equally near", "sought among all kept ticks"
-unfoldable pub nearest_up : List ℕ → ℕ → ℕ → UpTick
+unfoldable pub nearest_up : List ℕ → ℕ → ℕ → Option ℕ
 nearest_up words k t = nearest (up_at words k) t (kept words)
 
 -- ---- words

@@ -11,7 +11,7 @@ use lib.Count.{ones, ones_step, count_leading_zeros, count_trailing_zeros}
 use borrow.Author.Tests.{ltb-true, ltb-false}
 use Rattle.rule.specs.Meaning.{up}
 use Rattle.calendar.specs.Search.{one_if, tally, earliest, latest}
-use Rattle.calendar.specs.declared.UpTick.TheVariants.{At}
+use Rattle.std.specs.Prelude.{Some}
 use Rattle.calendar.proofs.Marking.{up_above}
 use Rattle.calendar.proofs.Counting.{tally_parts}
 use Rattle.calendar.proofs.Stream.{up_zero}
@@ -67,7 +67,7 @@ earliest_past : (f : ℕ → Bool) (a m n : ℕ) → Quiet f a (a + m) → earli
 unfolding earliest Quiet
 earliest_past f a zero n z = ap (earliest f a) (zero-add n) ∙ ap (λ (x : ℕ). earliest f x n) (sym (add-zero a))
 earliest_past f a (suc m) n z =
-    ap (earliest f a) (suc-add m n) ∙ ap (λ (b : Bool). cond b (At a) (earliest f (suc a) (m + n))) (z a (omega arith) (omega arith))
+    ap (earliest f a) (suc-add m n) ∙ ap (λ (b : Bool). cond b (Some a) (earliest f (suc a) (m + n))) (z a (omega arith) (omega arith))
     ∙ earliest_past f (suc a) m n (λ q l h. z q (omega arith) (omega arith)) ∙ ap (λ (x : ℕ). earliest f x n) (omega arith)
 
 -- ticks of which none is up are passed over
@@ -78,11 +78,11 @@ earliest_skip f a b e l h z =
     ∙ earliest_past f a (b - a) (e - b) (subst (Quiet f a) (sym s) z) ∙ ap (λ (x : ℕ). earliest f x (e - b)) s
 
 -- the first is p: it is up, and none before it
-pub earliest_at : (f : ℕ → Bool) (a e p : ℕ) → a ≤ p → p < e → Quiet f a p → f p ≡ true → earliest f a (e - a) ≡ At p
+pub earliest_at : (f : ℕ → Bool) (a e p : ℕ) → a ≤ p → p < e → Quiet f a p → f p ≡ true → earliest f a (e - a) ≡ Some p
 unfolding earliest
 earliest_at f a e p l h z u =
     earliest_skip f a p e l (omega arith) z ∙ ap (earliest f p) (let n : e - p ≡ suc (e - suc p) = omega arith in n)
-    ∙ ap (λ (b : Bool). cond b (At p) (earliest f (suc p) (e - suc p))) u
+    ∙ ap (λ (b : Bool). cond b (Some p) (earliest f (suc p) (e - suc p))) u
 
 pub earliest_none : (f : ℕ → Bool) (a e : ℕ) → e ≤ a → earliest f a (e - a) ≡ earliest f a 0
 earliest_none f a e h = ap (earliest f a) (let z : e - a ≡ 0 = omega arith in z)
@@ -93,7 +93,7 @@ latest_past : (f : ℕ → Bool) (a m n : ℕ) → Quiet f (a + m) (a + (m + n))
 unfolding latest Quiet
 latest_past f a m zero z = ap (latest f a) (add-zero m)
 latest_past f a m (suc n) z =
-    ap (latest f a) (add-suc m n) ∙ ap (λ (b : Bool). cond b (At (a + (m + n))) (latest f a (m + n))) (z (a + (m + n)) (omega arith) (omega arith))
+    ap (latest f a) (add-suc m n) ∙ ap (λ (b : Bool). cond b (Some (a + (m + n))) (latest f a (m + n))) (z (a + (m + n)) (omega arith) (omega arith))
     ∙ latest_past f a m n (λ q l h. z q l (omega arith))
 
 pub latest_skip : (f : ℕ → Bool) (a b e : ℕ) → a ≤ b → b ≤ e → Quiet f b e → latest f a (e - a) ≡ latest f a (b - a)
@@ -103,12 +103,12 @@ latest_skip f a b e l h z =
     ∙ latest_past f a (b - a) (e - b) (λ q i j. z q (omega arith) (omega arith))
 
 -- the last is p: it is up, and none after it
-latest_at : (f : ℕ → Bool) (a e p : ℕ) → a ≤ p → p < e → Quiet f (suc p) e → f p ≡ true → latest f a (e - a) ≡ At p
+latest_at : (f : ℕ → Bool) (a e p : ℕ) → a ≤ p → p < e → Quiet f (suc p) e → f p ≡ true → latest f a (e - a) ≡ Some p
 unfolding latest
 latest_at f a e p l h z u =
     let s : a + (p - a) ≡ p = omega arith in
     latest_skip f a (suc p) e (omega arith) h z ∙ ap (latest f a) (let n : suc p - a ≡ suc (p - a) = omega arith in n)
-    ∙ ap (λ (b : Bool). cond b (At (a + (p - a))) (latest f a (p - a))) (ap f s ∙ u) ∙ ap At s
+    ∙ ap (λ (b : Bool). cond b (Some (a + (p - a))) (latest f a (p - a))) (ap f s ∙ u) ∙ ap Some s
 
 pub latest_none : (f : ℕ → Bool) (a e : ℕ) → e ≤ a → latest f a (e - a) ≡ latest f a 0
 latest_none f a e h = ap (latest f a) (let z : e - a ≡ 0 = omega arith in z)
@@ -160,7 +160,7 @@ module _ (f : ℕ → Bool) (q d m : ℕ) (s : Shown f q d m) where
     pub leading_within : 63 - count_leading_zeros 64 m < d
     leading_within = inside (63 - count_leading_zeros 64 m) (leading_up m some wide).set
 
-    pub earliest_found : (e : ℕ) → q + d ≤ e → earliest f q (e - q) ≡ At (q + count_trailing_zeros 64 m)
+    pub earliest_found : (e : ℕ) → q + d ≤ e → earliest f q (e - q) ≡ Some (q + count_trailing_zeros 64 m)
     unfolding Quiet
     earliest_found e h =
         let z = count_trailing_zeros 64 m in
@@ -168,7 +168,7 @@ module _ (f : ℕ → Bool) (q d m : ℕ) (s : Shown f q d m) where
         earliest_at f q e (q + z) (omega arith) (omega arith) (λ p i j. up_shown p i (omega arith) ∙ trailing_below 64 m (p - q) (omega arith))
         (up_inside z (trailing_up 64 m some wide))
 
-    pub latest_found : (a : ℕ) → a ≤ q → latest f a (q + d - a) ≡ At (q + (63 - count_leading_zeros 64 m))
+    pub latest_found : (a : ℕ) → a ≤ q → latest f a (q + d - a) ≡ Some (q + (63 - count_leading_zeros 64 m))
     unfolding Quiet
     latest_found a h =
         let z = 63 - count_leading_zeros 64 m in

@@ -1,10 +1,10 @@
 // The up tick nearest to a tick, in one pass: the last up to it, and then only ticks after it that are nearer.
-ghost use Rattle.std.specs.Prelude.{◌≡◌, suc, ◌+◌, ◌-◌, ◌<◌, ◌≤◌, min};
+ghost use Rattle.std.specs.Prelude.{◌≡◌, suc, ◌+◌, ◌-◌, ◌<◌, ◌≤◌, min, Some};
 ghost use Rattle.calendar.specs.Search.{earliest, nearer};
-ghost use Rattle.calendar.specs.Calendar.{kept, up_at, nearest_up};
+ghost use Rattle.calendar.specs.Calendar.{nearest_up};
+ghost use Rattle.calendar_questions.specs.Parts.{up_of, kept_of};
 
-use crate::seeking::{earliest, latest};
-use calendar::UpTick;
+use crate::flag_words::FlagWords;
 use calendar_marks::kept_ticks;
 
 // The first tick after t that is not nearer to it than p, cut at the end.
@@ -12,34 +12,30 @@ fn nearer_end(t: u64, p: u64, end: u64) -> u64
     requires { (p ≤ t) × (t < end) }
     ensures { result ≡ min end (t + (t - p)) }
 {
-    if t - p < end - t { t + (t - p) } else { end }
+    t + (t - p).min(end - t)
 }
 
-// The nearer to t of p, an up tick not after it, and the first up after it; p if they are equally near.
-fn nearer_after(words: &[u64], k: usize, t: u64, p: u64) -> UpTick
-    requires { (k < 8) × (p ≤ t) × (t < kept words.now) }
-    ensures { result ≡ nearer t (UpTick.At p) (earliest (up_at words.now k) (suc t) (kept words.now - suc t)) }
-{
-    let end = nearer_end(t, p, kept_ticks(words));
-    let first = earliest(words, k, t + 1, end);
-    match first {
-        UpTick::At(q) => UpTick::At(q),
-        UpTick::None => UpTick::At(p),
+impl FlagWords<'_> {
+    // The nearer to t of p, an up tick not after it, and the first up after it; p if they are equally near.
+    fn nearer_after(&self, t: u64, p: u64) -> Option<u64>
+        requires { (p ≤ t) × (t < kept_of self.now) }
+        ensures { result ≡ nearer t (Some p) (earliest (up_of self.now) (suc t) (kept_of self.now - suc t)) }
+    {
+        let end = nearer_end(t, p, kept_ticks(self.words));
+        self.earliest(t + 1, end).or(Some(p))
     }
-}
 
-// The up tick nearest to t, of all kept ones.
-pub(crate) fn nearest(words: &[u64], k: usize, t: u64) -> UpTick
-    requires { k < 8 }
-    ensures { result ≡ nearest_up words.now k t }
-{
-    let end = kept_ticks(words);
-    if end <= t {
-        return latest(words, k, 0, end);
-    }
-    let last = latest(words, k, 0, t + 1);
-    match last {
-        UpTick::At(p) => nearer_after(words, k, t, p),
-        UpTick::None => earliest(words, k, t + 1, end),
+    // The up tick nearest to t, of all kept ones.
+    pub(crate) fn nearest(&self, t: u64) -> Option<u64>
+        ensures { result ≡ nearest_up self.now.words.now self.now.flag t }
+    {
+        let end = kept_ticks(self.words);
+        if end <= t {
+            return self.latest(0, end);
+        }
+        match self.latest(0, t + 1) {
+            Some(p) => self.nearer_after(t, p),
+            None => self.earliest(t + 1, end),
+        }
     }
 }

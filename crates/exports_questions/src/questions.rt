@@ -1,37 +1,27 @@
 // The four questions. A tick is answered by its number, none by 2^64 - 1 (SW_NO_TICK).
 ghost use Rattle.std.specs.Prelude.{◌≡◌};
-ghost use Rattle.refusal.specs.Answer.{number, or_kept};
+ghost use Rattle.refusal.specs.Answer.{answer_of, number, or_kept};
 ghost use Rattle.calendar.specs.Calendar.{ups, first_up, last_up, nearest_up};
-ghost use Rattle.calendar_questions.specs.Answers.{of_flag, tick_answer};
+ghost use Rattle.calendar_questions.specs.Answers.{of_flag};
 ghost use Rattle.exports_questions.specs.Ticks.{tick_number};
 
-use calendar::UpTick;
-use calendar_questions::{CountAnswer, TickAnswer};
+use refusal::{Refusal, put_answer};
 
 // What C hears for none.
 const NO_TICK: u64 = 18446744073709551615;
 
-fn tick_number(tick: UpTick) -> u64
+fn tick_number(tick: Option<u64>) -> u64
     ensures { result ≡ tick_number tick }
 {
-    match tick {
-        UpTick::At(q) => q,
-        UpTick::None => NO_TICK,
-    }
+    tick.unwrap_or(NO_TICK)
 }
 
 // Answers a question about ticks: the refusal's number, or 0 with the tick's number in the lent one.
-fn put_tick(answer: TickAnswer, tick: &mut u64) -> u32
-    ensures value { result ≡ number (tick_answer answer) }
-    ensures tick_after { tick.new ≡ or_kept tick_number (tick_answer answer) tick.old }
+fn put_tick(answer: Result<Option<u64>, Refusal>, tick: &mut u64) -> u32
+    ensures value { result ≡ number (answer_of answer) }
+    ensures tick_after { tick.new ≡ or_kept tick_number (answer_of answer) tick.old }
 {
-    match answer {
-        TickAnswer::Refused(refusal) => refusal::number(refusal),
-        TickAnswer::Found(found) => {
-            *tick = tick_number(found);
-            0
-        }
-    }
+    put_answer(answer.map(tick_number), tick)
 }
 
 // The number of ups of a flag from tick `first` to tick `last`. A flag above 7 gets 7.
@@ -39,14 +29,7 @@ pub fn sw_calendar_ups(words: &[u64], flag: u8, first: u64, last: u64, count: &m
     ensures value { result ≡ number (of_flag flag (ups words.now flag first last)) }
     ensures count_after { count.new ≡ or_kept (λ found. found) (of_flag flag (ups words.now flag first last)) count.old }
 {
-    let answer = calendar_questions::ups(words, flag, first, last);
-    match answer {
-        CountAnswer::Refused(refusal) => refusal::number(refusal),
-        CountAnswer::Counted(found) => {
-            *count = found;
-            0
-        }
-    }
+    put_answer(calendar_questions::ups(words, flag, first, last), count)
 }
 
 // The first tick from `first` to `last` at which a flag is up.
