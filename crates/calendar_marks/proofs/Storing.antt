@@ -1,16 +1,16 @@
 -- Words stored one after another, from the front.
-use mathlib.Core.Path.{◌≡◌, refl, sym, ap, ◌∙◌}
+use mathlib.Core.Path.{◌≡◌, refl, sym, ap, ap₂, ◌∙◌, subst}
 use mathlib.Core.Bool.{Bool, true, false}
-use mathlib.Core.List.{List}
+use mathlib.Core.List.{List, [], ◌∷◌, ◌++◌}
 use Prim.{⊥}
-use Prim.Native.Nat.{ℕ, ◌+◌, ◌≤◌, ◌<◌}
+use Prim.Native.Nat.{ℕ, zero, suc, ◌+◌, ◌*◌, ◌/◌, ◌≤◌, ◌<◌}
 use native.Mathlib.Omega.{arith}
 use lib.Dec.{ltb, eqb}
-use lib.ListN.{length, get_or, set, length-set}
+use lib.ListN.{length, get_or, set, drop, replicate, length-set}
 use lib.Seq.{get_or-set_same, get_or-set_other, ext_get_or}
 use borrow.Author.Tests.{eqb-true, eqb-false, ltb-true, ltb-false}
-use Rattle.calendar.specs.Calendar.{each}
-use Rattle.calendar.proofs.Each.{length_each, getD_each}
+use Rattle.calendar.specs.Calendar.{each, cleared_word, cleared}
+use Rattle.calendar.proofs.Each.{length_each, getD_each, drop_each, cleared_in, cleared_out}
 
 -- The first n words of ws are those of `each f 0 ws₀`, the others are those of ws₀.
 pub record Done (f : ℕ → ℕ → ℕ) (ws₀ : List ℕ) (n : ℕ) (ws : List ℕ) : Type 0 where
@@ -47,3 +47,17 @@ done_all f ws₀ n ws d h =
     at : (j : ℕ) → (t : Bool) → ltb j n ≡ t → get_or ws j 0 ≡ f j (get_or ws₀ j 0)
     at j true t = d.front j (ltb-true j n t)
     at j false t = d.rest j (ltb-false j n t) ∙ sym (h j (get_or ws₀ j 0) (ltb-false j n t))
+
+-- zeroed words, and then the rest: what opening leaves
+each_cleared : (m j : ℕ) (ws : List ℕ) → m ≤ length ws → each (cleared_word (j + m)) j ws ≡ replicate m 0 ++ drop m ws
+unfolding each
+each_cleared zero j ws h = drop_each (cleared_word (j + 0)) j ws 0 (λ i w l. cleared_out (j + 0) i w l)
+each_cleared (suc m) j [] h = absurd (omega arith)
+each_cleared (suc m) j (w ∷ ws) h =
+    ap₂ ◌∷◌ (cleared_in (j + suc m) j w (omega arith))
+    (subst (λ (n : ℕ). each (cleared_word n) (suc j) ws ≡ replicate m 0 ++ drop m ws) (let e : suc j + m ≡ j + suc m = omega arith in e) (each_cleared m (suc j) ws (omega arith)))
+
+pub cleared_parts : (ws : List ℕ) → replicate (8 * (length ws / 8)) 0 ++ drop (8 * (length ws / 8)) ws ≡ cleared ws
+unfolding cleared
+cleared_parts ws = sym (subst (λ (n : ℕ). each (cleared_word n) 0 ws ≡ replicate (8 * (length ws / 8)) 0 ++ drop (8 * (length ws / 8)) ws)
+    (let e : 0 + 8 * (length ws / 8) ≡ 8 * (length ws / 8) = omega arith in e) (each_cleared (8 * (length ws / 8)) 0 ws (omega arith)))

@@ -16,11 +16,7 @@ pub fn clear(words: &mut [u64])
     ensures { words.new ≡ cleared words.old }
 {
     let count = 8 * (words.len() / 8);
-    let mut at = 0;
-    while at < count {
-        words[at] = 0;
-        at += 1;
-    }
+    words[..count].fill(0);
 }
 
 // A word of flag k, with this bit in it if the flag is up in the byte.
@@ -37,10 +33,8 @@ fn mark_run(words: &mut [u64], tick: u64, flags: u8)
     ensures { words.new ≡ each (marked_word tick flags) 0 words.old }
 {
     let run = 8 * (tick / 64) as usize;
-    let mut k = 0;
-    while k < 8 {
+    for k in 0..8 {
         words[run + k] = with_flag(words[run + k], tick % 64, flags, k as u64);
-        k += 1;
     }
 }
 
@@ -58,11 +52,7 @@ pub fn fill(words: &mut [u64], tick: u64, bytes: &[u8])
     ensures { words.new ≡ filled words.old tick bytes.now }
 {
     let end = kept_ticks(words);
-    let mut next = tick;
-    let mut at = 0;
-    while at < bytes.len() && next < end {
-        mark_run(words, next, bytes[at]);
-        next += 1;
-        at += 1;
+    for (next, flags) in (tick..end).zip(bytes) {
+        mark_run(words, next, *flags);
     }
 }

@@ -1,22 +1,23 @@
 -- `calendar_marks::fill` meets its contract: it ends where no byte is left or the next tick is not kept.
-use native.Mathlib.Omega.{arith}
+use Rattle.std.proofs.Common.{arith, inl, inr}
 use Rattle.calendar_marks.proofs.Filling.{left_less, no_byte, no_tick}
-use borrow.Author.Rules.{rules}
 use Rattle.calendar_marks.proofs.fill.Goals as goal
 
-pub loop-at-preserved : goal.loop-at-preserved
-loop-at-preserved c =
-    let kept-tick = c.if-next-end.true in
-    left_less c.args.words.now c.args.tick c.args.bytes.now c.kept_ticks-end.result c.loop-at.words c.loop-at.next
-    c.loop-at.at c.loop-at.invariant c.mark_run.new.words
-    (omega (arith, c.loop-at.invariant.stop, kept-tick)) (search rules) c.mark_run.ensures
+pub mark_run-requires : goal.mark_run-requires
+mark_run-requires c = omega (arith, c.in-Some.ensures.steps.0.1.0, c.in-Some.ensures.steps.0.1.1, c.loop-next.invariant.2.stop)
 
-pub returns-else-next-end : goal.returns-else-next-end
-returns-else-next-end c =
-    no_tick c.args.words.now c.args.tick c.args.bytes.now c.kept_ticks-end.result c.loop-at.words c.loop-at.next
-    c.loop-at.at c.loop-at.invariant (omega (arith, c.loop-at.invariant.stop, c.if-next-end.false))
+pub loop-next-preserved : goal.loop-next-preserved
+loop-next-preserved c =
+    let s = c.in-Some.ensures.steps in (
+      (tt, tt),
+      tt,
+      left_less _ _ _ _ _ _ _ c.loop-next.invariant.2 c.mark_run.new.words c.in-Some.flags.now _ _ _
+          (omega (arith, s.0.1.0)) s.1 (rw (s.0.1.1) at c.mark_run.ensures) s.0.1.2 s.0.0,
+    )
 
-pub returns-after-loop-at : goal.returns-after-loop-at
-returns-after-loop-at c =
-    no_byte c.args.words.now c.args.tick c.args.bytes.now c.kept_ticks-end.result c.loop-at.words c.loop-at.next
-    c.loop-at.at c.loop-at.invariant (search rules)
+pub returns : goal.returns
+returns c =
+    elim c.in-None.ensures.steps [
+      | inl w ↦ no_tick _ _ _ _ _ _ _ c.loop-next.invariant.2 (omega (arith, w.1))
+      | inr w ↦ no_byte _ _ _ _ _ _ _ c.loop-next.invariant.2 w.1.0
+    ]
