@@ -5,6 +5,7 @@ ghost use Rattle.std.specs.Prelude.{◌≡◌, ◌<◌};
 ghost use Rattle.calendar.specs.Calendar.{kept, each, cleared, flagged, marked_word, marked, filled};
 
 // How many ticks the words keep: 64 for each full group of eight.
+#[tactic(auto, unfolding(calendar::specs::Calendar::kept))]
 pub fn kept_ticks(words: &[u64]) -> u64
     ensures { result ≡ kept words.now }
 {
@@ -20,6 +21,7 @@ pub fn clear(words: &mut [u64])
 }
 
 // A word of flag k, with this bit in it if the flag is up in the byte.
+#[tactic(auto, using(crate::proofs::Flagged::or_flagged))]
 fn with_flag(word: u64, bit: u64, flags: u8, k: u64) -> u64
     requires { (bit < 64) × (k < 8) }
     ensures { result ≡ flagged bit flags k word }
@@ -39,6 +41,7 @@ fn mark_run(words: &mut [u64], tick: u64, flags: u8)
 }
 
 // Marks a tick by its flag byte. A tick past the lent words is not kept.
+#[tactic(auto, using(calendar::proofs::Stream::marked_kept, calendar::proofs::Stream::marked_past))]
 pub fn mark(words: &mut [u64], tick: u64, flags: u8)
     ensures { words.new ≡ marked words.old tick flags }
 {

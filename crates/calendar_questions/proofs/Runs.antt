@@ -39,6 +39,10 @@ quiet_run ws k r m z e =
     (quiet_shown (up_at ws k) (64 * r) 64 m (whole_shown ws k r m (subst (λ (x : ℕ). x < 2 ^ 64) (sym z) (pow_pos 64)) e) z)
 
 -- the word of a tick is its run's
-pub word_of_run : (ws : List ℕ) (k q : ℕ) → run_word ws k (64 * (q / 64)) ≡ run_word ws k q
+word_of_run : (ws : List ℕ) (k q : ℕ) → run_word ws k (64 * (q / 64)) ≡ run_word ws k q
 unfolding run_word
 word_of_run ws k q = ap (λ (x : ℕ). get_or ws (8 * x + k) 0) (omega arith)
+
+-- a word of a tick's run, masked
+pub masked_shown : (ws : List ℕ) (k q d m w : ℕ) → q % 64 + d ≤ 64 → w ≡ run_word ws k (64 * (q / 64)) → m ≡ w / 2 ^ (q % 64) % 2 ^ d → Shown (up_at ws k) q d m
+masked_shown ws k q d m w h e f = run_shown ws k q d m h (f ∙ ap (λ (x : ℕ). x / 2 ^ (q % 64) % 2 ^ d) (e ∙ word_of_run ws k q))

@@ -6,6 +6,7 @@ ghost use Rattle.calendar_questions.specs.Parts.{up_of, kept_of, Shown};
 use crate::flag_words::FlagWords;
 
 // The `count` bits of a word from `bit` on, as the low bits of a number.
+#[tactic(auto, using(crate::proofs::Digits::mask_word))]
 fn masked(word: u64, bit: u64, count: u64) -> u64
     requires { (0 < count) × (bit + count ≤ 64) }
     ensures { result ≡ word / 2 ^ bit % 2 ^ count }
@@ -15,6 +16,7 @@ fn masked(word: u64, bit: u64, count: u64) -> u64
 
 impl FlagWords<'_> {
     // The word of the flag for a run of kept ticks.
+    #[tactic(auto, unfolding(calendar::specs::Calendar::kept, calendar::specs::Calendar::run_word))]
     pub(crate) fn run_word(&self, run: u64) -> u64
         requires { 64 * run < kept_of self.now }
         ensures { result ≡ run_word self.now.words.now self.now.flag (64 * run) }
@@ -23,6 +25,7 @@ impl FlagWords<'_> {
     }
 
     // The `count` ticks from q on, which lie in one run, as the low bits of a number.
+    #[tactic(auto, using(crate::proofs::Runs::masked_shown))]
     pub(crate) fn shown(&self, q: u64, count: u64) -> u64
         requires { (q < kept_of self.now) × (0 < count) × (q % 64 + count ≤ 64) }
         ensures { Shown (up_of self.now) q count result }
