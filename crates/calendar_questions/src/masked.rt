@@ -11,7 +11,7 @@ fn masked(word: u64, bit: u64, count: u64) -> u64
     requires { (0 < count) × (bit + count ≤ 64) }
     ensures { result ≡ word / 2 ^ bit % 2 ^ count }
 {
-    (word >> bit) & (0xffff_ffff_ffff_ffff >> (64 - count))
+    (word >> bit) & (u64::MAX >> (64 - count))
 }
 
 impl FlagWords<'_> {
