@@ -9,8 +9,7 @@ use Rattle.rule.specs.Formula.{Formula, flag, negate, then, beside, forall}
 use Rattle.rule.proofs.Written.{Legal}
 use Rattle.rule.proofs.OneBody.{body_accepted}
 use Rattle.nodes.specs.Table.{formula_in}
-use Rattle.reader.specs.declared.Reading.{Reading}
-use Rattle.reader.specs.declared.Reading.TheVariants.{Stored, Refused}
+use Rattle.std.specs.Prelude.{Result, Ok, Err}
 use Rattle.reader.specs.Decoded.{Decoded}
 use Rattle.reader.proofs.Told.{refused_body, read_formula}
 use Rattle.notation.specs.Notation.{text}
@@ -30,16 +29,16 @@ flags_fit m (forall B C F) l = flags_fit (suc m) F l.3
 
 -- ---- after the body is read
 
-module _ (s : List ℕ) {r : Reading} {ns : List ℕ} (d : Decoded s r ns) where
-  pub writable : r ≡ Stored → Writable (formula_in 64 ns 0 0)
+module _ (s : List ℕ) {r : Result (Unit {0}) Refusal} {ns : List ℕ} (d : Decoded s r ns) where
+  pub writable : {u : Unit {0}} → r ≡ Ok u → Writable (formula_in 64 ns 0 0)
   writable x =
       let f = read_formula d x in
       subst Writable (sym f.2.is) (record { flags = flags_fit 0 f.0 (body_accepted s f.0 f.1).legal; short = text_short s f.0 f.1 })
 
-  pub text_read : (room : ℕ) → r ≡ Stored → fitted room (rule_text ns) ≡ text_of_body s room
+  pub text_read : {u : Unit {0}} (room : ℕ) → r ≡ Ok u → fitted room (rule_text ns) ≡ text_of_body s room
   unfolding text_of_body and_then
   text_read room x = let f = read_formula d x in rw f.1 (ap (λ (G : Formula). fitted room (text (rule_named G))) f.2.is)
 
-  pub text_refused : {x : Refusal} (room : ℕ) → r ≡ Refused x → refused (number_of x) ≡ text_of_body s room
+  pub text_refused : {x : Refusal} (room : ℕ) → r ≡ Err x → refused (number_of x) ≡ text_of_body s room
   unfolding text_of_body and_then
   text_refused room y = rw (refused_body d y) refl

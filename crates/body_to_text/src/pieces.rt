@@ -1,38 +1,26 @@
 // The pieces of a formula's text: names, offsets, bounds, flags.
-ghost use Rattle.std.specs.Prelude.{◌≡◌, [], ◌∷◌, suc, ◌+◌, ◌-◌, ◌≤◌};
+ghost use Rattle.std.specs.Prelude.{◌≡◌, [], ◌∷◌, suc, ◌+◌, ◌-◌, ◌≤◌, ltb, cond};
 ghost use Rattle.rule.specs.Body.{signed};
 ghost use Rattle.nodes.specs.Table.{bound_at};
 ghost use Rattle.notation.specs.Notation.{flag, offset_text, end_text, formula_text};
 ghost use Rattle.notation.specs.Printing.{variable_name, digit_of, digits, offset_named, end_named};
-ghost use Rattle.body_to_text.specs.Storing.{Wrote};
+ghost use Rattle.body_to_text.specs.Storing.{Adds};
 
-use crate::store::{put, put_word};
-use nodes::{BOUND_VARIABLE, INFINITY_KIND, KIND, OFFSET, ORIGIN_KIND, node_word};
+use crate::writer::Writer;
+use nodes::{BOUND_VARIABLE, Kind, OFFSET, kind_at, node_word};
 
 // A variable's letter.
+#[tactic(auto, unfolding(notation::specs::Printing::variable_name))]
 fn letter(variable: u32) -> u8
     ensures { result ∷ [] ≡ variable_name variable }
 {
-    if variable == 0 {
-        return b'x';
+    match variable {
+        0 => b'x',
+        1 => b'y',
+        2 => b'z',
+        3 => b'u',
+        _ => b'v',
     }
-    if variable == 1 {
-        return b'y';
-    }
-    if variable == 2 {
-        return b'z';
-    }
-    if variable == 3 {
-        return b'u';
-    }
-    b'v'
-}
-
-// Stores a variable's name.
-pub(crate) fn put_name(out: &mut [u8], at: usize, variable: u32) -> usize
-    ensures { Wrote (variable_name variable) out.old at out.new result }
-{
-    put(out, at, letter(variable))
 }
 
 // The digit of a number that is worth 1, 10, 100 or 1,000.
@@ -43,85 +31,83 @@ fn digit(number: u32, worth: u32) -> u8
     b'0' + (number / worth % 10) as u8
 }
 
-// Stores the last two digits.
-fn put_two_digits(out: &mut [u8], at: usize, number: u32) -> usize
-    ensures { Wrote (digit_of number 10 ∷ digit_of number 1 ∷ []) out.old at out.new result }
-{
-    let next = put(out, at, digit(number, 10));
-    put(out, next, digit(number, 1))
-}
-
-// Stores the last three digits.
-fn put_three_digits(out: &mut [u8], at: usize, number: u32) -> usize
-    ensures { Wrote (digit_of number 100 ∷ digit_of number 10 ∷ digit_of number 1 ∷ []) out.old at out.new result }
-{
-    let next = put(out, at, digit(number, 100));
-    put_two_digits(out, next, number)
-}
-
-// Stores a number of at most four digits, with no 0 before them.
-fn put_digits(out: &mut [u8], at: usize, number: u32) -> usize
-    ensures { Wrote (digits number) out.old at out.new result }
-{
-    if number < 10 {
-        return put(out, at, digit(number, 1));
-    }
-    if number < 100 {
-        return put_two_digits(out, at, number);
-    }
-    if number < 1000 {
-        return put_three_digits(out, at, number);
-    }
-    let next = put(out, at, digit(number, 1000));
-    put_three_digits(out, next, number)
-}
-
 // How far below 0 an offset of 16 bits lies; 1 for a word past 16 bits, as the definition has it.
 fn below_zero(bits: u32) -> u32
     requires { 32768 ≤ bits }
     ensures { result ≡ suc (65535 - bits) }
 {
-    if bits < 65536 { 65536 - bits } else { 1 }
+    65536u32.saturating_sub(bits).max(1)
 }
 
-// Stores an offset of 16 bits: nothing for 0.
-#[tactic(auto, unfolding(notation::specs::Notation::offset_text, notation::specs::Printing::offset_named, rule::specs::Body::signed))]
-fn put_offset(out: &mut [u8], at: usize, bits: u32) -> usize
-    ensures { Wrote (offset_text (offset_named (signed bits)) []) out.old at out.new result }
-{
-    if bits == 0 {
-        return at;
+impl Writer {
+    // Writes a variable's name.
+    pub(crate) fn put_name(&mut self, variable: u32)
+        ensures { Adds (variable_name variable) self.old self.new }
+    {
+        self.put(letter(variable));
     }
-    if bits < 32768 {
-        let next = put(out, at, b'+');
-        return put_digits(out, next, bits);
-    }
-    let next = put(out, at, b'-');
-    put_digits(out, next, below_zero(bits))
-}
 
-// Stores the bound whose three words start at word `bound`.
-pub(crate) fn put_bound(out: &mut [u8], at: usize, nodes: &[u32], bound: usize) -> usize
-    ensures { Wrote (end_text (end_named (bound_at nodes.now bound)) []) out.old at out.new result }
-{
-    let kind = node_word(nodes, bound, KIND);
-    if kind == ORIGIN_KIND {
-        let next = put(out, at, b'0');
-        return put_offset(out, next, node_word(nodes, bound, OFFSET));
+    // Writes the digit that is worth so much, where the number has one.
+    fn put_digit(&mut self, number: u32, worth: u32)
+        requires { 1 ≤ worth }
+        ensures { Adds (cond (ltb number worth) [] (digit_of number worth ∷ [])) self.old self.new }
+    {
+        if worth <= number {
+            self.put(digit(number, worth));
+        }
     }
-    if kind == INFINITY_KIND {
-        return put_word(out, at, b"infinity");
-    }
-    let next = put_name(out, at, node_word(nodes, bound, BOUND_VARIABLE));
-    put_offset(out, next, node_word(nodes, bound, OFFSET))
-}
 
-// Stores flag k at a variable.
-pub(crate) fn put_flag(out: &mut [u8], at: usize, variable: u32, k: u32) -> usize
-    ensures { k ≤ 7 → Wrote (formula_text (flag (variable_name variable) (48 + k)) []) out.old at out.new result }
-{
-    let name = put(out, at, b'@');
-    let point = put_name(out, name, variable);
-    let number = put(out, point, b'.');
-    put(out, number, digit(k, 1))
+    // Writes a number of at most four digits, with no 0 before them.
+    fn put_digits(&mut self, number: u32)
+        ensures { Adds (digits number) self.old self.new }
+    {
+        self.put_digit(number, 1000);
+        self.put_digit(number, 100);
+        self.put_digit(number, 10);
+        self.put(digit(number, 1));
+    }
+
+    // Writes an offset of 16 bits: nothing for 0.
+    #[tactic(auto, unfolding(notation::specs::Notation::offset_text, notation::specs::Printing::offset_named, rule::specs::Body::signed))]
+    fn put_offset(&mut self, bits: u32)
+        ensures { Adds (offset_text (offset_named (signed bits)) []) self.old self.new }
+    {
+        if bits == 0 {
+            return;
+        }
+        if bits < 32768 {
+            self.put(b'+');
+            self.put_digits(bits);
+            return;
+        }
+        self.put(b'-');
+        self.put_digits(below_zero(bits));
+    }
+
+    // Writes the bound whose three words start at word `bound`.
+    pub(crate) fn put_bound(&mut self, nodes: &[u32], bound: usize)
+        ensures { Adds (end_text (end_named (bound_at nodes.now bound)) []) self.old self.new }
+    {
+        match kind_at(nodes, bound) {
+            Kind::Origin => {
+                self.put(b'0');
+                self.put_offset(node_word(nodes, bound, OFFSET));
+            }
+            Kind::Infinity => self.put_word(b"infinity"),
+            Kind::Variable => {
+                self.put_name(node_word(nodes, bound, BOUND_VARIABLE));
+                self.put_offset(node_word(nodes, bound, OFFSET));
+            }
+        }
+    }
+
+    // Writes flag k at a variable.
+    pub(crate) fn put_flag(&mut self, variable: u32, k: u32)
+        ensures { k ≤ 7 → Adds (formula_text (flag (variable_name variable) (48 + k)) []) self.old self.new }
+    {
+        self.put(b'@');
+        self.put_name(variable);
+        self.put(b'.');
+        self.put(digit(k, 1));
+    }
 }

@@ -1,29 +1,29 @@
 -- `body_to_text::write_text` meets its contract.
-use Prim.Native.Nat.{ℕ}
-use mathlib.Core.Path.{ap, ◌∙◌}
-use mathlib.Core.List.{List}
+use mathlib.Core.Path.{refl, sym}
 use lib.ListN.{length}
-use Rattle.refusal.specs.Answer.{Answer}
-use Rattle.notation.specs.Bodies.{length_of, buffer_with}
+use Rattle.refusal.specs.Numbers.{number_of}
+use Rattle.refusal.proofs.Answers.{handed_on}
+use Rattle.notation.specs.Bodies.{fitted}
+use Rattle.notation.specs.Printing.{text_of_body}
+use Rattle.notation.proofs.Written.{writes_nothing, writes_same}
+use Rattle.body_to_text.specs.Parts.{rule_text}
 use Rattle.body_to_text.proofs.Bodies.{writable, text_read, text_refused}
 use Rattle.body_to_text.proofs.write_text.Goals as goal
 
+pub returns-in_err-read_body : goal.returns-in_err-read_body
+returns-in_err-read_body c =
+    let a = c.args in
+    let room = length a.out.now in
+    let x = c.in_err-read_body.field-0.0 in
+    rw (handed_on c.from_residual.result x c.from_residual.ensures)
+    (writes_nothing (text_of_body a.body.now room) (number_of x) a.out.now (sym (text_refused a.body.now c.in_err-read_body.ensures room refl)))
+
 pub write_rule-requires : goal.write_rule-requires
-write_rule-requires c =
-    writable c.args.body.now c.read_body-reading.ensures c.in-Stored.is
+write_rule-requires c = writable c.args.body.now c.in_ok-read_body.ensures refl
 
-pub returns-in-Stored : goal.returns-in-Stored
-returns-in-Stored c =
+pub returns : goal.returns
+returns c =
     let a = c.args in
-    let out = a.out.now in
-    let e = text_read a.body.now c.read_body-reading.ensures (length out) c.in-Stored.is in (
-      c.write_rule.ensures.0 ∙ ap length_of e,
-      c.write_rule.ensures.1 ∙ ap (λ (b : Answer (List ℕ)). buffer_with b out) e,
-    )
-
-pub returns-in-Refused : goal.returns-in-Refused
-returns-in-Refused c =
-    let a = c.args in
-    let out = a.out.now in
-    let e = text_refused a.body.now c.read_body-reading.ensures (length out) c.in-Refused.is in
-    (ap length_of e, ap (λ (b : Answer (List ℕ)). buffer_with b out) e)
+    let room = length a.out.now in
+    let e = text_read a.body.now c.in_ok-read_body.ensures room refl in
+    writes_same (text_of_body a.body.now room) (fitted room (rule_text c.read_body.new.nodes)) _ a.out.now _ (sym e) c.write_rule.ensures

@@ -1,0 +1,33 @@
+// Writing text piece after piece. Each method goes on where the last one ended, and stops at the end of the bytes: no caller has to show that there is
+// room.
+ghost use Rattle.std.specs.Prelude.{[], ◌∷◌};
+ghost use Rattle.body_to_text.specs.Storing.{Adds};
+
+// The bytes of a text, and how many of them are written.
+#[derive(Drop)]
+pub(crate) struct Writer {
+    pub bytes: [u8; 4096],
+    pub at: usize,
+}
+
+impl Writer {
+    // Writes a byte.
+    pub(crate) fn put(&mut self, byte: u8)
+        ensures { Adds (byte ∷ []) self.old self.new }
+    {
+        if self.at < self.bytes.len() {
+            self.bytes[self.at] = byte;
+            self.at += 1;
+        }
+    }
+
+    // Writes a word.
+    #[tactic(auto, using(crate::proofs::Storing::wrote_none, crate::proofs::Storing::wrote_more, crate::proofs::Storing::wrote_word))]
+    pub(crate) fn put_word(&mut self, word: &[u8])
+        ensures { Adds word.now self.old self.new }
+    {
+        for byte in word {
+            self.put(*byte);
+        }
+    }
+}
