@@ -32,16 +32,15 @@ fn watch_rule<R: Runtime>(rt: &R, sheet: &[u8], figures: Figures) -> Result<(), 
     let mut history = [0u8; 4096];
     let mut cells = [0u32; 16384];
     let mut report = [0u64; 4096];
-    let length = figures.history as usize;
-    if history.len() < length {
+    let Some(history) = history.get_mut(..figures.history as usize) else {
         return Err(Told);
-    }
-    match engine::open(sheet, 0, &mut history[..length], &cells) {
+    };
+    match engine::open(sheet, 0, history, &cells) {
         Ok(state) => {
             print_figures(rt, figures)?;
             let mut watch = Watch {
                 state,
-                history: &mut history[..length],
+                history,
                 cells: &mut cells,
                 report: &mut report,
                 violations: 0,
