@@ -37,69 +37,75 @@ fn all_live(records: &[[u32; RECORD_WORDS]], count: usize) -> usize
     live
 }
 
-// Takes a flag of a set whose steps report `most` pairs at most, and makes triples of its pairs.
-fn take_timed(
-    sheet: &[u8],
-    records: &mut [[u32; RECORD_WORDS]],
-    history: &mut [u8],
-    flag: u8,
-    cells: &mut [u32],
-    report: &mut [u64],
+// An admitted set: its sheet, and the most pairs that a step of it can report.
+#[derive(Clone, Copy)]
+struct Admitted<'a> {
+    sheet: &'a [u8],
     most: usize,
-) -> StepCounts
-    requires { TimedFit sheet.now (rules_in records.old) (length history.old) (length cells.old) (length report.old) most }
-    ensures { TimedMoved sheet.now (rules_in records.old) history.old flag cells.old report.old most result.reported result.live (rules_in records.new) history.new cells.new report.new }
-{
-    let lead = rule_at(records, 0);
-    let words = 2 * most;
-    let moved = take_flag(sheet, records, history, flag, cells, &mut report[..words]);
-    time_pairs(report, moved.reported, lead.next);
-    moved
 }
 
-// Takes flags, until they or the tick numbers end, or the report has no room for another step, which can have `most` pairs.
-fn take_flags(
-    sheet: &[u8],
-    records: &mut [[u32; RECORD_WORDS]],
-    flags: &[u8],
-    history: &mut [u8],
-    cells: &mut [u32],
-    report: &mut [u64],
-    most: usize,
-) -> SetBatchCounts
-    requires { SetBatchFit sheet.now (rules_in records.old) (length history.old) (length cells.old) most }
-    ensures { SetFlagsTaken sheet.now (rules_in records.old) flags.now history.old cells.old report.old result.taken result.triples result.live (rules_in records.new) history.new cells.new report.new }
-{
-    let lead = rule_at(records, 0);
-    let count = flags_left(flags.len(), lead.next);
-    let mut triples: usize = 0;
-    let mut live = all_live(records, byte_after(sheet, 0, 0));
-    for taken in 0..count {
-        let at = 3 * triples;
-        if report.len() - at < 3 * most {
-            return SetBatchCounts {
-                taken,
-                triples,
-                live,
-            };
-        }
-        let flag = flags[taken];
-        let moved = take_timed(
-            sheet,
+impl Admitted<'_> {
+    // Takes a flag, and makes triples of its pairs.
+    fn take_timed(
+        &self,
+        records: &mut [[u32; RECORD_WORDS]],
+        history: &mut [u8],
+        flag: u8,
+        cells: &mut [u32],
+        report: &mut [u64],
+    ) -> StepCounts
+        requires { TimedFit self.now.sheet.now (rules_in records.old) (length history.old) (length cells.old) (length report.old) self.now.most }
+        ensures { TimedMoved self.now.sheet.now (rules_in records.old) history.old flag cells.old report.old self.now.most result.reported result.live (rules_in records.new) history.new cells.new report.new }
+    {
+        let lead = rule_at(records, 0);
+        let words = 2 * self.most;
+        let moved = take_flag(
+            self.sheet,
             records,
             history,
             flag,
             cells,
-            &mut report[at..],
-            most,
+            &mut report[..words],
         );
-        triples += moved.reported;
-        live = moved.live;
+        time_pairs(report, moved.reported, lead.next);
+        moved
     }
-    SetBatchCounts {
-        taken: count,
-        triples,
-        live,
+
+    // Takes flags, until they or the tick numbers end, or the report has no room for another step.
+    fn take_flags(
+        &self,
+        records: &mut [[u32; RECORD_WORDS]],
+        flags: &[u8],
+        history: &mut [u8],
+        cells: &mut [u32],
+        report: &mut [u64],
+    ) -> SetBatchCounts
+        requires { SetBatchFit self.now.sheet.now (rules_in records.old) (length history.old) (length cells.old) self.now.most }
+        ensures { SetFlagsTaken self.now.sheet.now (rules_in records.old) flags.now history.old cells.old report.old result.taken result.triples result.live (rules_in records.new) history.new cells.new report.new }
+    {
+        let lead = rule_at(records, 0);
+        let count = flags_left(flags.len(), lead.next);
+        let mut triples: usize = 0;
+        let mut live = all_live(records, byte_after(self.sheet, 0, 0));
+        for taken in 0..count {
+            let at = 3 * triples;
+            if report.len() - at < 3 * self.most {
+                return SetBatchCounts {
+                    taken,
+                    triples,
+                    live,
+                };
+            }
+            let flag = flags[taken];
+            let moved = self.take_timed(records, history, flag, cells, &mut report[at..]);
+            triples += moved.reported;
+            live = moved.live;
+        }
+        SetBatchCounts {
+            taken: count,
+            triples,
+            live,
+        }
     }
 }
 
@@ -122,6 +128,7 @@ pub fn steps(
         cells.len(),
         SET_REPORT_WORDS,
     )?;
-    let counts = take_flags(sheet, records, flags, history, cells, report, most);
+    let set = Admitted { sheet, most };
+    let counts = set.take_flags(records, flags, history, cells, report);
     Ok(counts)
 }

@@ -2,6 +2,8 @@
 ghost use Rattle.std.specs.Prelude.{◌≡◌, ◌++◌, ◌*◌, ◌≤◌, length, take, drop};
 ghost use Rattle.demand.specs.SetContract.{numbered, timed};
 
+// Kept: two functions, with `instances::batch::spread` a third. One for all would take a width and a side, and move a group by an inner loop: no plainer than
+// the stores below.
 // Puts the rule before each of the first `count` ticks, from the last one down.
 pub(crate) fn number_ticks(report: &mut [u64], count: usize, rule: u64)
     requires { 2 * count ≤ length report.old }

@@ -17,6 +17,7 @@ pub use stepping::{SteppedSet, step_set};
 pub const MOST_RULES: usize = 32;
 
 // The records of a set: the first `lent` of the 32, all of them where `lent` is above 32.
+// Kept: an array and a number, since a set by value has no heap, and `lent` counts the caller's records, which may be more.
 #[derive(Clone, Copy)]
 pub struct RuleSet {
     pub rules: [Running; MOST_RULES],

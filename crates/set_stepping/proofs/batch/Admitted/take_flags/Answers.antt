@@ -1,4 +1,4 @@
--- `set_stepping::batch::take_flags` meets its contract.
+-- `set_stepping::batch::Admitted::take_flags` meets its contract.
 use Prim.Native.Nat.{ℕ, suc, ◌+◌, ◌*◌, ◌-◌, min}
 use mathlib.Core.Path.{◌≡◌, refl, sym, ap, subst, ◌∙◌}
 use mathlib.Core.List.{List, [], ◌++◌, append-nil}
@@ -12,14 +12,14 @@ use Rattle.demand.specs.declared.Running.{Running}
 use Rattle.demand.specs.SetContract.{all_live, running_rules, next_tick}
 use Rattle.running.specs.Records.{rules_in}
 use Rattle.set_stepping.proofs.ManyFlags.{Under, few, under_start, timed_fits, flag_pairs, under_more, ends_all}
-use Rattle.set_stepping.proofs.batch.take_flags.Goals as goal
+use Rattle.set_stepping.proofs.batch.Admitted.take_flags.Goals as goal
 
 pub loop-taken-init : goal.loop-taken-init
 loop-taken-init c =
     let a = c.args in
-    let all : c.all_live-live.result ≡ all_live (running_rules a.sheet.now (rules_in a.records.now)) =
+    let all : c.all_live-live.result ≡ all_live (running_rules a.self.now.sheet.now (rules_in a.records.now)) =
     c.all_live-live.ensures ∙ ap (λ (n : ℕ). all_live (take n (rules_in a.records.now))) c.byte_after.ensures.0 in
-    (refl, λ figures admitted. under_start a.sheet.now (rules_in a.records.now) a.flags.now a.history.now a.cells.now a.report.now figures admitted c.all_live-live.result all)
+    (refl, λ figures admitted. under_start a.self.now.sheet.now (rules_in a.records.now) a.flags.now a.history.now a.cells.now a.report.now figures admitted c.all_live-live.result all)
 
 pub take_timed-moved-requires : goal.take_timed-moved-requires
 take_timed-moved-requires c =
@@ -30,10 +30,10 @@ take_timed-moved-requires c =
     let count = c.flags_left-count.ensures in
     let test = c.loop-taken-test.true in
     let u = l.invariant.1 c.requires.figures c.requires.admitted in
-    let most = few a.sheet.now (rules_in a.records.now) a.flags.now a.history.now a.cells.now a.report.now c.requires.figures c.requires.admitted in
-    timed_fits a.sheet.now (rules_in a.records.now) a.flags.now a.history.now a.cells.now a.report.now c.requires.figures (rules_in l.records) l.history l.cells l.report l.taken l.triples l.live u (omega (arith, c.if-report-at.false, u.report_length, u.inside, c.requires.pairs_are)) (omega (arith, count, test)) (omega (arith, count, test, next)) most
+    let most = few a.self.now.sheet.now (rules_in a.records.now) a.flags.now a.history.now a.cells.now a.report.now c.requires.figures c.requires.admitted in
+    timed_fits a.self.now.sheet.now (rules_in a.records.now) a.flags.now a.history.now a.cells.now a.report.now c.requires.figures (rules_in l.records) l.history l.cells l.report l.taken l.triples l.live u (omega (arith, c.if-report-at.false, u.report_length, u.inside, c.requires.pairs_are)) (omega (arith, count, test)) (omega (arith, count, test, next)) most
     (take (length l.report - 3 * l.triples) (drop (3 * l.triples) l.report))
-    (take_all (length l.report - 3 * l.triples) (drop (3 * l.triples) l.report) (omega (arith, length-drop (3 * l.triples) l.report))) a.most c.requires.pairs_are
+    (take_all (length l.report - 3 * l.triples) (drop (3 * l.triples) l.report) (omega (arith, length-drop (3 * l.triples) l.report))) a.self.now.most c.requires.pairs_are
 
 pub overflow_add-triples : goal.overflow_add-triples
 overflow_add-triples c =
@@ -44,11 +44,11 @@ overflow_add-triples c =
     let count = c.flags_left-count.ensures in
     let test = c.loop-taken-test.true in
     let u = l.invariant.1 c.requires.figures c.requires.admitted in
-    let most = few a.sheet.now (rules_in a.records.now) a.flags.now a.history.now a.cells.now a.report.now c.requires.figures c.requires.admitted in
+    let most = few a.self.now.sheet.now (rules_in a.records.now) a.flags.now a.history.now a.cells.now a.report.now c.requires.figures c.requires.admitted in
     let m = c.take_timed-moved in
-    let pairs = flag_pairs a.sheet.now (rules_in a.records.now) a.flags.now a.history.now a.cells.now a.report.now c.requires.figures (rules_in l.records) l.history l.cells l.report l.taken l.triples l.live u (omega (arith, c.if-report-at.false, u.report_length, u.inside, c.requires.pairs_are)) (omega (arith, count, test)) (omega (arith, count, test, next)) most
+    let pairs = flag_pairs a.self.now.sheet.now (rules_in a.records.now) a.flags.now a.history.now a.cells.now a.report.now c.requires.figures (rules_in l.records) l.history l.cells l.report l.taken l.triples l.live u (omega (arith, c.if-report-at.false, u.report_length, u.inside, c.requires.pairs_are)) (omega (arith, count, test)) (omega (arith, count, test, next)) most
     (take (length l.report - 3 * l.triples) (drop (3 * l.triples) l.report))
-    (take_all (length l.report - 3 * l.triples) (drop (3 * l.triples) l.report) (omega (arith, length-drop (3 * l.triples) l.report))) a.most c.requires.pairs_are m.result.reported m.result.live (rules_in m.new.records) m.new.history m.new.cells m.new.report m.ensures m.auto.history m.auto.cells in
+    (take_all (length l.report - 3 * l.triples) (drop (3 * l.triples) l.report) (omega (arith, length-drop (3 * l.triples) l.report))) a.self.now.most c.requires.pairs_are m.result.reported m.result.live (rules_in m.new.records) m.new.history m.new.cells m.new.report m.ensures m.auto.history m.auto.cells in
     omega (arith, pairs, u.inside, u.report_length)
 
 pub loop-taken-preserved : goal.loop-taken-preserved
@@ -60,7 +60,7 @@ loop-taken-preserved c =
     let count = c.flags_left-count.ensures in
     let test = c.loop-taken-test.true in
     let u = l.invariant.1 c.requires.figures c.requires.admitted in
-    let most = few a.sheet.now (rules_in a.records.now) a.flags.now a.history.now a.cells.now a.report.now c.requires.figures c.requires.admitted in
+    let most = few a.self.now.sheet.now (rules_in a.records.now) a.flags.now a.history.now a.cells.now a.report.now c.requires.figures c.requires.admitted in
     let m = c.take_timed-moved in
     let at : ℕ = 3 * l.triples in
     let words : ℕ = length l.report - 3 * l.triples in
@@ -68,13 +68,13 @@ loop-taken-preserved c =
     let pasted : take at l.report ++ (m.new.report ++ drop words (drop at l.report)) ≡ take at l.report ++ m.new.report =
     ap (λ (r : List ℕ). take at l.report ++ (m.new.report ++ r)) none ∙ ap (λ (r : List ℕ). take at l.report ++ r) (append-nil m.new.report) in
     let report' : List ℕ = take at l.report ++ (m.new.report ++ drop words (drop at l.report)) in
-    let one = under_more a.sheet.now (rules_in a.records.now) a.flags.now a.history.now a.cells.now a.report.now c.requires.figures (rules_in l.records) l.history l.cells l.report l.taken l.triples l.live u (omega (arith, c.if-report-at.false, u.report_length, u.inside, c.requires.pairs_are)) (omega (arith, count, test)) (omega (arith, count, test, next)) most
+    let one = under_more a.self.now.sheet.now (rules_in a.records.now) a.flags.now a.history.now a.cells.now a.report.now c.requires.figures (rules_in l.records) l.history l.cells l.report l.taken l.triples l.live u (omega (arith, c.if-report-at.false, u.report_length, u.inside, c.requires.pairs_are)) (omega (arith, count, test)) (omega (arith, count, test, next)) most
     (take (length l.report - 3 * l.triples) (drop (3 * l.triples) l.report))
-    (take_all (length l.report - 3 * l.triples) (drop (3 * l.triples) l.report) (omega (arith, length-drop (3 * l.triples) l.report))) a.most c.requires.pairs_are m.result.reported m.result.live (rules_in m.new.records) m.new.history m.new.cells m.new.report m.ensures m.auto.history m.auto.cells report' pasted in
+    (take_all (length l.report - 3 * l.triples) (drop (3 * l.triples) l.report) (omega (arith, length-drop (3 * l.triples) l.report))) a.self.now.most c.requires.pairs_are m.result.reported m.result.live (rules_in m.new.records) m.new.history m.new.cells m.new.report m.ensures m.auto.history m.auto.cells report' pasted in
     rw (add-one l.taken) (
       m.auto.records ∙ l.invariant.0,
       λ figures admitted.
-          subst (λ (fs : List Figures). Under a.sheet.now (rules_in a.records.now) a.flags.now a.history.now a.cells.now a.report.now fs (rules_in m.new.records) m.new.history m.new.cells report' (suc l.taken) (l.triples + m.result.reported) m.result.live)
+          subst (λ (fs : List Figures). Under a.self.now.sheet.now (rules_in a.records.now) a.flags.now a.history.now a.cells.now a.report.now fs (rules_in m.new.records) m.new.history m.new.cells report' (suc l.taken) (l.triples + m.result.reported) m.result.live)
           (same_value (sym c.requires.admitted ∙ admitted)) one,
     )
 
@@ -85,6 +85,6 @@ returns c figures admitted =
     let count = c.flags_left-count in
     let all : l.taken ≡ count.result = omega (arith, l.auto.taken-end, c.loop-taken-test.false) in
     rw (← all)
-    (ends_all a.sheet.now (rules_in a.records.now) a.flags.now a.history.now a.cells.now a.report.now figures (rules_in l.records) l.history l.cells l.report l.taken l.triples l.live
+    (ends_all a.self.now.sheet.now (rules_in a.records.now) a.flags.now a.history.now a.cells.now a.report.now figures (rules_in l.records) l.history l.cells l.report l.taken l.triples l.live
     (l.invariant.1 figures admitted) count.result
     (count.ensures ∙ ap (λ (r : Running). min (length a.flags.now) (4611686018427387904 - r.next)) c.rule_at-lead.ensures) (omega (arith, c.loop-taken-test.false)))
