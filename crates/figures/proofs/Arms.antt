@@ -20,7 +20,7 @@ use Rattle.figures.specs.declared.scope.Scope.{Scope}
 use Rattle.figures.specs.declared.figure.Figure.{Figure}
 use Rattle.figures.specs.Distances.{Near, farthest, Modest}
 use Rattle.figures.specs.Scopes.{inside}
-use Rattle.figures.specs.Parts.{flag_figure, then_figure, beside_figure, empty_figure, range_figure, FigureOf}
+use Rattle.figures.specs.Parts.{flag_figure, joined_figure, ranged_figure, then_figure, beside_figure, empty_figure, range_figure, FigureOf}
 use Rattle.figures.specs.Measured.{SizesAt, Measured, Promise, Measures}
 use Rattle.figures.proofs.Distances.{modest_larger, modest_delay}
 use Rattle.figures.proofs.Parts.{flag_of, negate_of, then_of, beside_of, empty_of, forall_of}
@@ -159,7 +159,7 @@ module _ (old : List ℕ) (left m i w : ℕ) (ps : List Pair) (start : Size) (q 
         let t : Both F G e k n₂ f g = both F G e j k n₁ n₂ f g ej len l n h.1.0 h.1.1 p p' in
         let s : get_or n₂ (i + 7) 0 ≡ get_or old (i + 7) 0 = t.low (i + 7) (omega arith) in
         record {
-          figure = rw er (then_of F G ps start f g t.first (subst (λ (x : Size). FigureOf G ps x g) ek t.second));
+          figure = rw er (then_of F G ps start k f g t.first t.second ek);
           holds = (t.low (i + 0) (omega arith) ∙ h.0, subst (λ (x : ℕ). Holds F n₂ m (i + 12) x × Holds G n₂ m x e) (sym s) (t.first_holds, t.second_holds));
           sizes = (t.first_sizes, subst (λ (x : ℕ). SizesAt G n₂ ps x) (sym s) t.second_sizes);
           outside = λ x o. either x t o;
@@ -182,7 +182,7 @@ module _ (old : List ℕ) (left m i w : ℕ) (ps : List Pair) (start : Size) (q 
         let b : get_or old (i + 7) 0 + 12 ≤ e = ends G old m (get_or old (i + 7) 0) e h.1.1 in
         let s : get_or n₃ (i + 7) 0 ≡ get_or old (i + 7) 0 = other (i + 7) (λ x. omega arith) ∙ t.low (i + 7) (omega arith) in
         record {
-          figure = rw er (beside_of F G ps start f g t.first t.second);
+          figure = rw er (beside_of F G ps start start f g t.first t.second refl);
           holds = (
             other (i + 0) (λ x. omega arith) ∙ t.low (i + 0) (omega arith) ∙ h.0,
             subst (λ (x : ℕ). Holds F n₃ m (i + 12) x × Holds G n₃ m x e) (sym s)
@@ -281,17 +281,11 @@ pub empty_safe : (r : Figure) → r ≡ empty_figure → Safe r
 unfolding empty_figure
 empty_safe r e = subst Safe (sym e) (omega arith, omega arith)
 
-pub then_safe : (f g r : Figure) → r ≡ then_figure f g → Modest f.delay → Modest g.delay → Safe r
-unfolding then_figure
-then_safe f g r e a b = subst Safe (sym e) (omega arith, modest_larger f.delay g.delay a b)
+pub joined_safe : (f g : Figure) {r : Figure} {n : ℕ} → r ≡ joined_figure f g n → n ≤ 4097 → Modest f.delay → Modest g.delay → Safe r
+joined_safe f g e few a b = subst Safe (sym e) (few, modest_larger f.delay g.delay a b)
 
-pub beside_safe : (f g r : Figure) → r ≡ beside_figure f g → Modest f.delay → Modest g.delay → Safe r
-unfolding beside_figure
-beside_safe f g r e a b = subst Safe (sym e) (omega arith, modest_larger f.delay g.delay a b)
-
-pub range_safe : (R : Pair) (k : Size) (f r : Figure) → r ≡ range_figure R k f → Modest f.delay → Near farthest R.upper → Safe r
-unfolding range_figure
-range_safe R k f r e a b = subst Safe (sym e) (omega arith, modest_larger f.delay (N R.upper) a (modest_delay R.upper b))
+pub range_safe : (R : Pair) (h : Size) (f r : Figure) → r ≡ ranged_figure R h f → Modest f.delay → Near farthest R.upper → Safe r
+range_safe R h f r e a b = subst Safe (sym e) (omega arith, modest_larger f.delay (N R.upper) a (modest_delay R.upper b))
 
 -- What measuring the formula u under the nots answers and writes, measuring the one at word i does.
 pub under_nots : (old new : List ℕ) (left i : ℕ) (sc : Scope) (start : Size) (f : Figure) (u : Operand) → u ≡ past_nots left old i false → Safe f

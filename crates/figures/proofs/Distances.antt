@@ -68,17 +68,11 @@ short_at : (ns : List ℕ) (j : ℕ) → Short (bound_at ns j)
 unfolding bound_at
 short_at ns j = short_of (get_or ns (j + 0) 0) (get_or ns (j + 1) 0) (get_or ns (j + 2) 0)
 
-near_lower : (b : ℕ) (B : Bound) (ps : List Pair) → Short B → AllNear b ps → Near (b + 32768) (bound_pair B ps).lower
+near_bound : (b : ℕ) (B : Bound) (ps : List Pair) → Short B → AllNear b ps → NearPair (b + 32768) (bound_pair B ps)
 unfolding bound_pair
-near_lower b (origin n) ps h w = omega arith
-near_lower b infinity ps h w = omega arith
-near_lower b (variable v n) ps h w = near_shift b (get_or ps v anywhere).lower n h (w v).0
-
-near_upper : (b : ℕ) (B : Bound) (ps : List Pair) → Short B → AllNear b ps → Near (b + 32768) (bound_pair B ps).upper
-unfolding bound_pair
-near_upper b (origin n) ps h w = omega arith
-near_upper b infinity ps h w = omega arith
-near_upper b (variable v n) ps h w = near_shift b (get_or ps v anywhere).upper n h (w v).1
+near_bound b (origin n) ps h w = (omega arith, omega arith)
+near_bound b infinity ps h w = (omega arith, omega arith)
+near_bound b (variable v n) ps h w = (near_shift b (get_or ps v anywhere).lower n h (w v).0, near_shift b (get_or ps v anywhere).upper n h (w v).1)
 
 pub within_more : (b d : ℕ) (ps : List Pair) (r : Pair) → b ≤ d → AllNear b ps → NearPair d r → AllNear d (ps ++ (r ∷ []))
 unfolding anywhere
@@ -110,8 +104,5 @@ modest_delay Highest h = tt
 -- a bound's pair lies at most an offset farther off than the pairs of the variables
 pub bound_near : (ns : List ℕ) (m j : ℕ) (ps : List Pair) → AllNear (32768 * m) ps → (r : Pair) → r ≡ bound_pair (bound_at ns j) ps → NearPair (32768 * (m + 1)) r
 bound_near ns m j ps w r e =
-    let further : 32768 * m + 32768 ≤ 32768 * (m + 1) = omega arith in
-    subst (NearPair (32768 * (m + 1))) (sym e) (
-      near_more (bound_pair (bound_at ns j) ps).lower further (near_lower (32768 * m) (bound_at ns j) ps (short_at ns j) w),
-      near_more (bound_pair (bound_at ns j) ps).upper further (near_upper (32768 * m) (bound_at ns j) ps (short_at ns j) w),
-    )
+    let n : NearPair (32768 * m + 32768) (bound_pair (bound_at ns j) ps) = near_bound (32768 * m) (bound_at ns j) ps (short_at ns j) w in
+    subst (NearPair (32768 * (m + 1))) (sym e) (omega arith, omega arith)

@@ -26,13 +26,16 @@ beside_figure first second = joined_figure first second (beside_cells first.cell
 unfoldable pub empty_figure : Figure
 empty_figure = record { delay = Finite 0; history = Finite 0; cells = 1 }
 
-unfoldable pub range_figure : Pair → Size → Figure → Figure
-range_figure pair k figure =
+abbrev pub ranged_figure : Pair → Size → Figure → Figure
+ranged_figure pair own_history figure =
     record {
       delay = larger figure.delay (N pair.upper);
-      history = larger (N_back k pair.lower) figure.history;
+      history = larger own_history figure.history;
       cells = range_cells (cap (width pair)) figure.cells;
     }
+
+unfoldable pub range_figure : Pair → Size → Figure → Figure
+range_figure pair k figure = ranged_figure pair (N_back k pair.lower) figure
 
 -- The figures of a formula whose variables have the pairs `ps`, started at `start` at the latest.
 pub record FigureOf (F : Formula) (ps : List Pair) (start : Size) (figure : Figure) : Type 0 where

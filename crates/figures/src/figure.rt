@@ -1,9 +1,9 @@
 // The figures of a formula from its parts'.
 ghost use Rattle.std.specs.Prelude.{◌≡◌};
-ghost use Rattle.figures.specs.Distances.{NearPair, farthest, Modest};
-ghost use Rattle.figures.specs.Parts.{flag_figure, joined_figure, empty_figure, range_figure};
+ghost use Rattle.figures.specs.Distances.{NearPair, farthest};
+ghost use Rattle.figures.specs.Parts.{flag_figure, joined_figure, empty_figure, ranged_figure};
 
-use crate::limits::{range_history, range_width};
+use crate::limits::range_width;
 use cell_count::range_cells;
 use figure_numbers::{larger_size, range_delay};
 use rule::{Pair, Size};
@@ -52,16 +52,14 @@ impl Figure {
         }
     }
 
-    // Of any other range, whose variable has `pair`, started at k at the latest, from its body's. Here W is never 0 and l never infinity.
-    #[tactic(auto, unfolding(crate::specs::Parts::range_figure))]
-    pub(crate) fn under_range(self, pair: Pair, k: Size) -> Figure
-        requires near { NearPair farthest pair }
-        requires begun { Modest k }
-        ensures { result ≡ range_figure pair k self }
+    // Of any other range, whose variable has `pair` and which has a history of its own, from its body's. Here W is never 0 and l never infinity.
+    pub(crate) fn under_range(self, pair: Pair, own_history: Size) -> Figure
+        requires { NearPair farthest pair }
+        ensures { result ≡ ranged_figure pair own_history self }
     {
         Figure {
             delay: larger_size(self.delay, range_delay(pair.upper)),
-            history: larger_size(range_history(k, pair.lower), self.history),
+            history: larger_size(own_history, self.history),
             cells: range_cells(range_width(pair), self.cells),
         }
     }

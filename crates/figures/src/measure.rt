@@ -6,6 +6,7 @@ ghost use Rattle.figures.specs.Distances.{Modest};
 ghost use Rattle.figures.specs.Measured.{Measures, Promise};
 
 use crate::figure::Figure;
+use crate::limits::range_history;
 use crate::scope::Scope;
 use cell_count::{beside_cells, then_cells};
 use figure_numbers::{always_empty, larger_size, range_delay};
@@ -60,7 +61,7 @@ fn measure_at(nodes: &mut [u32], left: usize, node: usize, scope: &Scope, k: Siz
             let inner = scope.with_pair(pair);
             let body = measure_at(nodes, rest, operand.node + NODE_WORDS, &inner, start);
             store(nodes, operand.node, SLOT_WORDS, 4 * (1 + body.cells));
-            body.under_range(pair, k)
+            body.under_range(pair, range_history(k, pair.lower))
         }
         _ => Figure::of_flag(),
     }

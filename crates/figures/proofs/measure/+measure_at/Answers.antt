@@ -5,8 +5,8 @@ use Rattle.rule.specs.Figures.{larger}
 use Rattle.nodes.proofs.Nots.{nots_end}
 use Rattle.figures.specs.Measured.{Promise}
 use Rattle.figures.specs.Scopes.{inside}
-use Rattle.figures.proofs.Parts.{then_is, beside_is}
-use Rattle.figures.proofs.Arms.{none_left, deep_arm, flag_arm, then_arm, beside_arm, empty_arm, forall_arm, under_nots, flag_safe, then_safe, beside_safe, empty_safe, range_safe}
+use Rattle.figures.proofs.Parts.{then_is, beside_is, range_is}
+use Rattle.figures.proofs.Arms.{none_left, deep_arm, flag_arm, then_arm, beside_arm, empty_arm, forall_arm, under_nots, flag_safe, joined_safe, empty_safe, range_safe}
 use Rattle.figures.proofs.measure.+measure_at.Goals.{in_default-via-in-5+else-scope-lt-NESTED, in_default-via-in_default-1}
 use Rattle.figures.proofs.measure.+measure_at.Goals as goal
 
@@ -21,7 +21,7 @@ returns-in-3 t c =
     let a = c.measure_at-first in
     let b = c.measure_at-second in
     let is = then_is a.result b.result c.joined.ensures c.then_cells.ensures in
-    under_nots _ _ _ _ _ _ _ _ c.skip_nots-operand.ensures (then_safe _ _ _ is a.ensures.modest b.ensures.modest)
+    under_nots _ _ _ _ _ _ _ _ c.skip_nots-operand.ensures (joined_safe a.result b.result c.joined.ensures (omega (arith, c.then_cells.ensures)) a.ensures.modest b.ensures.modest)
     (then_arm old u.left c.args.scope.now.depth u.node c.node_word.result (inside c.args.scope.now) c.args.k c.node_word.ensures c.if-operand-eq0.false _ a.new.nodes b.new.nodes a.result b.result
     c.joined.result c.node_word-second_node.ensures a.auto.nodes a.ensures.promise _ c.in-3.is c.larger_size-start.ensures b.ensures.promise is)
 
@@ -32,7 +32,7 @@ returns-in-4 t c =
     let a = c.measure_at-first-in-4 in
     let b = c.measure_at-second-in-4 in
     let is = beside_is a.result b.result c.joined-in-4.ensures c.beside_cells.ensures in
-    under_nots _ _ _ _ _ _ _ _ c.skip_nots-operand.ensures (beside_safe _ _ _ is a.ensures.modest b.ensures.modest)
+    under_nots _ _ _ _ _ _ _ _ c.skip_nots-operand.ensures (joined_safe a.result b.result c.joined-in-4.ensures (omega (arith, c.beside_cells.ensures)) a.ensures.modest b.ensures.modest)
     (beside_arm old u.left c.args.scope.now.depth u.node c.node_word.result (inside c.args.scope.now) c.args.k c.node_word.ensures c.if-operand-eq0.false _ a.new.nodes b.new.nodes a.result b.result
     c.joined-in-4.result c.node_word-second_node-in-4.ensures a.auto.nodes a.ensures.promise c.store.new.nodes c.in-4.is b.ensures.promise b.auto.nodes c.store.ensures is)
 
@@ -53,7 +53,7 @@ returns-else-always_empty t c =
     under_nots _ _ _ _ _ _ _ _ c.skip_nots-operand.ensures (range_safe _ _ _ _ c.under_range.ensures a.ensures.modest (omega (arith, c.range_pair-pair.ensures.near)))
     (forall_arm old u.left c.args.scope.now.depth u.node c.node_word.result (inside c.args.scope.now) c.args.k c.node_word.ensures c.if-operand-eq0.false c.range_pair-pair.result c.range_pair-pair.ensures.pair
     (sym c.always_empty.ensures ∙ c.if-always_empty.false) c.in-5.is start.result (start.ensures ∙ ap (larger c.args.k) c.range_delay.ensures) (inside inner.result) inner.ensures.pairs
-    a.new.nodes s.new.nodes a.result c.under_range.result a.auto.nodes s.ensures c.under_range.ensures promise)
+    a.new.nodes s.new.nodes a.result c.under_range.result a.auto.nodes s.ensures (range_is c.range_pair-pair.result c.args.k a.result c.under_range.ensures c.range_history.ensures) promise)
 
 pub returns-in_default : goal.returns-in_default
 returns-in_default t c =
