@@ -1,2 +1,2 @@
-mod Quotients
+pub mod Quotients
 pub mod Saturation
