@@ -16,6 +16,7 @@ use rule::{Outcome, Verdict};
 pub const MAX_RECORDING: usize = 65535;
 
 // Reads a rule of a sheet for a recording into the node table: refusals 1 to 10, 23, 24, and 16 for a recording above 65,535 bytes.
+#[tactic(auto, using(refusal::proofs::Answers::handed_on, crate::proofs::Admitted::no_rule, crate::proofs::Admitted::no_body, crate::proofs::Admitted::too_long, crate::proofs::Admitted::short_enough))]
 pub fn read_rule(
     sheet: &[u8],
     rule: usize,
@@ -43,6 +44,7 @@ fn step_of(outcome: Outcome) -> Option<u64>
 }
 
 // The step at which the rule in the table is false at a tick of the recording; none where the tick is no violation.
+#[tactic(auto, using(crate::proofs::Admitted::step_answered, crate::proofs::Admitted::step_refused))]
 pub fn false_step(nodes: &[u32; TABLE_WORDS], recording: &[u8], tick: usize) -> Option<u64>
     ensures { result ≡ step_below (length recording.now) (false_step (formula_in 64 nodes.now 0 0) recording.now tick) }
 {

@@ -12,6 +12,7 @@ use nodes::TABLE_WORDS;
 use recorded_rule::false_step;
 
 // Whether this is a violation of the rule in the table.
+#[tactic(auto, using(crate::proofs::FirstOf::same_step), unfolding(crate::specs::Checking::is_violation))]
 fn is_violation(nodes: &[u32; TABLE_WORDS], recording: &[u8], claimed: Violation) -> bool
     ensures { result ≡ is_violation (false_step (formula_in 64 nodes.now 0 0) recording.now) (length recording.now) claimed }
 {
@@ -19,6 +20,7 @@ fn is_violation(nodes: &[u32; TABLE_WORDS], recording: &[u8], claimed: Violation
 }
 
 // Whether an entry comes after the one before it.
+#[tactic(auto, using(crate::proofs::Entries::at_first, crate::proofs::Entries::at_later))]
 fn ascends(claimed: &[[u64; VIOLATION_WORDS]], index: usize) -> bool
     ensures { result ≡ above_at (violations_in claimed.now) index (get_or (violations_in claimed.now) index none_lent) }
 {

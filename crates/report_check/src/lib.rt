@@ -22,6 +22,7 @@ use nodes::TABLE_WORDS;
 use refusal::Refusal;
 
 // How many of the first entries come before a violation.
+#[tactic(auto, using(crate::proofs::Entries::not_before, crate::proofs::Entries::one_before, crate::proofs::Entries::placed_last))]
 fn place_of(claimed: &[[u64; VIOLATION_WORDS]], count: usize, violation: Violation) -> usize
     requires { count ≤ length claimed.now }
     ensures { result ≡ place violation (take count (violations_in claimed.now)) }
@@ -66,6 +67,7 @@ fn compare(
 }
 
 // Compares a list with the complete report of a sheet's rule over a recording: refusals 1 to 10, 23, 24, and 16 for a recording above 65,535 bytes.
+#[tactic(auto, using(refusal::proofs::Answers::handed_on, recorded_rule::proofs::Admitted::recorded_short, crate::proofs::Checked::checks, crate::proofs::Checked::refuses))]
 pub fn check(
     sheet: &[u8],
     rule: usize,

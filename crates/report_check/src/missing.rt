@@ -13,6 +13,7 @@ use nodes::TABLE_WORDS;
 use recorded_rule::false_step;
 
 // The violation of a tick that is not marked.
+#[tactic(auto, using(crate::proofs::FirstOf::met_is_none, crate::proofs::FirstOf::step_is_some, crate::proofs::FirstOf::step_is_none))]
 fn unmarked(
     nodes: &[u32; TABLE_WORDS],
     recording: &[u8],
