@@ -9,6 +9,7 @@ ghost use Rattle.notation.specs.Bodies.{fitted, Writes};
 use refusal::Refusal;
 
 // Puts bytes at the start of a lent buffer and answers how many, or refuses with 22.
+#[tactic(auto, unfolding(crate::specs::Bodies::fitted))]
 pub fn deliver(bytes: &[u8], out: &mut [u8]) -> Result<usize, Refusal>
     ensures { Writes (fitted (length out.old) bytes.now) (answer_of result) out.old out.new }
 {
