@@ -49,6 +49,7 @@ fn step_number(comparison: Comparison) -> u64
 }
 
 // Compares a list of violations with the complete report of a sheet's rule over a recording: refusals 1 to 10, 23, 24, 16.
+// Kept: eight parameters, those of the C function of this name.
 pub fn sw_check_report(
     sheet: &[u8],
     rule: usize,

@@ -10,6 +10,7 @@ ghost use Rattle.exports_reports.specs.Comparisons.{comparison_number, entry_num
 use complete_report::VIOLATION_WORDS;
 
 // Compares a list of violations with the complete report of a sheet's rule over a recording: refusals 1 to 10, 23, 24, 16.
+// Kept: eight parameters, the C interface.
 #[unsafe(no_mangle)]
 pub extern "C" fn sw_check_report(
     sheet: &[u8],

@@ -21,6 +21,7 @@ pub fn skip_nots(nodes: &[u32], left: usize, node: usize) -> Operand
         node,
         odd: false,
     };
+    // Kept: a while, since it goes on by what stands there, and the place is a word and not an index.
     while 0 < under.left && matches!(code_at(nodes, under.node), Code::Not) {
         under = Operand {
             left: under.left - 1,

@@ -3,6 +3,7 @@ ghost use Rattle.std.specs.Prelude.{◌≡◌, ◌<◌, get_or};
 ghost use Rattle.recording.specs.Evaluating.{started, entered};
 
 // Variables 0 to `depth` are bound, `depth` of them by quantifiers; the position of every other is 0.
+// Kept: an array with its depth beside it, since the library has no heap.
 #[derive(Clone, Copy)]
 pub(crate) struct Env {
     pub depth: usize,
