@@ -5,8 +5,6 @@ ghost use Rattle.rule.specs.Figures.{body_figures};
 ghost use Rattle.rule.specs.Recording.{recording_outcome};
 ghost use Rattle.exports_rules.specs.Outcomes.{verdict_number, step_number};
 
-use figure_limits::FigureAnswer;
-use recording::Evaluated;
 use rule::{Outcome, Verdict};
 
 // The figures of a body: refusals 4 to 15, 23, 24.
@@ -16,15 +14,14 @@ pub fn sw_figures(body: &[u8], history: &mut u64, delay: &mut u64, cells: &mut u
     ensures delay_after { delay.new ≡ or_kept (λ figures. figures.delay) (body_figures body.now) delay.old }
     ensures cells_after { cells.new ≡ or_kept (λ figures. figures.cells) (body_figures body.now) cells.old }
 {
-    let answer = figures::figures(body);
-    match answer {
-        FigureAnswer::Sized(figures) => {
+    match figures::figures(body) {
+        Ok(figures) => {
             *history = figures.history;
             *delay = figures.delay;
             *cells = figures.cells;
             0
         }
-        FigureAnswer::Refused(refusal) => refusal::number(refusal),
+        Err(refusal) => refusal::number(refusal),
     }
 }
 
@@ -32,10 +29,8 @@ fn verdict_number(outcome: Outcome) -> u32
     ensures { result ≡ verdict_number outcome }
 {
     match outcome {
-        Outcome::Decided(verdict, _) => match verdict {
-            Verdict::True => 1,
-            Verdict::False => 2,
-        },
+        Outcome::Decided(Verdict::True, _) => 1,
+        Outcome::Decided(Verdict::False, _) => 2,
         Outcome::Open => 0,
     }
 }
@@ -61,13 +56,12 @@ pub fn sw_outcome(
     ensures verdict_after { verdict.new ≡ or_kept verdict_number (recording_outcome body.now recording.now tick) verdict.old }
     ensures step_after { step.new ≡ or_kept step_number (recording_outcome body.now recording.now tick) step.old }
 {
-    let answer = recording::outcome_at(body, recording, tick);
-    match answer {
-        Evaluated::Answered(outcome) => {
+    match recording::outcome_at(body, recording, tick) {
+        Ok(outcome) => {
             *verdict = verdict_number(outcome);
             *step = step_number(outcome);
             0
         }
-        Evaluated::Refused(refusal) => refusal::number(refusal),
+        Err(refusal) => refusal::number(refusal),
     }
 }

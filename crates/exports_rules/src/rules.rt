@@ -12,8 +12,7 @@ pub fn sw_rule_from_text(text: &[u8], body: &mut [u8], written: &mut usize) -> u
     ensures body_after { body.new ≡ buffer_with (body_of_text text.now (length body.old)) body.old }
     ensures written_after { written.new ≡ or_kept length (body_of_text text.now (length body.old)) written.old }
 {
-    let answer = text_to_body::write_body(text, body);
-    answer_length(answer, written)
+    answer_length(text_to_body::write_body(text, body), written)
 }
 
 // Writes a body as text at the start of the buffer and answers its length: refusals 4 to 10, 23, 24, 22.
@@ -22,6 +21,5 @@ pub fn sw_rule_to_text(body: &[u8], text: &mut [u8], written: &mut usize) -> u32
     ensures text_after { text.new ≡ buffer_with (text_of_body body.now (length text.old)) text.old }
     ensures written_after { written.new ≡ or_kept length (text_of_body body.now (length text.old)) written.old }
 {
-    let answer = body_to_text::write_text(body, text);
-    answer_length(answer, written)
+    answer_length(body_to_text::write_text(body, text), written)
 }

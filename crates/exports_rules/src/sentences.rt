@@ -11,12 +11,13 @@ pub fn sw_sentence(refused: u32, out: &mut [u8], written: &mut usize) -> u32
     ensures out_after { out.new ≡ with_sentence refused out.old }
     ensures written_after { written.new ≡ or_kept (λ size. size) (sentence_length refused (length out.old)) written.old }
 {
-    let mut text = [0u8; 128];
-    let length = refusal_text::sentence(refused, &mut text);
+    let sentence = refusal_text::sentence_text(refused).as_bytes();
+    let length = sentence.len();
     if out.len() <= length {
         return refusal::number(Refusal::BufferTooShort);
     }
-    out[..length + 1].copy_from_slice(&text[..length + 1]);
+    out[..length].copy_from_slice(sentence);
+    out[length] = 0;
     *written = length;
     0
 }

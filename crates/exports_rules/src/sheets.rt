@@ -5,7 +5,6 @@ ghost use Rattle.sheet.specs.Sheet.{rule_place};
 ghost use Rattle.sheet_writer.specs.Writing.{sheet_length, buffer_after};
 
 use crate::lengths::answer_length;
-use sheet::Found;
 
 // Where a rule's body lies in its sheet: refusals 1 to 3.
 pub fn sw_rule_place(sheet: &[u8], rule: usize, start: &mut usize, size: &mut usize) -> u32
@@ -13,17 +12,13 @@ pub fn sw_rule_place(sheet: &[u8], rule: usize, start: &mut usize, size: &mut us
     ensures start_after { start.new ≡ or_kept (λ place. place.start) (rule_place sheet.now rule) start.old }
     ensures size_after { size.new ≡ or_kept (λ place. place.size) (rule_place sheet.now rule) size.old }
 {
-    let place = sheet::find_rule(sheet, rule);
-    match place {
-        Found::At {
-            start: at,
-            size: length,
-        } => {
-            *start = at;
-            *size = length;
+    match sheet::find_rule(sheet, rule) {
+        Ok(place) => {
+            *start = place.start;
+            *size = place.size;
             0
         }
-        Found::Refused(refusal) => refusal::number(refusal),
+        Err(refusal) => refusal::number(refusal),
     }
 }
 
@@ -33,6 +28,5 @@ pub fn sw_write_sheet(lengths: &[u16], bodies: &[u8], out: &mut [u8], written: &
     ensures out_after { out.new ≡ buffer_after lengths.now bodies.now out.old }
     ensures written_after { written.new ≡ or_kept (λ size. size) (sheet_length lengths.now bodies.now (length out.old)) written.old }
 {
-    let answer = sheet_writer::write_sheet(lengths, bodies, out);
-    answer_length(answer, written)
+    answer_length(sheet_writer::write_sheet(lengths, bodies, out), written)
 }
