@@ -65,8 +65,8 @@ range_read ns i ps B C R eR b c = eR ∙ ap (λ (x : Bound). range_pair x (bound
 pub none_left : (m i : ℕ) (ps : List Pair) (start : Size) (ns : List ℕ) (r : Figure) (left : ℕ) → left ≡ 0 → Promise left m i ps start ns ns r
 none_left m i ps start ns r left z F e h l n = absurd (omega (arith, ends F ns m i e h))
 
-module _ (ns : List ℕ) (left m i w : ℕ) (ps : List Pair) (start : Size) (q : w ≡ get_or ns (i + 0) 0) where
-  pub deep_arm : (r : Figure) → w ≡ 5 → 4 ≤ m → Promise left m i ps start ns ns r
+module _ (ns : List ℕ) (left m i : ℕ) (ps : List Pair) (start : Size) where
+  pub deep_arm : (r : Figure) → get_or ns (i + 0) 0 ≡ 5 → 4 ≤ m → Promise left m i ps start ns ns r
   unfolding Holds
   deep_arm r k d (flag v b) e h l n = absurd (omega arith)
   deep_arm r k d (negate F) e h l n = absurd (omega arith)
@@ -74,7 +74,7 @@ module _ (ns : List ℕ) (left m i w : ℕ) (ps : List Pair) (start : Size) (q :
   deep_arm r k d (beside F G) e h l n = absurd (omega arith)
   deep_arm r k d (forall B C F) e h l n = absurd (omega arith)
 
-  pub flag_arm : (r : Figure) → (w ≡ 2 → ⊥) → (w ≡ 3 → ⊥) → (w ≡ 4 → ⊥) → (w ≡ 5 → ⊥) → r ≡ flag_figure → Promise left m i ps start ns ns r
+  pub flag_arm : (r : Figure) → (get_or ns (i + 0) 0 ≡ 2 → ⊥) → (get_or ns (i + 0) 0 ≡ 3 → ⊥) → (get_or ns (i + 0) 0 ≡ 4 → ⊥) → (get_or ns (i + 0) 0 ≡ 5 → ⊥) → r ≡ flag_figure → Promise left m i ps start ns ns r
   unfolding Holds SizesAt
   flag_arm r a b c d f (flag v k) e h l n = record { figure = rw f (flag_of v k ps start); holds = h; sizes = tt; outside = λ k x. refl }
   flag_arm r a b c d f (negate F) e h l n = absurd (a (omega arith))
@@ -83,7 +83,7 @@ module _ (ns : List ℕ) (left m i w : ℕ) (ps : List Pair) (start : Size) (q :
   flag_arm r a b c d f (forall B C F) e h l n = absurd (d (omega arith))
 
   -- a range that is always empty: R its variable's pair
-  pub empty_arm : (R : Pair) (r : Figure) → R ≡ range_pair (bound_at ns (i + 1)) (bound_at ns (i + 4)) ps → always_empty R ≡ true → w ≡ 5 → r ≡ empty_figure
+  pub empty_arm : (R : Pair) (r : Figure) → R ≡ range_pair (bound_at ns (i + 1)) (bound_at ns (i + 4)) ps → always_empty R ≡ true → get_or ns (i + 0) 0 ≡ 5 → r ≡ empty_figure
       → Promise left m i ps start ns ns r
   unfolding Holds SizesAt
   empty_arm R r eR z k f (forall B C F) e h l n =
@@ -118,7 +118,7 @@ module _ (old new : List ℕ) (m : ℕ) (ps : List Pair) (start : Size) (f : Fig
 
 -- ---- the arms with parts
 
-module _ (old : List ℕ) (left m i w : ℕ) (ps : List Pair) (start : Size) (q : w ≡ get_or old (i + 0) 0) (z : left ≡ 0 → ⊥) where
+module _ (old : List ℕ) (left m i : ℕ) (ps : List Pair) (start : Size) (z : left ≡ 0 → ⊥) where
   -- two parts: what holds after both
   record Both (F G : Formula) (e : ℕ) (k : Size) (n₂ : List ℕ) (f g : Figure) : Type 0 where
     first : FigureOf F ps start f
@@ -153,7 +153,7 @@ module _ (old : List ℕ) (left m i w : ℕ) (ps : List Pair) (start : Size) (q 
       }
 
   module _ (j : ℕ) (n₁ n₂ : List ℕ) (f g r : Figure) (ej : j ≡ get_or old (i + 7) 0) (len : length n₁ ≡ length old) (p : Promise (left - 1) m (i + 12) ps start old n₁ f) where
-    pub then_arm : (k : Size) → w ≡ 3 → k ≡ larger start f.delay → Promise (left - 1) m j ps k n₁ n₂ g → r ≡ then_figure f g → Promise left m i ps start old n₂ r
+    pub then_arm : (k : Size) → get_or old (i + 0) 0 ≡ 3 → k ≡ larger start f.delay → Promise (left - 1) m j ps k n₁ n₂ g → r ≡ then_figure f g → Promise left m i ps start old n₂ r
     unfolding Holds SizesAt
     then_arm k c ek p' er (then F G) e h l n =
         let t : Both F G e k n₂ f g = both F G e j k n₁ n₂ f g ej len l n h.1.0 h.1.1 p p' in
@@ -173,7 +173,7 @@ module _ (old : List ℕ) (left m i w : ℕ) (ps : List Pair) (start : Size) (q 
     then_arm k c ek p' er (beside F G) e h l n = absurd (omega arith)
     then_arm k c ek p' er (forall B C F) e h l n = absurd (omega arith)
 
-    pub beside_arm : (n₃ : List ℕ) → w ≡ 4 → Promise (left - 1) m j ps start n₁ n₂ g → length n₂ ≡ length n₁ → n₃ ≡ set n₂ (i + 9) (4 * f.cells) → r ≡ beside_figure f g
+    pub beside_arm : (n₃ : List ℕ) → get_or old (i + 0) 0 ≡ 4 → Promise (left - 1) m j ps start n₁ n₂ g → length n₂ ≡ length n₁ → n₃ ≡ set n₂ (i + 9) (4 * f.cells) → r ≡ beside_figure f g
         → Promise left m i ps start old n₃ r
     unfolding Holds SizesAt
     beside_arm n₃ c p' len' en er (beside F G) e h l n =
@@ -213,7 +213,7 @@ module _ (old : List ℕ) (left m i w : ℕ) (ps : List Pair) (start : Size) (q 
     beside_arm n₃ c p' len' en er (forall B C F) e h l n = absurd (omega arith)
 
   -- any other range
-  module _ (R : Pair) (eR : R ≡ range_pair (bound_at old (i + 1)) (bound_at old (i + 4)) ps) (some : always_empty R ≡ false) (c : w ≡ 5) (k : Size) (ek : k ≡ larger start (N R.upper))
+  module _ (R : Pair) (eR : R ≡ range_pair (bound_at old (i + 1)) (bound_at old (i + 4)) ps) (some : always_empty R ≡ false) (c : get_or old (i + 0) 0 ≡ 5) (k : Size) (ek : k ≡ larger start (N R.upper))
       (ps' : List Pair) (ep : ps' ≡ ps ++ (R ∷ [])) (n₁ n₃ : List ℕ) (f r : Figure) (len : length n₁ ≡ length old)
       (en : n₃ ≡ set n₁ (i + 8) (4 * (1 + f.cells))) where
     other : (x : ℕ) → (x ≡ i + 8 → ⊥) → get_or n₃ x 0 ≡ get_or n₁ x 0

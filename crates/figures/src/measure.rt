@@ -11,8 +11,8 @@ use crate::scope::Scope;
 use cell_count::{beside_cells, then_cells};
 use figure_numbers::{always_empty, larger_size, range_delay};
 use nodes::{
-    BESIDE_CODE, CODE, FIRST_WORDS, FORALL_CODE, FORMULAS, NESTED, NODE_WORDS, SECOND_PART,
-    SLOT_WORDS, THEN_CODE, node_word, skip_nots,
+    Code, FIRST_WORDS, FORMULAS, NESTED, NODE_WORDS, SECOND_PART, SLOT_WORDS, code_at, node_word,
+    skip_nots,
 };
 use rule::Size;
 
@@ -37,22 +37,24 @@ fn measure_at(nodes: &mut [u32], left: usize, node: usize, scope: &Scope, k: Siz
         return Figure::of_flag();
     }
     let rest = operand.left - 1;
-    match node_word(nodes, operand.node, CODE) {
-        THEN_CODE => {
+    match code_at(nodes, operand.node) {
+        Code::Flag | Code::Not => Figure::of_flag(),
+        Code::Then => {
             let second_node = node_word(nodes, operand.node, SECOND_PART) as usize;
             let first = measure_at(nodes, rest, operand.node + NODE_WORDS, scope, k);
             let start = larger_size(k, first.delay);
             let second = measure_at(nodes, rest, second_node, scope, start);
             first.joined(second, then_cells(first.cells, second.cells))
         }
-        BESIDE_CODE => {
+        Code::Beside => {
             let second_node = node_word(nodes, operand.node, SECOND_PART) as usize;
             let first = measure_at(nodes, rest, operand.node + NODE_WORDS, scope, k);
             let second = measure_at(nodes, rest, second_node, scope, k);
             store(nodes, operand.node, FIRST_WORDS, 4 * first.cells);
             first.joined(second, beside_cells(first.cells, second.cells))
         }
-        FORALL_CODE if scope.depth < NESTED => {
+        Code::ForAll if NESTED <= scope.depth => Figure::of_flag(),
+        Code::ForAll => {
             let pair = scope.range_pair(nodes, operand.node);
             if always_empty(pair) {
                 return Figure::of_empty_range();
@@ -63,7 +65,6 @@ fn measure_at(nodes: &mut [u32], left: usize, node: usize, scope: &Scope, k: Siz
             store(nodes, operand.node, SLOT_WORDS, 4 * (1 + body.cells));
             body.under_range(pair, range_history(k, pair.lower))
         }
-        _ => Figure::of_flag(),
     }
 }
 

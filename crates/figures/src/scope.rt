@@ -5,10 +5,7 @@ ghost use Rattle.nodes.specs.Table.{bound_at};
 ghost use Rattle.figures.specs.Distances.{NearPair, AllNear};
 
 use crate::limits::shifted;
-use nodes::{
-    BOUND_VARIABLE, FIRST_BOUND, INFINITY_KIND, KIND, NESTED, OFFSET, ORIGIN_KIND, SECOND_BOUND,
-    node_word,
-};
+use nodes::{BOUND_VARIABLE, FIRST_BOUND, Kind, NESTED, OFFSET, SECOND_BOUND, kind_at, node_word};
 use rule::{Limit, Pair};
 use signed::offset_of;
 
@@ -76,16 +73,16 @@ impl Scope {
         ensures { result ≡ bound_pair (bound_at nodes.now at) (inside self.now) }
     {
         let offset = offset_of(node_word(nodes, at, OFFSET));
-        match node_word(nodes, at, KIND) {
-            ORIGIN_KIND => Pair {
+        match kind_at(nodes, at) {
+            Kind::Origin => Pair {
                 lower: Limit::Lowest,
                 upper: Limit::At(offset),
             },
-            INFINITY_KIND => Pair {
+            Kind::Infinity => Pair {
                 lower: Limit::Highest,
                 upper: Limit::Highest,
             },
-            _ => {
+            Kind::Variable => {
                 let pair = self.pair_of(node_word(nodes, at, BOUND_VARIABLE) as usize);
                 Pair {
                     lower: shifted(pair.lower, offset),
