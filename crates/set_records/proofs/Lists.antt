@@ -1,10 +1,10 @@
 -- The lists that loading and saving go through, one place after another.
 use Prim.Native.Nat.{ℕ, ◌+◌, ◌-◌, ◌≤◌, ◌<◌, min}
-use mathlib.Core.Path.{◌≡◌, refl, sym, ap, ◌∙◌}
+use mathlib.Core.Path.{◌≡◌, sym, ap, ◌∙◌}
 use mathlib.Core.Logic.{◌⊎◌, inl, inr}
 use mathlib.Core.List.{List, ◌++◌, append-nil}
 use native.Mathlib.Omega.{arith}
-use lib.ListN.{length, get_or, take, drop, set, replicate, length-replicate, length-append, length-take, drop_of_length-le, replicate-append-replicate, get_or-append}
+use lib.ListN.{length, take, drop, replicate, length-replicate, length-take, drop_of_length-le, replicate-append-replicate}
 use lib.Seq.{take-append_seam, take-append-add, take_at, drop_at, take_all, length_front, length-take-le, take-take, take-append-le}
 use Rattle.rule.proofs.Order.{by_order}
 use Rattle.demand.specs.declared.Running.{Running}
