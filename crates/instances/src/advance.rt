@@ -10,8 +10,8 @@ use crate::marks::{load_outcome, own_tick, store_outcome};
 use cell_runs::Variables;
 use cells::CELL_WORDS;
 use nodes::{
-    BESIDE_CODE, CODE, FIRST_WORDS, NODE_WORDS, NOT_CODE, SECOND_PART, SLOT_WORDS, TABLE_WORDS,
-    THEN_CODE, is_flag, node_word, skip_nots,
+    Code, FIRST_WORDS, NODE_WORDS, SECOND_PART, SLOT_WORDS, TABLE_WORDS, code_at, is_flag,
+    node_word, skip_nots,
 };
 use ring::byte_of;
 use rule::{Outcome, Verdict};
@@ -123,9 +123,7 @@ impl Tick<'_> {
         ensures { PositionsWalked (tree_at node.left self.now.nodes.now node.word) self.now.history.now self.now.flag variables.now s self.now.t walk.first walk.leading walk.positions walk.end walk.size run.old result run.new }
     {
         let mut acc = walk.end;
-        let mut index = walk.positions;
-        while walk.leading < index {
-            index -= 1;
+        for index in (walk.leading..walk.positions).rev() {
             let at = (index as usize) * walk.size;
             let slot = &mut run[at..at + walk.size];
             let outcome = self.advance_position(variables, node, slot, s, walk.first + index);
@@ -256,20 +254,16 @@ impl Tick<'_> {
         if is_flag(nodes, node.left, node.word) {
             return flag_in(nodes, node.word, &variables.bytes, s);
         }
-        let code = node_word(nodes, node.word, CODE);
-        if code == NOT_CODE {
-            return self.advance_not(variables, node, run, s);
-        }
         let parts = Node {
             left: node.left - 1,
-            word: node.word,
+            ..node
         };
-        if code == THEN_CODE {
-            return self.advance_then(variables, parts, run, s);
+        match code_at(nodes, node.word) {
+            Code::Flag => unreachable!(),
+            Code::Not => self.advance_not(variables, node, run, s),
+            Code::Then => self.advance_then(variables, parts, run, s),
+            Code::Beside => self.advance_beside(variables, parts, run, s),
+            Code::ForAll => self.advance_range(variables, parts, run, s),
         }
-        if code == BESIDE_CODE {
-            return self.advance_beside(variables, parts, run, s);
-        }
-        self.advance_range(variables, parts, run, s)
     }
 }

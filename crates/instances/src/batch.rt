@@ -66,24 +66,27 @@ fn move_flags(
 {
     let half = rule.figures.delay as usize + 1;
     let count = flags_left(flags.len(), tick);
-    let mut counts = BatchCounts {
-        taken: 0,
-        pairs: 0,
-        live,
-    };
-    while counts.taken < count {
-        let at = 2 * counts.pairs;
+    let mut pairs: usize = 0;
+    let mut still_open = live;
+    for taken in 0..count {
+        let at = 2 * pairs;
         if report.len() - at < 2 * half {
-            return counts;
+            return BatchCounts {
+                taken,
+                pairs,
+                live: still_open,
+            };
         }
-        let t = tick + counts.taken as u64;
-        let flag = flags[counts.taken];
-        let moved = move_pairs(rule, t, history, flag, cells, &mut report[at..]);
-        counts.taken += 1;
-        counts.pairs += moved.reported;
-        counts.live = moved.live;
+        let t = tick + taken as u64;
+        let moved = move_pairs(rule, t, history, flags[taken], cells, &mut report[at..]);
+        pairs += moved.reported;
+        still_open = moved.live;
     }
-    counts
+    BatchCounts {
+        taken: count,
+        pairs,
+        live: still_open,
+    }
 }
 
 // Takes flag bytes one after another, each as a step does, from the tick `tick` on, before which `live` ticks were live. A refusal changes nothing.

@@ -18,9 +18,8 @@ fn leading_true(slots: &[u32], head: Head, positions: u64, size: usize, p: u64) 
     requires { HeadFit size positions head.leading (4 + length slots.now) }
     ensures { MovedOn p size positions slots.now head.leading head.latest result.leading result.latest }
 {
-    let mut trues = head.leading;
     let mut last = head.latest;
-    while trues < positions {
+    for trues in head.leading..positions {
         let at = (trues as usize) * size;
         if slots[at] != 1 {
             return Head {
@@ -29,10 +28,9 @@ fn leading_true(slots: &[u32], head: Head, positions: u64, size: usize, p: u64) 
             };
         }
         last = outcomes::later(last, step_after(p, slots[at + 2]));
-        trues += 1;
     }
     Head {
-        leading: trues,
+        leading: positions,
         latest: last,
     }
 }

@@ -84,16 +84,14 @@ fn move_ticks(
     ensures ticks_moved { TicksMoved (tree_at left tick.now.nodes.now 0) slots.count slots.size tick.now.history.now tick.now.flag tick.now.t low table.old report.old result.reported result.live table.new report.new }
     ensures spared { Spared slots.count (slots.count * slots.size) table.old report.old result.reported result.live table.new report.new }
 {
-    let mut p = low;
     let mut reported: usize = 0;
     let mut live: usize = 0;
     let mut slot = low % slots.count;
-    while p <= tick.t {
+    for p in low..tick.t + 1 {
         let at = (slot as usize) * slots.size;
         let outcome = move_instance(tick, left, &mut table[at..at + slots.size], p);
         reported = report_if_false(report, reported, outcome, tick.t, p);
         live += one_if_open(outcome);
-        p += 1;
         slot = next_slot(slot, slots.count);
     }
     StepCounts { reported, live }

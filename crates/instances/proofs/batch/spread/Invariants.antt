@@ -9,6 +9,3 @@ use Rattle.instances.proofs.batch.spread.Given as goal
 abbrev pub invariant-loop-at : goal.invariant-loop-at
 invariant-loop-at l =
     (l.at ≤ l.count) × ((length l.report ≡ length l.initial.report) × ((take (2 * l.at) l.report ≡ take (2 * l.at) l.initial.report) × (drop (2 * l.at) l.report ≡ paired l.step (drop l.at (take l.count l.initial.report)) ++ drop (2 * l.count) l.initial.report)))
-
-abbrev pub decreases-loop-at : goal.decreases-loop-at
-decreases-loop-at l = l.at

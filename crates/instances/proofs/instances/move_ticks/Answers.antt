@@ -34,7 +34,7 @@ loop-p-preserved c =
     let here = now.invariant.1 in (
       subst (λ (x : ℕ). MovedUntil F count size hist b t low table₀ report₀ (now.p + 1) wrote.result (now.live + one.result) (put_mid (x * size) (x * size + size - x * size) now.table ys) wrote.new.report) (sym here)
           (until_more F count size hist b t low table₀ report₀ c.requires.low_value c.requires.ticks_fit.some c.requires.ticks_fit.table c.requires.ticks_fit.report
-          now.p now.reported now.live now.table now.report moved.result ys wrote.result one.result wrote.new.report c.loop-p-test.true
+          now.p now.reported now.live now.table now.report moved.result ys wrote.result one.result wrote.new.report (omega (arith, c.loop-p-test.true))
           (subst (λ (x : ℕ). length ys ≡ length (take (x * size + size - x * size) (drop (x * size) now.table))) here moved.auto.run) wrote.auto.report
           (subst (λ (x : ℕ). InstanceMoved F hist b t now.p (take (x * size + size - x * size) (drop (x * size) now.table)) moved.result ys) here moved.ensures) wrote.ensures.value wrote.ensures.report_after one.ensures now.invariant.0),
       c.next_slot-slot.ensures ∙ ap (λ (x : ℕ). cond (eqb (x + 1) count) 0 (x + 1)) here ∙ sym (slot_next count now.p c.requires.ticks_fit.some),

@@ -8,6 +8,8 @@ use Rattle.rule.specs.declared.Outcome.TheVariants.{Decided, Open}
 use Rattle.cells.specs.Cells.{held}
 use Rattle.ring.specs.Ring.{byte_of}
 use borrow.Rule.Slice.PartMut.{same_len_mid, put_mid}
+use Rattle.nodes.specs.Codes.{IsCode}
+use Rattle.nodes.specs.declared.codes.Code.TheVariants.{Flag}
 use Rattle.nodes.specs.Table.{bound_at}
 use Rattle.nodes.proofs.Nodes.{word_in}
 use Rattle.nodes.proofs.Nots.{nots_less}
@@ -58,10 +60,6 @@ advance-returns-then-is_flag measure c =
     let fit = subst (λ (G : Tree). Fit G env t (length run)) is c.requires in
     subst (λ (G : Tree). Advanced G hist b env s t run c.flag_in.result run) (sym is)
     (flag_of (get_or nodes (node + 1) 0) (get_or nodes (node + 2) 0) c.flag_in.result (fit_flag fit) c.flag_in.ensures)
-
-pub advance-advance_not-requires : goal.advance-advance_not-requires
-advance-advance_not-requires measure c =
-    (omega arith, ((has_parts c.args.self.now.nodes.now c.args.node.word c.args.node.left (sym c.is_flag.ensures ∙ c.if-is_flag.false)).0, (sym c.node_word-code.ensures ∙ c.if-code-eq-NOT_CODE.true, c.requires)))
 
 pub advance_beside-advance_part-first-requires : goal.advance_beside-advance_part-first-requires
 advance_beside-advance_part-first-requires measure c =
@@ -298,49 +296,6 @@ pub advance-overflow_sub-parts : goal.advance-overflow_sub-parts
 advance-overflow_sub-parts measure c =
     omega (arith, (has_parts c.args.self.now.nodes.now c.args.node.word c.args.node.left (sym c.is_flag.ensures ∙ c.if-is_flag.false)).0)
 
-pub advance-advance_then-requires : goal.advance-advance_then-requires
-advance-advance_then-requires measure c =
-    let nodes = c.args.self.now.nodes.now in
-    let run = c.args.run.now in
-    let left = c.args.node.left in
-    let node = c.args.node.word in
-    let env = c.args.variables.now in
-    let t = c.args.self.now.t in
-    let parts = has_parts nodes node left (sym c.is_flag.ensures ∙ c.if-is_flag.false) in
-    let is = is_then nodes node left parts.0 (λ x. c.if-code-eq-NOT_CODE.false (c.node_word-code.ensures ∙ x)) (sym c.node_word-code.ensures ∙ c.if-code-eq-THEN_CODE.true) in (
-      omega (arith, parts.0),
-      (omega (arith, word_in nodes node 2 (sym c.node_word-code.ensures ∙ c.if-code-eq-THEN_CODE.true)), subst (λ (G : Tree). Fit G env t (length run)) is c.requires),
-    )
-
-pub advance-advance_beside-requires : goal.advance-advance_beside-requires
-advance-advance_beside-requires measure c =
-    let nodes = c.args.self.now.nodes.now in
-    let run = c.args.run.now in
-    let left = c.args.node.left in
-    let node = c.args.node.word in
-    let env = c.args.variables.now in
-    let t = c.args.self.now.t in
-    let parts = has_parts nodes node left (sym c.is_flag.ensures ∙ c.if-is_flag.false) in
-    let is = is_beside nodes node left parts.0 (λ x. c.if-code-eq-NOT_CODE.false (c.node_word-code.ensures ∙ x)) (λ x. c.if-code-eq-THEN_CODE.false (c.node_word-code.ensures ∙ x)) (sym c.node_word-code.ensures ∙ c.if-code-eq-BESIDE_CODE.true) in (
-      omega (arith, parts.0),
-      (omega (arith, word_in nodes node 3 (sym c.node_word-code.ensures ∙ c.if-code-eq-BESIDE_CODE.true)), subst (λ (G : Tree). Fit G env t (length run)) is c.requires),
-    )
-
-pub advance-advance_range-requires : goal.advance-advance_range-requires
-advance-advance_range-requires measure c =
-    let nodes = c.args.self.now.nodes.now in
-    let run = c.args.run.now in
-    let left = c.args.node.left in
-    let node = c.args.node.word in
-    let env = c.args.variables.now in
-    let t = c.args.self.now.t in
-    let parts = has_parts nodes node left (sym c.is_flag.ensures ∙ c.if-is_flag.false) in
-    let five : get_or nodes (node + 0) 0 ≡ 5 = omega (arith, parts.1.0, parts.1.1, c.node_word-code.ensures, c.if-code-eq-NOT_CODE.false, c.if-code-eq-THEN_CODE.false, c.if-code-eq-BESIDE_CODE.false) in
-    let is = is_range nodes node left parts.0 (λ x. c.if-code-eq-NOT_CODE.false (c.node_word-code.ensures ∙ x)) (λ x. c.if-code-eq-THEN_CODE.false (c.node_word-code.ensures ∙ x)) (λ x. c.if-code-eq-BESIDE_CODE.false (c.node_word-code.ensures ∙ x)) five in (
-      omega (arith, parts.0),
-      (omega (arith, word_in nodes node 4 five), subst (λ (G : Tree). Fit G env t (length run)) is c.requires),
-    )
-
 pub advance_then-returns-in-Decided-True-default : goal.advance_then-returns-in-Decided-True-default
 advance_then-returns-in-Decided-True-default measure c =
     let nodes = c.args.self.now.nodes.now in
@@ -358,52 +313,6 @@ advance_then-returns-in-Decided-True-default measure c =
     subst (λ (n : ℕ). Advanced (then_node (tree_at left nodes (node + 12)) (tree_at left nodes n)) hist b env s t run c.advance.result (put_mid 4 (length mid - 4) mid end)) c.node_word.ensures
     (then_true (tree_at left nodes (node + 12)) (tree_at left nodes c.node_word.result) hist b env s t run mid c.advance_part-first.result c.advance.result _ _ end (take (length mid - 4) (drop 4 mid)) (put_mid 4 (length mid - 4) mid end) c.advance_part-first.ensures at.is (rw at.is at at.field-0-is)
     (omega (arith, (fit_first c.requires.1).ordered, c.advance_part-first.auto.run)) (tail_take mid) c.advance.ensures refl)
-
-pub advance-returns-then-code-eq-THEN_CODE : goal.advance-returns-then-code-eq-THEN_CODE
-advance-returns-then-code-eq-THEN_CODE measure c =
-    let nodes = c.args.self.now.nodes.now in
-    let run = c.args.run.now in
-    let hist = c.args.self.now.history.now in
-    let left = c.args.node.left in
-    let node = c.args.node.word in
-    let b = c.args.self.now.flag in
-    let env = c.args.variables.now in
-    let s = c.args.s in
-    let t = c.args.self.now.t in
-    let parts = has_parts nodes node left (sym c.is_flag.ensures ∙ c.if-is_flag.false) in
-    let is = is_then nodes node left parts.0 (λ x. c.if-code-eq-NOT_CODE.false (c.node_word-code.ensures ∙ x)) (sym c.node_word-code.ensures ∙ c.if-code-eq-THEN_CODE.true) in
-    subst (λ (G : Tree). Advanced G hist b env s t run c.advance_then.result c.advance_then.new.run) (sym is) c.advance_then.ensures
-
-pub advance-returns-then-code-eq-BESIDE_CODE : goal.advance-returns-then-code-eq-BESIDE_CODE
-advance-returns-then-code-eq-BESIDE_CODE measure c =
-    let nodes = c.args.self.now.nodes.now in
-    let run = c.args.run.now in
-    let hist = c.args.self.now.history.now in
-    let left = c.args.node.left in
-    let node = c.args.node.word in
-    let b = c.args.self.now.flag in
-    let env = c.args.variables.now in
-    let s = c.args.s in
-    let t = c.args.self.now.t in
-    let parts = has_parts nodes node left (sym c.is_flag.ensures ∙ c.if-is_flag.false) in
-    let is = is_beside nodes node left parts.0 (λ x. c.if-code-eq-NOT_CODE.false (c.node_word-code.ensures ∙ x)) (λ x. c.if-code-eq-THEN_CODE.false (c.node_word-code.ensures ∙ x)) (sym c.node_word-code.ensures ∙ c.if-code-eq-BESIDE_CODE.true) in
-    subst (λ (G : Tree). Advanced G hist b env s t run c.advance_beside.result c.advance_beside.new.run) (sym is) c.advance_beside.ensures
-
-pub advance-returns : goal.advance-returns
-advance-returns measure c =
-    let nodes = c.args.self.now.nodes.now in
-    let run = c.args.run.now in
-    let hist = c.args.self.now.history.now in
-    let left = c.args.node.left in
-    let node = c.args.node.word in
-    let b = c.args.self.now.flag in
-    let env = c.args.variables.now in
-    let s = c.args.s in
-    let t = c.args.self.now.t in
-    let parts = has_parts nodes node left (sym c.is_flag.ensures ∙ c.if-is_flag.false) in
-    let five : get_or nodes (node + 0) 0 ≡ 5 = omega (arith, parts.1.0, parts.1.1, c.node_word-code.ensures, c.if-code-eq-NOT_CODE.false, c.if-code-eq-THEN_CODE.false, c.if-code-eq-BESIDE_CODE.false) in
-    let is = is_range nodes node left parts.0 (λ x. c.if-code-eq-NOT_CODE.false (c.node_word-code.ensures ∙ x)) (λ x. c.if-code-eq-THEN_CODE.false (c.node_word-code.ensures ∙ x)) (λ x. c.if-code-eq-BESIDE_CODE.false (c.node_word-code.ensures ∙ x)) five in
-    subst (λ (G : Tree). Advanced G hist b env s t run c.advance_range.result c.advance_range.new.run) (sym is) c.advance_range.ensures
 
 pub advance_then-returns-in-Open : goal.advance_then-returns-in-Open
 advance_then-returns-in-Open measure c =
@@ -432,3 +341,120 @@ advance_then-returns-in-Decided-False-default measure c =
     let at = c.in-Decided-False-default in
     subst (λ (o : Outcome). Advanced (then_node (tree_at left nodes (node + 12)) (tree_at left nodes (get_or nodes (node + 7) 0))) hist b env s t run o c.advance_part-first.new.run) (sym at.is)
     (then_false (tree_at left nodes (node + 12)) (tree_at left nodes (get_or nodes (node + 7) 0)) hist b env s t run c.advance_part-first.new.run c.advance_part-first.result at.field-0 at.field-1 c.advance_part-first.ensures at.is (rw at.is at at.field-0-is))
+
+pub advance-unreachable-requires : goal.advance-unreachable-requires
+advance-unreachable-requires measure c =
+    let parts = has_parts c.args.self.now.nodes.now c.args.node.word c.args.node.left (sym c.is_flag.ensures ∙ c.if-is_flag.false) in
+    let word : IsCode (get_or c.args.self.now.nodes.now (c.args.node.word + 0) 0) Flag = rw c.in-Flag.is at c.code_at.ensures in
+    omega (arith, parts.1.0, parts.1.1, word.0, word.1, word.2, word.3)
+
+pub advance-advance_not-requires : goal.advance-advance_not-requires
+advance-advance_not-requires measure c =
+    let nodes = c.args.self.now.nodes.now in
+    let run = c.args.run.now in
+    let hist = c.args.self.now.history.now in
+    let left = c.args.node.left in
+    let node = c.args.node.word in
+    let b = c.args.self.now.flag in
+    let env = c.args.variables.now in
+    let s = c.args.s in
+    let t = c.args.self.now.t in
+    let parts = has_parts nodes node left (sym c.is_flag.ensures ∙ c.if-is_flag.false) in
+    let word : get_or nodes (node + 0) 0 ≡ 2 = rw c.in-Not.is at c.code_at.ensures in
+    (omega arith, (parts.0, (word, c.requires)))
+
+pub advance-advance_then-requires : goal.advance-advance_then-requires
+advance-advance_then-requires measure c =
+    let nodes = c.args.self.now.nodes.now in
+    let run = c.args.run.now in
+    let hist = c.args.self.now.history.now in
+    let left = c.args.node.left in
+    let node = c.args.node.word in
+    let b = c.args.self.now.flag in
+    let env = c.args.variables.now in
+    let s = c.args.s in
+    let t = c.args.self.now.t in
+    let parts = has_parts nodes node left (sym c.is_flag.ensures ∙ c.if-is_flag.false) in
+    let word : get_or nodes (node + 0) 0 ≡ 3 = rw c.in-Then.is at c.code_at.ensures in
+    let is = is_then nodes node left parts.0 (λ x. omega (arith, x, word)) word in
+    (omega (arith, parts.0), (omega (arith, word_in nodes node 2 word), subst (λ (G : Tree). Fit G env t (length run)) is c.requires))
+
+pub advance-returns-in-Then : goal.advance-returns-in-Then
+advance-returns-in-Then measure c =
+    let nodes = c.args.self.now.nodes.now in
+    let run = c.args.run.now in
+    let hist = c.args.self.now.history.now in
+    let left = c.args.node.left in
+    let node = c.args.node.word in
+    let b = c.args.self.now.flag in
+    let env = c.args.variables.now in
+    let s = c.args.s in
+    let t = c.args.self.now.t in
+    let parts = has_parts nodes node left (sym c.is_flag.ensures ∙ c.if-is_flag.false) in
+    let word : get_or nodes (node + 0) 0 ≡ 3 = rw c.in-Then.is at c.code_at.ensures in
+    let is = is_then nodes node left parts.0 (λ x. omega (arith, x, word)) word in
+    subst (λ (G : Tree). Advanced G hist b env s t run c.advance_then.result c.advance_then.new.run) (sym is) c.advance_then.ensures
+
+pub advance-advance_beside-requires : goal.advance-advance_beside-requires
+advance-advance_beside-requires measure c =
+    let nodes = c.args.self.now.nodes.now in
+    let run = c.args.run.now in
+    let hist = c.args.self.now.history.now in
+    let left = c.args.node.left in
+    let node = c.args.node.word in
+    let b = c.args.self.now.flag in
+    let env = c.args.variables.now in
+    let s = c.args.s in
+    let t = c.args.self.now.t in
+    let parts = has_parts nodes node left (sym c.is_flag.ensures ∙ c.if-is_flag.false) in
+    let word : get_or nodes (node + 0) 0 ≡ 4 = rw c.in-Beside.is at c.code_at.ensures in
+    let is = is_beside nodes node left parts.0 (λ x. omega (arith, x, word)) (λ x. omega (arith, x, word)) word in
+    (omega (arith, parts.0), (omega (arith, word_in nodes node 3 word), subst (λ (G : Tree). Fit G env t (length run)) is c.requires))
+
+pub advance-returns-in-Beside : goal.advance-returns-in-Beside
+advance-returns-in-Beside measure c =
+    let nodes = c.args.self.now.nodes.now in
+    let run = c.args.run.now in
+    let hist = c.args.self.now.history.now in
+    let left = c.args.node.left in
+    let node = c.args.node.word in
+    let b = c.args.self.now.flag in
+    let env = c.args.variables.now in
+    let s = c.args.s in
+    let t = c.args.self.now.t in
+    let parts = has_parts nodes node left (sym c.is_flag.ensures ∙ c.if-is_flag.false) in
+    let word : get_or nodes (node + 0) 0 ≡ 4 = rw c.in-Beside.is at c.code_at.ensures in
+    let is = is_beside nodes node left parts.0 (λ x. omega (arith, x, word)) (λ x. omega (arith, x, word)) word in
+    subst (λ (G : Tree). Advanced G hist b env s t run c.advance_beside.result c.advance_beside.new.run) (sym is) c.advance_beside.ensures
+
+pub advance-advance_range-requires : goal.advance-advance_range-requires
+advance-advance_range-requires measure c =
+    let nodes = c.args.self.now.nodes.now in
+    let run = c.args.run.now in
+    let hist = c.args.self.now.history.now in
+    let left = c.args.node.left in
+    let node = c.args.node.word in
+    let b = c.args.self.now.flag in
+    let env = c.args.variables.now in
+    let s = c.args.s in
+    let t = c.args.self.now.t in
+    let parts = has_parts nodes node left (sym c.is_flag.ensures ∙ c.if-is_flag.false) in
+    let word : get_or nodes (node + 0) 0 ≡ 5 = rw c.in-ForAll.is at c.code_at.ensures in
+    let is = is_range nodes node left parts.0 (λ x. omega (arith, x, word)) (λ x. omega (arith, x, word)) (λ x. omega (arith, x, word)) word in
+    (omega (arith, parts.0), (omega (arith, word_in nodes node 4 word), subst (λ (G : Tree). Fit G env t (length run)) is c.requires))
+
+pub advance-returns-in-ForAll : goal.advance-returns-in-ForAll
+advance-returns-in-ForAll measure c =
+    let nodes = c.args.self.now.nodes.now in
+    let run = c.args.run.now in
+    let hist = c.args.self.now.history.now in
+    let left = c.args.node.left in
+    let node = c.args.node.word in
+    let b = c.args.self.now.flag in
+    let env = c.args.variables.now in
+    let s = c.args.s in
+    let t = c.args.self.now.t in
+    let parts = has_parts nodes node left (sym c.is_flag.ensures ∙ c.if-is_flag.false) in
+    let word : get_or nodes (node + 0) 0 ≡ 5 = rw c.in-ForAll.is at c.code_at.ensures in
+    let is = is_range nodes node left parts.0 (λ x. omega (arith, x, word)) (λ x. omega (arith, x, word)) (λ x. omega (arith, x, word)) word in
+    subst (λ (G : Tree). Advanced G hist b env s t run c.advance_range.result c.advance_range.new.run) (sym is) c.advance_range.ensures

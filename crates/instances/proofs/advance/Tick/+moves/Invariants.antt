@@ -35,6 +35,3 @@ invariant-walk_positions-loop-index l =
     × ((l.walk.leading ≤ l.index)
     × ((length l.run ≡ length l.initial.run)
     × WalkedTo (tree_at l.node.left l.self.nodes.now l.node.word) l.self.history.now l.self.flag l.variables l.s l.self.t l.walk.first l.walk.leading l.walk.positions l.initial.acc l.walk.size l.initial.run l.index l.acc l.run))
-
-abbrev pub decreases-walk_positions-loop-index : goal.decreases-walk_positions-loop-index
-decreases-walk_positions-loop-index l = l.index
