@@ -1,18 +1,21 @@
 -- Whether the formula of a table names a variable, by the code of its node.
 use Prim.Native.Nat.{ℕ, ◌+◌, ◌-◌, ◌≤◌, ◌<◌}
-use mathlib.Core.Path.{◌≡◌, refl, sym, ap, ◌∙◌}
-use mathlib.Core.Bool.{Bool, true, false, ◌||◌, true≢false, false≢true}
+use mathlib.Core.Path.{◌≡◌, refl, sym, ap, ◌∙◌, subst}
+use mathlib.Core.Bool.{Bool, true, false, ◌||◌}
 use mathlib.Core.List.{List}
 use mathlib.Core.Logic.{◌⊎◌, inl, inr}
 use native.Mathlib.Omega.{arith}
 use lib.Dec.{eqb}
-use lib.ListN.{length, get_or}
+use lib.ListN.{get_or}
 use borrow.Author.Tests.{lt-ltb, le-ltb, eq-eqb, ne_eqb, eqb-true, eqb-false}
 use Rattle.rule.specs.Formula.{Formula, flag, negate, then, beside}
 use Rattle.rule.specs.Naming.{bound_names, names}
 use Rattle.rule.proofs.Order.{by_order}
+use Rattle.nodes.specs.Codes.{IsCode, IsKind}
+use Rattle.nodes.specs.declared.codes.Kind.TheVariants.{Variable}
+use Rattle.nodes.specs.declared.codes.Code.{Code}
+use Rattle.nodes.specs.declared.codes.Code.TheVariants.{Flag, Then, Beside}
 use Rattle.nodes.specs.Table.{bound_of, bound_at, formula_in}
-use Rattle.nodes.proofs.Nodes.{word_in}
 use Rattle.naming.specs.Ranges.{forall_of_node}
 use Rattle.naming.proofs.Nodes.{then_in, beside_in, flag_in}
 
@@ -27,22 +30,18 @@ either w a b e = (λ h. sym (e ∙ ap (λ (x : Bool). x || b) h), λ h. sym (e �
 
 -- ---- a bound
 
-module _ (ns : List ℕ) (j v : ℕ) {kind : ℕ} (e : kind ≡ get_or ns (j + 0) 0) where
-  pub no_variable_at : kind ≤ 1 → false ≡ bound_names v (bound_at ns j)
-  unfolding bound_at bound_of bound_names
-  no_variable_at h = go (by_order kind 0)
-    where
-      go : (kind ≤ 0) ⊎ (0 < kind) → false ≡ bound_names v (bound_at ns j)
-      go (inl k) = simp (eq-eqb (get_or ns (j + 0) 0) 0 (omega arith))
-      go (inr k) = simp (ne_eqb (get_or ns (j + 0) 0) 0 (λ z. omega arith), eq-eqb (get_or ns (j + 0) 0) 1 (omega arith))
-
-  pub variable_at : {w : ℕ} → 1 < kind → w ≡ get_or ns (j + 1) 0 → eqb w v ≡ bound_names v (bound_at ns j)
-  unfolding bound_at bound_of bound_names
-  variable_at h f = simp (ne_eqb (get_or ns (j + 0) 0) 0 (λ z. omega arith), ne_eqb (get_or ns (j + 0) 0) 1 (λ z. omega arith), f)
-
--- as a fact of the definition
+-- only one of kind 2 has a variable
 pub none_named_at : (ns : List ℕ) (j v : ℕ) → get_or ns (j + 0) 0 ≤ 1 → bound_names v (bound_at ns j) ≡ false
-none_named_at ns j v h = sym (no_variable_at ns j v refl h)
+unfolding bound_at bound_of bound_names
+none_named_at ns j v h = go (by_order (get_or ns (j + 0) 0) 0)
+  where
+    go : (get_or ns (j + 0) 0 ≤ 0) ⊎ (0 < get_or ns (j + 0) 0) → bound_names v (bound_at ns j) ≡ false
+    go (inl k) = simp (eq-eqb (get_or ns (j + 0) 0) 0 (omega arith))
+    go (inr k) = simp (ne_eqb (get_or ns (j + 0) 0) 0 (λ z. omega arith), eq-eqb (get_or ns (j + 0) 0) 1 (omega arith))
+
+pub variable_at : (ns : List ℕ) (j v : ℕ) {w : ℕ} → IsKind (get_or ns (j + 0) 0) Variable → w ≡ get_or ns (j + 1) 0 → eqb w v ≡ bound_names v (bound_at ns j)
+unfolding bound_at bound_of bound_names
+variable_at ns j v k f = simp (ne_eqb (get_or ns (j + 0) 0) 0 k.0, ne_eqb (get_or ns (j + 0) 0) 1 k.1, f)
 
 -- ---- a formula
 
@@ -73,35 +72,21 @@ named_beside : (v : ℕ) {F : Formula} (G H : Formula) → F ≡ beside G H → 
 unfolding names
 named_beside v {F} G H e = either (names v F) (names v G) (names v H) (ap (names v) e)
 
-module _ (left : ℕ) (ns : List ℕ) (m i : ℕ) (some : left ≡ 0 → ⊥) {code : ℕ} (c : code ≡ get_or ns (i + 0) 0) {two : Bool} (t : two ≡ (eqb code 3 || eqb code 4)) where
-  pub two_inside : two ≡ true → i < length ns
-  two_inside e = go (eqb code 3) (eqb code 4) refl refl (sym t ∙ e)
-    where
-      go : (x y : Bool) → eqb code 3 ≡ x → eqb code 4 ≡ y → (x || y) ≡ true → i < length ns
-      go true y p q r = word_in ns i 2 (sym c ∙ eqb-true code 3 p)
-      go false true p q r = word_in ns i 3 (sym c ∙ eqb-true code 4 q)
-      go false false p q r = absurd (false≢true r)
+-- a node with two parts
+pub two_parts : {w : ℕ} {code : Code} → IsCode w code → (code ≡ Then) ⊎ (code ≡ Beside) → (w ≡ 3) ⊎ (w ≡ 4)
+two_parts {w} h (inl e) = inl (subst (IsCode w) e h)
+two_parts {w} h (inr e) = inr (subst (IsCode w) e h)
 
+module _ (left : ℕ) (ns : List ℕ) (m i : ℕ) (some : left ≡ 0 → ⊥) where
   -- "then" or "beside"
-  pub named_two : (v j : ℕ) → two ≡ true → j ≡ get_or ns (i + 7) 0
+  pub named_two : (v j : ℕ) → (get_or ns (i + 0) 0 ≡ 3) ⊎ (get_or ns (i + 0) 0 ≡ 4) → j ≡ get_or ns (i + 7) 0
       → Either (names v (formula_in left ns m i)) (names v (formula_in (left - 1) ns m (i + 12))) (names v (formula_in (left - 1) ns m j))
-  named_two v j e f = go (eqb code 3) (eqb code 4) refl refl (sym t ∙ e)
-    where
-      go : (x y : Bool) → eqb code 3 ≡ x → eqb code 4 ≡ y → (x || y) ≡ true
-          → Either (names v (formula_in left ns m i)) (names v (formula_in (left - 1) ns m (i + 12))) (names v (formula_in (left - 1) ns m j))
-      go true y p q r = named_then v (formula_in (left - 1) ns m (i + 12)) (formula_in (left - 1) ns m j) (then_in left ns m i some (sym c ∙ eqb-true code 3 p) f)
-      go false true p q r = named_beside v (formula_in (left - 1) ns m (i + 12)) (formula_in (left - 1) ns m j) (beside_in left ns m i some (sym c ∙ eqb-true code 4 q) f)
-      go false false p q r = absurd (false≢true r)
+  named_two v j (inl e) f = named_then v (formula_in (left - 1) ns m (i + 12)) (formula_in (left - 1) ns m j) (then_in left ns m i some e f)
+  named_two v j (inr e) f = named_beside v (formula_in (left - 1) ns m (i + 12)) (formula_in (left - 1) ns m j) (beside_in left ns m i some e f)
 
   -- a flag: no other code
-  pub named_here : (v : ℕ) {w : ℕ} → two ≡ false → (code ≡ 2 → ⊥) → (code ≡ 5 → ⊥) → w ≡ get_or ns (i + 1) 0 → eqb w v ≡ names v (formula_in left ns m i)
-  named_here v {w} e a b f = go (eqb code 3) (eqb code 4) refl refl (sym t ∙ e)
-    where
-      go : (x y : Bool) → eqb code 3 ≡ x → eqb code 4 ≡ y → (x || y) ≡ false → eqb w v ≡ names v (formula_in left ns m i)
-      go true y p q r = absurd (true≢false r)
-      go false true p q r = absurd (true≢false r)
-      go false false p q r =
-          named_flag v (flag_in left ns m i some (λ z. a (c ∙ z)) (λ z. eqb-false code 3 p (c ∙ z)) (λ z. eqb-false code 4 q (c ∙ z)) (λ z. b (c ∙ z)) f refl)
+  pub named_here : (v : ℕ) {w : ℕ} → IsCode (get_or ns (i + 0) 0) Flag → w ≡ get_or ns (i + 1) 0 → eqb w v ≡ names v (formula_in left ns m i)
+  named_here v {w} h f = named_flag v (flag_in left ns m i some h.0 h.1 h.2 h.3 f refl)
 
 -- a range: its bounds, then its body; inside 4 quantifiers there is none
 module _ (left : ℕ) (ns : List ℕ) (m i v : ℕ) {F : Formula} (e : F ≡ forall_of_node left ns m i) where

@@ -6,8 +6,8 @@ ghost use Rattle.rule.specs.Naming.{bound_names, names};
 ghost use Rattle.nodes.specs.Table.{bound_at, formula_in};
 
 use nodes::{
-    BOUND_VARIABLE, CODE, FIRST_BOUND, FORALL_CODE, INFINITY_KIND, KIND, NESTED, NODE_WORDS,
-    NOT_CODE, SECOND_BOUND, SECOND_PART, VARIABLE, has_second_part, node_word,
+    BOUND_VARIABLE, Code, FIRST_BOUND, Kind, NESTED, NODE_WORDS, SECOND_BOUND, SECOND_PART,
+    VARIABLE, code_at, kind_at, node_word,
 };
 
 // The bound whose words start at word `at`: only one of kind 2 has a variable.
@@ -15,11 +15,7 @@ use nodes::{
 fn bound_names(nodes: &[u32], at: usize, variable: u32) -> bool
     ensures { result ≡ bound_names variable (bound_at nodes.now at) }
 {
-    let kind = node_word(nodes, at, KIND);
-    if kind <= INFINITY_KIND {
-        return false;
-    }
-    node_word(nodes, at, BOUND_VARIABLE) == variable
+    kind_at(nodes, at) == Kind::Variable && node_word(nodes, at, BOUND_VARIABLE) == variable
 }
 
 // Whether the formula at word `node`, inside `depth` quantifiers, with `left` formulas left, names the variable: at a flag, or in a bound of a
@@ -30,28 +26,19 @@ pub fn names(nodes: &[u32], left: u64, depth: usize, node: usize, variable: u32)
     if left == 0 {
         return variable == 0;
     }
-    let code = node_word(nodes, node, CODE);
-    if code == NOT_CODE {
-        return names(nodes, left - 1, depth, node + NODE_WORDS, variable);
+    match code_at(nodes, node) {
+        Code::Not => names(nodes, left - 1, depth, node + NODE_WORDS, variable),
+        Code::Then | Code::Beside => {
+            let second = node_word(nodes, node, SECOND_PART) as usize;
+            names(nodes, left - 1, depth, node + NODE_WORDS, variable)
+                || names(nodes, left - 1, depth, second, variable)
+        }
+        Code::ForAll if NESTED <= depth => variable == 0,
+        Code::ForAll => {
+            bound_names(nodes, node + FIRST_BOUND, variable)
+                || bound_names(nodes, node + SECOND_BOUND, variable)
+                || names(nodes, left - 1, depth + 1, node + NODE_WORDS, variable)
+        }
+        Code::Flag => node_word(nodes, node, VARIABLE) == variable,
     }
-    if has_second_part(code) {
-        if names(nodes, left - 1, depth, node + NODE_WORDS, variable) {
-            return true;
-        }
-        let second = node_word(nodes, node, SECOND_PART) as usize;
-        return names(nodes, left - 1, depth, second, variable);
-    }
-    if code == FORALL_CODE {
-        if NESTED <= depth {
-            return variable == 0;
-        }
-        if bound_names(nodes, node + FIRST_BOUND, variable) {
-            return true;
-        }
-        if bound_names(nodes, node + SECOND_BOUND, variable) {
-            return true;
-        }
-        return names(nodes, left - 1, depth + 1, node + NODE_WORDS, variable);
-    }
-    node_word(nodes, node, VARIABLE) == variable
 }
