@@ -12,6 +12,7 @@ use Rattle.rule.specs.Formula.{Formula, flag, negate, then, beside}
 use Rattle.rule.specs.Naming.{bound_names, names}
 use Rattle.rule.proofs.Order.{by_order}
 use Rattle.nodes.specs.Codes.{IsCode, IsKind}
+use Rattle.nodes.specs.declared.codes.Kind.{Kind}
 use Rattle.nodes.specs.declared.codes.Kind.TheVariants.{Variable}
 use Rattle.nodes.specs.declared.codes.Code.{Code}
 use Rattle.nodes.specs.declared.codes.Code.TheVariants.{Flag, Then, Beside}
@@ -39,9 +40,12 @@ none_named_at ns j v h = go (by_order (get_or ns (j + 0) 0) 0)
     go (inl k) = simp (eq-eqb (get_or ns (j + 0) 0) 0 (omega arith))
     go (inr k) = simp (ne_eqb (get_or ns (j + 0) 0) 0 (λ z. omega arith), eq-eqb (get_or ns (j + 0) 0) 1 (omega arith))
 
-pub variable_at : (ns : List ℕ) (j v : ℕ) {w : ℕ} → IsKind (get_or ns (j + 0) 0) Variable → w ≡ get_or ns (j + 1) 0 → eqb w v ≡ bound_names v (bound_at ns j)
+pub variable_at : (ns : List ℕ) (j v : ℕ) {w : ℕ} {kind : Kind} → IsKind (get_or ns (j + 0) 0) kind → kind ≡ Variable → w ≡ get_or ns (j + 1) 0
+    → eqb w v ≡ bound_names v (bound_at ns j)
 unfolding bound_at bound_of bound_names
-variable_at ns j v k f = simp (ne_eqb (get_or ns (j + 0) 0) 0 k.0, ne_eqb (get_or ns (j + 0) 0) 1 k.1, f)
+variable_at ns j v k e f =
+    let h : IsKind (get_or ns (j + 0) 0) Variable = subst (IsKind (get_or ns (j + 0) 0)) e k in
+    simp (ne_eqb (get_or ns (j + 0) 0) 0 h.0, ne_eqb (get_or ns (j + 0) 0) 1 h.1, f)
 
 -- ---- a formula
 

@@ -11,7 +11,7 @@ use nodes::{
 };
 
 // The bound whose words start at word `at`: only one of kind 2 has a variable.
-#[tactic(auto, using(crate::proofs::Named::none_named_at))]
+#[tactic(auto, using(crate::proofs::Named::none_named_at, crate::proofs::Named::variable_at))]
 fn bound_names(nodes: &[u32], at: usize, variable: u32) -> bool
     ensures { result ≡ bound_names variable (bound_at nodes.now at) }
 {

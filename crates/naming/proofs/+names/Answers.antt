@@ -1,6 +1,5 @@
 -- `naming::names` meets its contract: the test is the definition's, for any table. The formulas left fall from call to call.
-use Rattle.std.proofs.Common.{true≢false, sym, subst, ◌∙◌, ◌+◌, ◌-◌, arith, get_or}
-use Rattle.nodes.specs.Codes.{IsCode}
+use Rattle.std.proofs.Common.{true≢false, sym, ◌∙◌, ◌-◌, arith}
 use Rattle.naming.proofs.Nodes.{none_in, negate_in, range_in}
 use Rattle.naming.proofs.Named.{named_none, named_negate, two_parts, named_two, named_here, named_range, named_rest, named_deep}
 use Rattle.naming.proofs.+names.Goals as goal
@@ -12,15 +11,15 @@ returns-then-left-eq0 t c =
 
 pub returns-in-Not : goal.returns-in-Not
 returns-in-Not t c =
-    named_negate c.args.variable (negate_in c.args.left c.args.nodes.now c.args.depth c.args.node c.if-left-eq0.false (subst (IsCode (get_or c.args.nodes.now (c.args.node + 0) 0)) c.in-Not.is c.code_at.ensures)) c.names.ensures
+    named_negate c.args.variable (negate_in c.args.left c.args.nodes.now c.args.depth c.args.node c.if-left-eq0.false c.in-Not.ensures) c.names.ensures
 
 pub returns-in-ForAll : goal.returns-in-ForAll
 returns-in-ForAll t c =
-    named_deep (c.args.left - 1) c.args.nodes.now c.args.depth c.args.node c.args.variable (range_in c.args.left c.args.nodes.now c.args.depth c.args.node c.if-left-eq0.false (subst (IsCode (get_or c.args.nodes.now (c.args.node + 0) 0)) c.in-ForAll.is c.code_at.ensures)) c.if-depth-ge-NESTED.true
+    named_deep (c.args.left - 1) c.args.nodes.now c.args.depth c.args.node c.args.variable (range_in c.args.left c.args.nodes.now c.args.depth c.args.node c.if-left-eq0.false c.in-ForAll.ensures) c.if-depth-ge-NESTED.true
 
 pub returns-then-bound_names-2 : goal.returns-then-bound_names-2
 returns-then-bound_names-2 t c =
-    let e = range_in c.args.left c.args.nodes.now c.args.depth c.args.node c.if-left-eq0.false (subst (IsCode (get_or c.args.nodes.now (c.args.node + 0) 0)) c.in-ForAll.is c.code_at.ensures) in
+    let e = range_in c.args.left c.args.nodes.now c.args.depth c.args.node c.if-left-eq0.false c.in-ForAll.ensures in
     elim c.if-bound_names.branch [
       | then-bound_names w ↦
           c.if-bound_names-2.true ∙ (named_range (c.args.left - 1) c.args.nodes.now c.args.depth c.args.node c.args.variable e (omega arith)).0 (sym c.bound_names.ensures ∙ w.if-bound_names.true)
@@ -32,7 +31,7 @@ returns-then-bound_names-2 t c =
 
 pub returns-else-bound_names-2 : goal.returns-else-bound_names-2
 returns-else-bound_names-2 t c =
-    let e = range_in c.args.left c.args.nodes.now c.args.depth c.args.node c.if-left-eq0.false (subst (IsCode (get_or c.args.nodes.now (c.args.node + 0) 0)) c.in-ForAll.is c.code_at.ensures) in
+    let e = range_in c.args.left c.args.nodes.now c.args.depth c.args.node c.if-left-eq0.false c.in-ForAll.ensures in
     elim c.if-bound_names.branch [
       | then-bound_names w ↦ absurd (true≢false (sym w.if-bound_names.true ∙ sym w.value-is ∙ c.if-bound_names-2.false))
       | else-bound_names w ↦
@@ -55,4 +54,4 @@ returns-else-names t c =
 
 pub returns-in-Flag : goal.returns-in-Flag
 returns-in-Flag t c =
-    named_here c.args.left c.args.nodes.now c.args.depth c.args.node c.if-left-eq0.false c.args.variable (subst (IsCode (get_or c.args.nodes.now (c.args.node + 0) 0)) c.in-Flag.is c.code_at.ensures) c.node_word.ensures
+    named_here c.args.left c.args.nodes.now c.args.depth c.args.node c.if-left-eq0.false c.args.variable c.in-Flag.ensures c.node_word.ensures
