@@ -6,12 +6,10 @@ use std::io;
 
 // A body at the first and last ticks, in the middle, and after the end.
 fn at_ticks(out: &impl Print, body: &[u8], flags: &[u8]) -> io::Result<()> {
-    outcome_text::outcome(out, body, flags, 0)?;
-    outcome_text::outcome(out, body, flags, 1)?;
-    outcome_text::outcome(out, body, flags, 32767)?;
-    outcome_text::outcome(out, body, flags, 65533)?;
-    outcome_text::outcome(out, body, flags, 65534)?;
-    outcome_text::outcome(out, body, flags, 65535)
+    for tick in [0, 1, 32767, 65533, 65534, 65535] {
+        outcome_text::outcome(out, body, flags, tick)?;
+    }
+    Ok(())
 }
 
 // Y from X on, Z from Y on: two thousand million positions, were the walk not to stop.

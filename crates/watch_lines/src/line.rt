@@ -2,6 +2,7 @@
 ghost use Rattle.std.specs.Prelude.{◌≡◌, ◌++◌, ◌+◌, ◌-◌, ◌≤◌, [], List, ℕ, length, take, drop, replicate};
 ghost use Rattle.watch_lines.specs.Lines.{decimal, with_field};
 
+use itoa::Buffer;
 use std::marker::Model;
 
 // The line is the first `end` bytes. Those after it are 0, as in a fresh buffer.
@@ -49,14 +50,14 @@ impl Line {
     }
 
     // Puts a number's digits at the line's end.
+    #[tactic(auto, using(crate::proofs::Numerals::decimal_is))]
     fn put_number(&mut self, number: u64)
         requires { length self.old + 20 ≤ 128 }
         ensures value { self.new ≡ self.old ++ decimal number }
         ensures bound { length self.new ≤ length self.old + 20 }
     {
-        let mut digits = [0u8; 20];
-        let count = io::decimal(number, &mut digits);
-        self.put_text(&digits[..count]);
+        let mut buffer = Buffer::new();
+        self.put_text(buffer.format(number).as_bytes());
     }
 
     // Puts a word and a number at the line's end.

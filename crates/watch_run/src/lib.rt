@@ -32,6 +32,7 @@ fn watch_rule<R: Runtime>(rt: &R, sheet: &[u8], figures: Figures) -> Result<(), 
     let mut history = [0u8; 4096];
     let mut cells = [0u32; 16384];
     let mut report = [0u64; 4096];
+    // No figure of a history is above 4,096: a proof is told so by a test.
     let Some(history) = history.get_mut(..figures.history as usize) else {
         return Err(Told);
     };

@@ -2,16 +2,14 @@
 use std::io;
 use std::rt::Runtime;
 
-// What a function answers that could not go on: standard error has been told why.
+// What a function answers that could not go on: standard error has been told why, but at the ends that no run reaches.
 #[derive(Clone, Copy, Debug, PartialEq, Eq)]
 pub(crate) struct Told;
 
 // The system's words of an error, which std gives with its number behind them, as in `Broken pipe (os error 32)`.
 fn words_of(text: &str) -> &str {
-    match text.split_once(" (os error ") {
-        Some((words, _)) => words,
-        None => text,
-    }
+    text.split_once(" (os error ")
+        .map_or(text, |(words, _)| words)
 }
 
 // Says that a call on a file failed and why, as `watch: standard output: Broken pipe`.
