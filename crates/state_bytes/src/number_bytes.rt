@@ -26,10 +26,8 @@ pub(crate) fn put_number(out: &mut [u8], at: usize, number: usize)
     ensures { out.new ≡ splice out.old at (low_bytes 8 number) }
 {
     let mut left = number;
-    let mut index: usize = 0;
-    while index < 8 {
+    for index in 0..8 {
         out[at + index] = (left % 256) as u8;
-        left = left / 256;
-        index += 1;
+        left /= 256;
     }
 }

@@ -12,6 +12,3 @@ invariant-loop-index l =
     × ((length l.out ≡ length l.initial.out)
     × ((take (l.at + l.index) l.out ++ low_bytes (8 - l.index) l.left ≡ take l.at l.initial.out ++ low_bytes 8 l.number)
     × (drop (l.at + l.index) l.out ≡ drop (l.at + l.index) l.initial.out)))
-
-abbrev pub decreases-loop-index : goal.decreases-loop-index
-decreases-loop-index l = 8 - l.index
