@@ -8,7 +8,8 @@ use lib.Dec.{leb}
 use lib.ListN.{length, drop, take, get_or, set, length-set, length-drop}
 use lib.Seq.{drop-cons, drop-drop, take_at, take-suc-set, get_or-drop}
 use borrow.Author.Tests.{leb-true, le-leb}
-use Rattle.std.specs.Prelude.{Option, Some, None, is_some, IsSome}
+use Rattle.std.specs.Prelude.{Option, Some, None, is_some, IsSome, slice_range}
+use Rattle.std.proofs.lemmas.List.{take_all}
 use Rattle.notation.specs.Notation.{Base, origin, infinity, position, infinity_word, in_sign, to_sign, colon_sign, is_name, End, end, Offset, nothing, plus, minus, letter, digit, between, same, is_numeral}
 use Rattle.notation.specs.Reading.{Got, none, got, and_read, starts, Token, flag_token, negate_token, open_token, forall_token, one_digit, flag_digit, flag_point, read_flag, forall_colon, forall_second, forall_to, forall_first, forall_range, read_forall, run, past, read_name, read_base, read_numeral, read_offset, read_end}
 use Rattle.notation.specs.Bodies.{seek, value_on, offset_word, base_bytes, word_bytes, end_bytes}
@@ -16,7 +17,7 @@ use Rattle.text_pieces.specs.Spots.{Found}
 use Rattle.text_to_body.specs.Work.{scope_of, sought}
 use Rattle.refusal.proofs.Bools.{and_true}
 use Rattle.notation.proofs.Spelling.{run_past, Gets, gets_bind, gets_cond, gets_expect, gets_digit}
-use Rattle.text_pieces.proofs.Scanning.{run_rest}
+use Rattle.text_pieces.proofs.Scanning.{run_none, run_rest}
 
 -- ---- parts and positions
 
@@ -69,6 +70,15 @@ module _ (s : List ℕ) (i n : ℕ) where
   pub value_done : run digit (drop i s) ≡ [] → value_on n (run digit (drop i s)) ≡ n
   unfolding value_on
   value_done e = rw e
+
+-- The digits at a position are those at the start of the rest.
+pub value_there : (s t : List ℕ) (at v : ℕ) → t ≡ slice_range s at (length s) → v ≡ value_on 0 (run digit t) → v ≡ value_on 0 (run digit (drop at s))
+value_there s t at v e f =
+    f ∙ ap (λ (x : List ℕ). value_on 0 (run digit x)) (e ∙ take_all (length s - at) (drop at s) (omega (arith, length-drop at s)))
+
+pub value_past : (s : List ℕ) (at : ℕ) → length s < at → 0 ≡ value_on 0 (run digit (drop at s))
+unfolding value_on
+value_past s at h = rw (run_none digit s at (omega arith))
 
 taken : (make : List ℕ → Offset) (s : List ℕ) (o : Offset) (t : List ℕ) → and_read (read_numeral s) (λ d u. got (make d) u) ≡ got o t → o ≡ make (run digit s)
 unfolding and_read read_numeral

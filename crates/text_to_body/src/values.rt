@@ -14,19 +14,29 @@ fn with_digit(number: usize, byte: u8) -> usize
     (number * 10 + usize::from(byte - b'0')) % 65536
 }
 
+// The number that the digits at the start of a text say.
+fn leading_value(text: &[u8]) -> usize
+    ensures { (result ≡ value_on 0 (run digit text.now)) × (result < 65536) }
+{
+    let mut number: usize = 0;
+    for byte in text {
+        if !is_between(b'0', b'9', *byte) {
+            return number;
+        }
+        number = with_digit(number, *byte);
+    }
+    number
+}
+
 // The number that the digits at a position say.
+#[tactic(auto, using(crate::proofs::Scopes::value_there, crate::proofs::Scopes::value_past))]
 fn value_at(text: &[u8], at: usize) -> usize
     ensures { (result ≡ value_on 0 (run digit (drop at text.now))) × (result < 65536) }
 {
-    let mut number: usize = 0;
-    for index in at..text.len() {
-        let byte = text[index];
-        if !is_between(b'0', b'9', byte) {
-            return number;
-        }
-        number = with_digit(number, byte);
+    match text.get(at..) {
+        Some(rest) => leading_value(rest),
+        None => 0,
     }
-    number
 }
 
 // The offset at a position, as a 16-bit word.
