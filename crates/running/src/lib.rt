@@ -63,6 +63,7 @@ pub fn rule_at(records: &[[u32; RECORD_WORDS]], index: usize) -> Running
 }
 
 // Stores a rule in the record at a place, and nothing past the end.
+// Kept: with `get_mut` of a slice the proof doesn't close, since it says nothing of the elements afterwards.
 #[tactic(auto, using(crate::proofs::Fields::stored))]
 pub fn store_rule(records: &mut [[u32; RECORD_WORDS]], index: usize, rule: Running)
     ensures { rules_in records.new ≡ set (rules_in records.old) index rule }

@@ -27,7 +27,8 @@ pub fn record_at(records: &[Running], index: usize) -> Running
     records.get(index).copied().unwrap_or_default()
 }
 
-// Writes the record at a place, and nothing past the end. (`get_mut` would say nothing of the elements.)
+// Writes the record at a place, and nothing past the end.
+// Kept: with `get_mut` of a slice the proof doesn't close, since it says nothing of the elements afterwards.
 pub fn store_record(records: &mut [Running], index: usize, rule: Running)
     ensures { records.new ≡ set records.old index rule }
 {
