@@ -26,6 +26,7 @@ pub enum Comparison {
 }
 
 // The violation at a place of a lent list; that of tick 0 and step 0 past the end.
+// Kept: no Option past the end, since the clause reads `none_lent` there, and so do `above_at` and `Spaced`.
 pub fn violation_at(list: &[[u64; VIOLATION_WORDS]], index: usize) -> Violation
     ensures { result ≡ get_or (violations_in list.now) index none_lent }
 {
