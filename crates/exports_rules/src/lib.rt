@@ -3,7 +3,6 @@
 #![tactic(auto)]
 
 mod bodies;
-mod lengths;
 mod rules;
 mod sentences;
 mod sheets;

@@ -4,7 +4,7 @@ ghost use Rattle.refusal.specs.Answer.{or_kept, number};
 ghost use Rattle.sheet.specs.Sheet.{rule_place};
 ghost use Rattle.sheet_writer.specs.Writing.{sheet_length, buffer_after};
 
-use crate::lengths::answer_length;
+use refusal::put_answer;
 
 // Where a rule's body lies in its sheet: refusals 1 to 3.
 pub fn sw_rule_place(sheet: &[u8], rule: usize, start: &mut usize, size: &mut usize) -> u32
@@ -28,5 +28,5 @@ pub fn sw_write_sheet(lengths: &[u16], bodies: &[u8], out: &mut [u8], written: &
     ensures out_after { out.new ≡ buffer_after lengths.now bodies.now out.old }
     ensures written_after { written.new ≡ or_kept (λ size. size) (sheet_length lengths.now bodies.now (length out.old)) written.old }
 {
-    answer_length(sheet_writer::write_sheet(lengths, bodies, out), written)
+    put_answer(sheet_writer::write_sheet(lengths, bodies, out), written)
 }
