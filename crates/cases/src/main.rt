@@ -13,24 +13,24 @@ use std::io;
 use std::rt::Runtime;
 
 // A line that is a case, by what takes a case from its name and its fields.
-fn take_line<R: Runtime, F: Fn(&R, &[u8], &[u8]) -> Result<(), Fault>>(
+fn take_line<R: Runtime, Take: Fn(&R, &[u8], &[u8]) -> Result<(), Fault>>(
     rt: &R,
-    take_case: &F,
+    take_case: &Take,
     line: &[u8],
 ) -> Result<(), Fault>
-    requires { F.IsAlwaysCallable take_case.now }
+    requires { Take.IsAlwaysCallable take_case.now }
 {
     let (name, fields) = split_name(line).ok_or(Malformed)?;
     take_case(rt, name, fields)
 }
 
 // The cases of a file. It says which line is malformed and goes on with the next.
-fn take_file<R: Runtime, F: Fn(&R, &[u8], &[u8]) -> Result<(), Fault>>(
+fn take_file<R: Runtime, Take: Fn(&R, &[u8], &[u8]) -> Result<(), Fault>>(
     rt: &R,
-    take_case: F,
+    take_case: Take,
     name: &[u8],
 ) -> io::Result<()>
-    requires { F.IsAlwaysCallable take_case }
+    requires { Take.IsAlwaysCallable take_case }
 {
     let mut space = [0u8; 65536];
     let Some(count) = load(rt, name, &mut space)? else {

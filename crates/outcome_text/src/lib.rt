@@ -16,12 +16,12 @@ pub struct Shown(pub Result<Outcome, Refusal>);
 impl fmt::Display for Shown {
     ghost output = { λ shown. Some (shown_text shown.0) };
 
-    fn fmt<W: fmt::Write>(&self, f: &mut fmt::Formatter<W>) -> fmt::Result {
+    fn fmt<W: fmt::Write>(&self, to: &mut fmt::Formatter<W>) -> fmt::Result {
         match self.0 {
-            Ok(Outcome::Decided(Verdict::True, step)) => write!(f, "true at {step}"),
-            Ok(Outcome::Decided(Verdict::False, step)) => write!(f, "false at {step}"),
-            Ok(Outcome::Open) => write!(f, "open"),
-            Err(refusal) => write!(f, "{}", Refused(refusal)),
+            Ok(Outcome::Decided(Verdict::True, step)) => write!(to, "true at {step}"),
+            Ok(Outcome::Decided(Verdict::False, step)) => write!(to, "false at {step}"),
+            Ok(Outcome::Open) => write!(to, "open"),
+            Err(refusal) => write!(to, "{}", Refused(refusal)),
         }
     }
 }
@@ -33,9 +33,9 @@ pub struct Refused(pub Refusal);
 impl fmt::Display for Refused {
     ghost output = { λ refused. Some (refused_text refused.0) };
 
-    fn fmt<W: fmt::Write>(&self, f: &mut fmt::Formatter<W>) -> fmt::Result {
+    fn fmt<W: fmt::Write>(&self, to: &mut fmt::Formatter<W>) -> fmt::Result {
         let number = refusal::number(self.0);
-        write!(f, "refused {number}")
+        write!(to, "refused {number}")
     }
 }
 
