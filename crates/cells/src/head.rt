@@ -5,7 +5,7 @@ ghost use Rattle.cells.specs.Heads.{leading_of, latest_of};
 use crate::outcome::step_after;
 
 // What a head cell says.
-#[derive(Clone, Copy)]
+#[derive(Clone, Copy, Debug, PartialEq, Eq)]
 pub struct Head {
     pub leading: u64,
     pub latest: u64,
@@ -16,20 +16,8 @@ pub struct Head {
 pub fn head_of(trues: u32, steps: u32, p: u64, s: u64, t: u64, positions: u64) -> Head
     ensures { (result.leading ≡ leading_of s t positions trues) × (result.latest ≡ latest_of p s result.leading steps) }
 {
-    let leading = trues as u64;
-    if t == s {
-        return Head {
-            leading: 0,
-            latest: s,
-        };
-    }
-    if leading == 0 {
-        return Head {
-            leading: 0,
-            latest: s,
-        };
-    }
-    if positions < leading {
+    let leading = u64::from(trues);
+    if t == s || leading == 0 || positions < leading {
         return Head {
             leading: 0,
             latest: s,

@@ -10,20 +10,14 @@ use rule::{FIRST_UNTAKEN, Outcome, Verdict};
 pub fn elapsed(p: u64, step: u64) -> u32
     ensures { result ≡ since p step }
 {
-    if step <= p {
-        return 0;
-    }
-    ((step - p) % WORD_VALUES) as u32
+    (step.saturating_sub(p) % WORD_VALUES) as u32
 }
 
 // The step that comes so many steps after p. No sum overflows: a tick that no step takes counts as the first such one.
 pub fn step_after(p: u64, steps: u32) -> u64
     ensures { result ≡ step_after p steps }
 {
-    if p < FIRST_UNTAKEN {
-        return p + steps as u64;
-    }
-    FIRST_UNTAKEN + steps as u64
+    p.min(FIRST_UNTAKEN) + u64::from(steps)
 }
 
 // The outcome that two words of a cell hold.
@@ -31,11 +25,9 @@ pub fn step_after(p: u64, steps: u32) -> u64
 pub fn outcome_of(verdict: u32, steps: u32, p: u64) -> Outcome
     ensures { result ≡ held p verdict steps }
 {
-    if verdict == 1 {
-        return Outcome::Decided(Verdict::True, step_after(p, steps));
+    match verdict {
+        1 => Outcome::Decided(Verdict::True, step_after(p, steps)),
+        2 => Outcome::Decided(Verdict::False, step_after(p, steps)),
+        _ => Outcome::Open,
     }
-    if verdict == 2 {
-        return Outcome::Decided(Verdict::False, step_after(p, steps));
-    }
-    Outcome::Open
 }
