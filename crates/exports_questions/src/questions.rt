@@ -5,7 +5,7 @@ ghost use Rattle.calendar.specs.Calendar.{ups, first_up, last_up, nearest_up};
 ghost use Rattle.calendar_questions.specs.Answers.{of_flag};
 ghost use Rattle.exports_questions.specs.Ticks.{tick_number};
 
-use refusal::Refusal;
+use refusal::{Refusal, put_answer};
 
 // What C hears for none.
 const NO_TICK: u64 = 18446744073709551615;
@@ -14,20 +14,6 @@ fn tick_number(tick: Option<u64>) -> u64
     ensures { result ≡ tick_number tick }
 {
     tick.unwrap_or(NO_TICK)
-}
-
-// Answers a question: the refusal's number, or 0 with what was found in the lent one.
-fn put_answer(answer: Result<u64, Refusal>, place: &mut u64) -> u32
-    ensures value { result ≡ number (answer_of answer) }
-    ensures place_after { place.new ≡ or_kept (λ found. found) (answer_of answer) place.old }
-{
-    match answer {
-        Ok(found) => {
-            *place = found;
-            0
-        }
-        Err(refusal) => refusal::number(refusal),
-    }
 }
 
 // Answers a question about ticks: the refusal's number, or 0 with the tick's number in the lent one.

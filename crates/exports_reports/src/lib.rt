@@ -90,11 +90,8 @@ pub fn sw_complete_report(
     ensures report_after { violations_in report.new ≡ list_with (delivered_report sheet.now rule recording.now (length report.old)) (violations_in report.old) }
     ensures written_after { written.new ≡ or_kept length (delivered_report sheet.now rule recording.now (length report.old)) written.old }
 {
-    match report_writing::write(sheet, rule, recording, report) {
-        Ok(count) => {
-            *written = count;
-            0
-        }
-        Err(refusal) => refusal::number(refusal),
-    }
+    refusal::put_answer(
+        report_writing::write(sheet, rule, recording, report),
+        written,
+    )
 }
