@@ -1,6 +1,8 @@
 // A sheet's rule over a recording: reading it, and the step at which it is false at a tick.
 #![tactic(auto)]
 
+mod recorded;
+
 ghost use Rattle.std.specs.Prelude.{◌≡◌, length};
 ghost use Rattle.nodes.specs.Table.{formula_in};
 ghost use Rattle.reader.specs.Decoded.{reading_answer};
@@ -9,6 +11,7 @@ ghost use Rattle.complete_report.specs.FalseSteps.{false_step, step_below};
 ghost use Rattle.recorded_rule.specs.Violated.{violated_at};
 
 use nodes::TABLE_WORDS;
+pub use recorded::Recorded;
 use refusal::Refusal;
 use rule::{Outcome, Verdict};
 

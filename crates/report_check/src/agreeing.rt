@@ -8,15 +8,14 @@ ghost use Rattle.report_check.specs.Marks.{all_marked};
 
 use crate::marks::mark;
 use complete_report::{VIOLATION_WORDS, Violation, before, violation_at};
-use nodes::TABLE_WORDS;
-use recorded_rule::false_step;
+use recorded_rule::Recorded;
 
 // Whether this is a violation of the rule in the table.
 #[tactic(auto, using(crate::proofs::FirstOf::same_step), unfolding(crate::specs::Checking::is_violation))]
-fn is_violation(nodes: &[u32; TABLE_WORDS], recording: &[u8], claimed: Violation) -> bool
-    ensures { result ≡ is_violation (false_step (formula_in 64 nodes.now 0 0) recording.now) (length recording.now) claimed }
+fn is_violation(recorded: &Recorded, claimed: Violation) -> bool
+    ensures { result ≡ is_violation (false_step (formula_in 64 recorded.now.nodes.now 0 0) recorded.now.recording.now) (length recorded.now.recording.now) claimed }
 {
-    false_step(nodes, recording, claimed.tick as usize) == Some(claimed.step)
+    recorded.false_step(claimed.tick as usize) == Some(claimed.step)
 }
 
 // Whether an entry comes after the one before it.
@@ -33,17 +32,16 @@ fn ascends(claimed: &[[u64; VIOLATION_WORDS]], index: usize) -> bool
 
 // How many of the list's first entries ascend and are violations; their ticks are marked.
 pub(crate) fn agree(
-    nodes: &[u32; TABLE_WORDS],
-    recording: &[u8],
+    recorded: &Recorded,
     claimed: &[[u64; VIOLATION_WORDS]],
     marks: &mut [u64],
 ) -> usize
-    ensures value { result ≡ agreed (false_step (formula_in 64 nodes.now 0 0) recording.now) (length recording.now) (λ any. true) (violations_in claimed.now) }
+    ensures value { result ≡ agreed (false_step (formula_in 64 recorded.now.nodes.now 0 0) recorded.now.recording.now) (length recorded.now.recording.now) (λ any. true) (violations_in claimed.now) }
     ensures marks_after { marks.new ≡ all_marked marks.old (take result (violations_in claimed.now)) }
 {
     for index in 0..claimed.len() {
         let next = violation_at(claimed, index);
-        if !ascends(claimed, index) || !is_violation(nodes, recording, next) {
+        if !ascends(claimed, index) || !is_violation(recorded, next) {
             return index;
         }
         mark(marks, next.tick);

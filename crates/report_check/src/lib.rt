@@ -19,6 +19,7 @@ use crate::marks::MARK_WORDS;
 use crate::missing::first_missing;
 use complete_report::{Comparison, VIOLATION_WORDS, Violation, before, violation_at};
 use nodes::TABLE_WORDS;
+use recorded_rule::Recorded;
 use refusal::Refusal;
 
 // How many of the first entries come before a violation.
@@ -52,17 +53,12 @@ fn comparison(
 }
 
 // The list beside the complete report of the rule in the table.
-fn compare(
-    nodes: &[u32; TABLE_WORDS],
-    recording: &[u8],
-    claimed: &[[u64; VIOLATION_WORDS]],
-) -> Comparison
-    requires { length recording.now ≤ 65535 }
-    ensures { result ≡ compared 0 (violations_in claimed.now) (complete (formula_in 64 nodes.now 0 0) recording.now) }
+fn compare(recorded: &Recorded, claimed: &[[u64; VIOLATION_WORDS]]) -> Comparison
+    ensures { result ≡ compared 0 (violations_in claimed.now) (complete (formula_in 64 recorded.now.nodes.now 0 0) recorded.now.recording.now) }
 {
     let mut marks = [0u64; MARK_WORDS];
-    let agreed = agree(nodes, recording, claimed, &mut marks);
-    let missing = first_missing(nodes, recording, &marks);
+    let agreed = agree(recorded, claimed, &mut marks);
+    let missing = first_missing(recorded, &marks);
     comparison(claimed, agreed, missing)
 }
 
@@ -78,5 +74,9 @@ pub fn check(
 {
     let mut nodes = [0u32; TABLE_WORDS];
     recorded_rule::read_rule(sheet, rule, recording, &mut nodes)?;
-    Ok(compare(&nodes, recording, claimed))
+    let recorded = Recorded {
+        nodes: &nodes,
+        recording,
+    };
+    Ok(compare(&recorded, claimed))
 }

@@ -9,23 +9,17 @@ ghost use Rattle.report_check.specs.Marks.{is_marked};
 
 use crate::marks::is_marked;
 use complete_report::{Violation, before};
-use nodes::TABLE_WORDS;
-use recorded_rule::false_step;
+use recorded_rule::Recorded;
 
 // The violation of a tick that is not marked.
 #[tactic(auto, using(crate::proofs::FirstOf::met_is_none, crate::proofs::FirstOf::step_is_some, crate::proofs::FirstOf::step_is_none))]
-fn unmarked(
-    nodes: &[u32; TABLE_WORDS],
-    recording: &[u8],
-    marks: &[u64],
-    tick: usize,
-) -> Option<Violation>
-    ensures { result ≡ some_below (length recording.now) (missing_at (false_step (formula_in 64 nodes.now 0 0) recording.now) (length recording.now) (is_marked marks.now) tick) }
+fn unmarked(recorded: &Recorded, marks: &[u64], tick: usize) -> Option<Violation>
+    ensures { result ≡ some_below (length recorded.now.recording.now) (missing_at (false_step (formula_in 64 recorded.now.nodes.now 0 0) recorded.now.recording.now) (length recorded.now.recording.now) (is_marked marks.now) tick) }
 {
     if is_marked(marks, tick as u64) {
         return None;
     }
-    let step = false_step(nodes, recording, tick)?;
+    let step = recorded.false_step(tick)?;
     let tick = tick as u64;
     Some(Violation { tick, step })
 }
@@ -42,16 +36,12 @@ fn earlier(first: Option<Violation>, second: Option<Violation>) -> Option<Violat
 }
 
 // The first violation whose tick is not marked.
-pub(crate) fn first_missing(
-    nodes: &[u32; TABLE_WORDS],
-    recording: &[u8],
-    marks: &[u64],
-) -> Option<Violation>
-    ensures { result ≡ some_below (length recording.now) (first_missing (false_step (formula_in 64 nodes.now 0 0) recording.now) (length recording.now) (is_marked marks.now) (length recording.now) (violation (length recording.now) (length recording.now))) }
+pub(crate) fn first_missing(recorded: &Recorded, marks: &[u64]) -> Option<Violation>
+    ensures { result ≡ some_below (length recorded.now.recording.now) (first_missing (false_step (formula_in 64 recorded.now.nodes.now 0 0) recorded.now.recording.now) (length recorded.now.recording.now) (is_marked marks.now) (length recorded.now.recording.now) (violation (length recorded.now.recording.now) (length recorded.now.recording.now))) }
 {
     let mut first = None;
-    for tick in (0..recording.len()).rev() {
-        first = earlier(unmarked(nodes, recording, marks, tick), first);
+    for tick in (0..recorded.recording.len()).rev() {
+        first = earlier(unmarked(recorded, marks, tick), first);
     }
     first
 }

@@ -1,6 +1,6 @@
 -- Violations stored tick by tick: the entries so far, and those of the ticks that are left.
 use Rattle.std.proofs.Common.{◌≡◌, ℕ, zero, suc, ◌+◌, ◌-◌, ◌≤◌, ◌<◌, Bool, true, false, cond, List, [], ◌∷◌, ◌++◌, length, take, drop, refl, sym, ap, ◌∙◌, append_assoc, add-one, arith, length-append}
-use Rattle.std.specs.Prelude.{ltb, set, Option, Some, None}
+use Rattle.std.specs.Prelude.{ltb, set, Some, None}
 use Rattle.std.proofs.Math.ListN.{length-set}
 use Rattle.std.proofs.lemmas.List.{append-nil, length-take-le, take-append-drop, take_more_set, drop-drop, drop-set-lt}
 use Rattle.complete_report.specs.declared.Violation.{Violation}

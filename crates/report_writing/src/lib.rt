@@ -11,23 +11,18 @@ ghost use Rattle.report_writing.specs.Collecting.{unordered};
 
 use complete_report::{VIOLATION_WORDS, Violation, store_violation};
 use nodes::TABLE_WORDS;
-use recorded_rule::false_step;
+use recorded_rule::Recorded;
 use refusal::Refusal;
 
 // Stores the violations of the rule in the table at the start of the list, tick by tick, and answers how many there are.
-fn collect(
-    nodes: &[u32; TABLE_WORDS],
-    recording: &[u8],
-    list: &mut [[u64; VIOLATION_WORDS]],
-) -> usize
-    requires recording_len_bound { length recording.now ≤ 65535 }
-    requires recording_in_bounds { length (unordered (formula_in 64 nodes.now 0 0) recording.now) ≤ length list.old }
-    ensures value { result ≡ length (unordered (formula_in 64 nodes.now 0 0) recording.now) }
-    ensures list_after { violations_in list.new ≡ with_front (unordered (formula_in 64 nodes.now 0 0) recording.now) (violations_in list.old) }
+fn collect(recorded: &Recorded, list: &mut [[u64; VIOLATION_WORDS]]) -> usize
+    requires recording_in_bounds { length (unordered (formula_in 64 recorded.now.nodes.now 0 0) recorded.now.recording.now) ≤ length list.old }
+    ensures value { result ≡ length (unordered (formula_in 64 recorded.now.nodes.now 0 0) recorded.now.recording.now) }
+    ensures list_after { violations_in list.new ≡ with_front (unordered (formula_in 64 recorded.now.nodes.now 0 0) recorded.now.recording.now) (violations_in list.old) }
 {
     let mut count = 0;
-    for tick in 0..recording.len() {
-        if let Some(step) = false_step(nodes, recording, tick) {
+    for tick in 0..recorded.recording.len() {
+        if let Some(step) = recorded.false_step(tick) {
             let tick = tick as u64;
             store_violation(list, count, Violation { tick, step });
             count += 1;
@@ -37,12 +32,12 @@ fn collect(
 }
 
 // How many violations the rule in the table has.
-fn count_violations(nodes: &[u32; TABLE_WORDS], recording: &[u8]) -> usize
-    ensures { result ≡ length (unordered (formula_in 64 nodes.now 0 0) recording.now) }
+fn count_violations(recorded: &Recorded) -> usize
+    ensures { result ≡ length (unordered (formula_in 64 recorded.now.nodes.now 0 0) recorded.now.recording.now) }
 {
     let mut count = 0;
-    for tick in 0..recording.len() {
-        if false_step(nodes, recording, tick).is_some() {
+    for tick in 0..recorded.recording.len() {
+        if recorded.false_step(tick).is_some() {
             count += 1;
         }
     }
@@ -51,32 +46,28 @@ fn count_violations(nodes: &[u32; TABLE_WORDS], recording: &[u8]) -> usize
 
 // Whether a list of so many entries takes the report.
 #[tactic(auto, using(crate::proofs::Delivered::long_enough))]
-fn has_room(nodes: &[u32; TABLE_WORDS], recording: &[u8], room: usize) -> bool
-    ensures { result ≡ leb (length (unordered (formula_in 64 nodes.now 0 0) recording.now)) room }
+fn has_room(recorded: &Recorded, room: usize) -> bool
+    ensures { result ≡ leb (length (unordered (formula_in 64 recorded.now.nodes.now 0 0) recorded.now.recording.now)) room }
 {
-    recording.len() <= room || count_violations(nodes, recording) <= room
+    recorded.recording.len() <= room || count_violations(recorded) <= room
 }
 
 // Writes the complete report of the rule in the table at the start of the list.
-fn write_report(
-    nodes: &[u32; TABLE_WORDS],
-    recording: &[u8],
-    list: &mut [[u64; VIOLATION_WORDS]],
-) -> Result<usize, Refusal>
-    requires { length recording.now ≤ 65535 }
-    ensures result_value { answer_of result ≡ how_many (if_room (length list.old) (complete (formula_in 64 nodes.now 0 0) recording.now)) }
-    ensures list_after { violations_in list.new ≡ list_with (if_room (length list.old) (complete (formula_in 64 nodes.now 0 0) recording.now)) (violations_in list.old) }
+fn write_report(recorded: &Recorded, list: &mut [[u64; VIOLATION_WORDS]]) -> Result<usize, Refusal>
+    ensures result_value { answer_of result ≡ how_many (if_room (length list.old) (complete (formula_in 64 recorded.now.nodes.now 0 0) recorded.now.recording.now)) }
+    ensures list_after { violations_in list.new ≡ list_with (if_room (length list.old) (complete (formula_in 64 recorded.now.nodes.now 0 0) recorded.now.recording.now)) (violations_in list.old) }
 {
-    if !has_room(nodes, recording, list.len()) {
+    if !has_room(recorded, list.len()) {
         return Err(Refusal::BufferTooShort);
     }
-    let count = collect(nodes, recording, list);
+    let count = collect(recorded, list);
     report_order::sort(&mut list[..count]);
     Ok(count)
 }
 
 // Writes the complete report of a sheet's rule over a recording at the start of the list, and answers how many violations it has: refusals 1 to 10, 23, 24, 16 for a
 // recording above 65,535 bytes, 22.
+#[tactic(auto, using(recorded_rule::proofs::Admitted::recorded_short))]
 pub fn write(
     sheet: &[u8],
     rule: usize,
@@ -88,5 +79,9 @@ pub fn write(
 {
     let mut nodes = [0u32; TABLE_WORDS];
     recorded_rule::read_rule(sheet, rule, recording, &mut nodes)?;
-    write_report(&nodes, recording, list)
+    let recorded = Recorded {
+        nodes: &nodes,
+        recording,
+    };
+    write_report(&recorded, list)
 }

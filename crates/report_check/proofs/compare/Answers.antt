@@ -16,15 +16,15 @@ use Rattle.report_check.proofs.compare.Goals as goal
 pub comparison-requires : goal.comparison-requires
 comparison-requires c =
     let list = c.args.claimed.now in
-    omega (arith, c.agree-agreed.ensures.value, length-map list violation_in, count_few (formula_in 64 c.args.nodes.now 0 0) c.args.recording.now (violations_in list) c.requires)
+    omega (arith, c.agree-agreed.ensures.value, length-map list violation_in, count_few (formula_in 64 c.args.recorded.now.nodes.now 0 0) c.args.recorded.now.recording.now (violations_in list) c.args.recorded.now.short)
 
 pub returns : goal.returns
 returns c =
     let a = c.agree-agreed in
-    let F = formula_in 64 c.args.nodes.now 0 0 in
-    let rec = c.args.recording.now in
+    let F = formula_in 64 c.args.recorded.now.nodes.now 0 0 in
+    let rec = c.args.recorded.now.recording.now in
     let first = first_missing (false_step F rec) (length rec) (is_marked a.new.marks) (length rec) (violation (length rec) (length rec)) in
-    compares F rec (violations_in c.args.claimed.now) c.requires a.result a.new.marks first
+    compares F rec (violations_in c.args.claimed.now) c.args.recorded.now.short a.result a.new.marks first
     c.comparison.result a.ensures.value a.ensures.marks_after refl
     (c.comparison.ensures ∙ ap (beside (violations_in c.args.claimed.now) a.result) c.first_missing-missing.ensures
     ∙ beside_first (length rec) (violations_in c.args.claimed.now) a.result first)

@@ -9,4 +9,4 @@ use Rattle.report_writing.proofs.collect.Given as goal
 abbrev pub invariant-loop-tick : goal.invariant-loop-tick
 invariant-loop-tick l =
     (length l.list ≡ length l.initial.list)
-    × Collected (false_step (formula_in 64 l.nodes 0 0) l.recording) (length l.recording) (length l.recording) (violations_in l.initial.list) (violations_in l.list) l.count l.tick
+    × Collected (false_step (formula_in 64 l.recorded.nodes.now 0 0) l.recorded.recording.now) (length l.recorded.recording.now) (length l.recorded.recording.now) (violations_in l.initial.list) (violations_in l.list) l.count l.tick

@@ -9,8 +9,8 @@ use Rattle.report_writing.proofs.count_violations.Goals.{then-is_some, else-is_s
 
 pub loop-tick-preserved : goal.loop-tick-preserved
 loop-tick-preserved c =
-    let rec = c.args.recording.now in
-    let steps = false_step (formula_in 64 c.args.nodes.now 0 0) rec in
+    let rec = c.args.recorded.now.recording.now in
+    let steps = false_step (formula_in 64 c.args.recorded.now.nodes.now 0 0) rec in
     let turn = c.loop-tick in
     let test = below_is_some (length rec) (steps turn.tick) c.false_step.ensures c.is_some.ensures in
     elim c.if-is_some.branch [
@@ -24,9 +24,9 @@ loop-tick-preserved c =
 
 pub returns : goal.returns
 returns c =
-    let rec = c.args.recording.now in
+    let rec = c.args.recorded.now.recording.now in
     omega (
       arith,
       c.loop-tick.invariant.1,
-      ap length (none_left (false_step (formula_in 64 c.args.nodes.now 0 0) rec) (length rec) (length rec) c.loop-tick.tick (omega arith)),
+      ap length (none_left (false_step (formula_in 64 c.args.recorded.now.nodes.now 0 0) rec) (length rec) (length rec) c.loop-tick.tick (omega arith)),
     )

@@ -9,4 +9,4 @@ use Rattle.report_writing.proofs.count_violations.Given as goal
 abbrev pub invariant-loop-tick : goal.invariant-loop-tick
 invariant-loop-tick l =
     (l.count ≤ l.tick)
-    × (l.count + length (left (false_step (formula_in 64 l.nodes 0 0) l.recording) (length l.recording) (length l.recording) l.tick) ≡ length (unordered (formula_in 64 l.nodes 0 0) l.recording))
+    × (l.count + length (left (false_step (formula_in 64 l.recorded.nodes.now 0 0) l.recorded.recording.now) (length l.recorded.recording.now) (length l.recorded.recording.now) l.tick) ≡ length (unordered (formula_in 64 l.recorded.nodes.now 0 0) l.recorded.recording.now))

@@ -1,5 +1,5 @@
 -- `report_writing::write` meets its contract.
-use Rattle.std.proofs.Common.{List, length, sym, ap, ◌∙◌}
+use Rattle.std.proofs.Common.{List, length, ap, ◌∙◌}
 use Rattle.refusal.specs.Answer.{Answer}
 use Rattle.refusal.specs.Numbers.{number_of}
 use Rattle.refusal.proofs.Answers.{handed_on}
@@ -7,13 +7,8 @@ use Rattle.nodes.specs.Table.{formula_in}
 use Rattle.complete_report.specs.declared.Violation.{Violation}
 use Rattle.complete_report.specs.Report.{how_many, list_with}
 use Rattle.complete_report.specs.Lists.{violations_in}
-use Rattle.recorded_rule.proofs.Admitted.{recorded_short}
 use Rattle.report_writing.proofs.Delivered.{delivers, refuses}
 use Rattle.report_writing.proofs.write.Goals as goal
-
-pub write_report-requires : goal.write_report-requires
-write_report-requires c =
-    recorded_short _ _ _ _ (sym c.in_ok-read_rule.ensures)
 
 pub returns-clause-result_value : goal.returns-clause-result_value
 returns-clause-result_value c =

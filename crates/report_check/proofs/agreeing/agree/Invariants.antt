@@ -10,5 +10,5 @@ use Rattle.report_check.proofs.agreeing.agree.Given as goal
 
 abbrev pub invariant-loop-index : goal.invariant-loop-index
 invariant-loop-index l =
-    Agrees (false_step (formula_in 64 l.nodes 0 0) l.recording) (length l.recording) (violations_in l.claimed) l.index
+    Agrees (false_step (formula_in 64 l.recorded.nodes.now 0 0) l.recorded.recording.now) (length l.recorded.recording.now) (violations_in l.claimed) l.index
     × (l.marks ≡ all_marked l.initial.marks (take l.index (violations_in l.claimed)))

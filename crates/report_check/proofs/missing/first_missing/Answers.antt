@@ -15,13 +15,13 @@ use Rattle.report_check.proofs.missing.first_missing.Goals as goal
 
 pub loop-tick-init : goal.loop-tick-init
 loop-tick-init c =
-    let end = length c.args.recording.now in
+    let end = length c.args.recorded.now.recording.now in
     (violation end end, none_at_end end, refl)
 
 pub loop-tick-preserved : goal.loop-tick-preserved
 loop-tick-preserved c =
-    let steps = false_step (formula_in 64 c.args.nodes.now 0 0) c.args.recording.now in
-    let end = length c.args.recording.now in
+    let steps = false_step (formula_in 64 c.args.recorded.now.nodes.now 0 0) c.args.recorded.now.recording.now in
+    let end = length c.args.recorded.now.recording.now in
     let turn = c.loop-tick in
     let w = turn.invariant.0 in
     let v = missing_at steps end (is_marked c.args.marks.now) (turn.tick - 1) in (
@@ -32,8 +32,8 @@ loop-tick-preserved c =
 
 pub returns : goal.returns
 returns c =
-    let steps = false_step (formula_in 64 c.args.nodes.now 0 0) c.args.recording.now in
-    let end = length c.args.recording.now in
+    let steps = false_step (formula_in 64 c.args.recorded.now.nodes.now 0 0) c.args.recorded.now.recording.now in
+    let end = length c.args.recorded.now.recording.now in
     let turn = c.loop-tick in
     let none : turn.tick ≡ 0 = omega arith in
     turn.invariant.1

@@ -12,7 +12,7 @@ use Rattle.report_check.proofs.missing.first_missing.Given as goal
 
 abbrev pub invariant-loop-tick : goal.invariant-loop-tick
 invariant-loop-tick l =
-    let steps = false_step (formula_in 64 l.nodes 0 0) l.recording in
-    let end = length l.recording in
+    let steps = false_step (formula_in 64 l.recorded.nodes.now 0 0) l.recorded.recording.now in
+    let end = length l.recorded.recording.now in
     (w : Violation) × (l.first ≡ some_below end w)
     × (first_missing steps end (is_marked l.marks) end (violation end end) ≡ first_missing steps end (is_marked l.marks) l.tick w)
