@@ -1,12 +1,14 @@
 -- Laws of numbers in bytes: a number's bytes by their positions, and what was stored is what is read.
 -- Assumes nothing.
-use Prim.Native.Nat.{ℕ, zero, suc, ◌+◌, ◌*◌, ◌-◌, ◌/◌, ◌%◌, ◌≤◌, ◌<◌}
+use Prim.Native.Nat.{ℕ, zero, suc, ◌+◌, ◌*◌, ◌/◌, ◌≤◌, ◌<◌}
 use mathlib.Core.Path.{◌≡◌, refl, sym, ap, ◌∙◌}
-use mathlib.Core.List.{List, [], ◌∷◌, ◌++◌, append-nil}
+use mathlib.Core.List.{List, [], ◌∷◌, ◌++◌, append_assoc}
 use native.Mathlib.Nat.{add-zero, add-suc}
 use native.Mathlib.Omega.{arith}
-use lib.ListN.{length, get_or, take, drop, set, length-drop, take-append-drop}
-use lib.Seq.{take-nil, drop-drop, take-suc-set, drop-set-lt, append_snoc, take_all, drop_at, drop-append-le, take-append-le}
+use lib.ListN.{length, get_or, take, drop, length-drop}
+use lib.Seq.{take-nil, drop-drop, take_all, take-take, drop_at, drop-append-le, take-append-le}
+use Rattle.std.specs.Int.{w64, from_le_bytes, to_le_bytes}
+use borrow.Rule.Slice.PartMut.{put_mid}
 use Rattle.words.specs.Words.{splice}
 use Rattle.state_bytes.specs.Numbers.{value, low_bytes, number_at}
 
@@ -46,27 +48,34 @@ unfolding low_bytes
 length_low zero x = refl
 length_low (suc n) x = ap suc (length_low n (x / 256))
 
--- One byte more is stored: i of the eight are.
-module _ (out₀ out : List ℕ) (at x i left : ℕ) (more : i < 8) (inside : at + i < length out) where
-  pub low_on : take (at + i) out ++ low_bytes (8 - i) left ≡ take at out₀ ++ low_bytes 8 x
-      → take (at + (i + 1)) (set out (at + i) (left % 256)) ++ low_bytes (8 - (i + 1)) (left / 256) ≡ take at out₀ ++ low_bytes 8 x
-  unfolding low_bytes
-  low_on e =
-      let e₁ : at + (i + 1) ≡ suc (at + i) = omega arith in
-      let e₂ : 8 - i ≡ suc (8 - (i + 1)) = omega arith in
-      rw (e₁, take-suc-set out (at + i) (left % 256) inside, append_snoc) (rw e₂ at e)
+-- ---- std's bytes of a number
 
-  pub rest_on : drop (at + i) out ≡ drop (at + i) out₀ → drop (at + (i + 1)) (set out (at + i) (left % 256)) ≡ drop (at + (i + 1)) out₀
-  rest_on e =
-      let e₁ : at + (i + 1) ≡ (at + i) + 1 = omega arith in
-      drop-set-lt (at + (i + 1)) out (at + i) (left % 256) (omega arith) ∙ rw e₁ (sym (drop-drop 1 (at + i) out) ∙ ap (drop 1) e ∙ drop-drop 1 (at + i) out₀)
+-- What std's eight bytes are worth is the number there.
+pub eight_worth : (s eight : List ℕ) (at : ℕ) → eight ≡ take 8 (drop at s) → from_le_bytes w64 eight ≡ number_at s at
+unfolding number_at
+eight_worth s eight at e =
+    let b = number_bytes eight 0 in
+    let same : number_at eight 0 ≡ value (take 8 (drop at s)) = ap (λ (l : List ℕ). value (take 8 l)) e ∙ ap value (take-take 8 8 (drop at s) (omega arith)) in
+    omega (arith, b, same)
 
-pub low_whole : (out₀ out : List ℕ) (at x left : ℕ) → take (at + 8) out ++ low_bytes 0 left ≡ take at out₀ ++ low_bytes 8 x → drop (at + 8) out ≡ drop (at + 8) out₀
-    → out ≡ splice out₀ at (low_bytes 8 x)
+-- The eight bytes that std makes of a number are its low bytes.
+pub eight_low : (x : ℕ) → to_le_bytes w64 x ≡ low_bytes 8 x
 unfolding low_bytes
-low_whole out₀ out at x left e d =
-    sym (take-append-drop (at + 8) out) ∙ ap (λ (l : List ℕ). l ++ drop (at + 8) out) (sym (append-nil (take (at + 8) out)) ∙ e)
-    ∙ ap (λ (l : List ℕ). (take at out₀ ++ low_bytes 8 x) ++ l) d
+eight_low x =
+    let e₂ : x / 256 / 256 ≡ x / 65536 = omega arith in
+    let e₃ : x / 65536 / 256 ≡ x / 16777216 = omega arith in
+    let e₄ : x / 16777216 / 256 ≡ x / 4294967296 = omega arith in
+    let e₅ : x / 4294967296 / 256 ≡ x / 1099511627776 = omega arith in
+    let e₆ : x / 1099511627776 / 256 ≡ x / 281474976710656 = omega arith in
+    let e₇ : x / 281474976710656 / 256 ≡ x / 72057594037927936 = omega arith in
+    rw (e₂, e₃, e₄, e₅, e₆, e₇) refl
+
+-- A part that they are copied over is stored there.
+pub eight_placed : (out : List ℕ) (at n x : ℕ) (b : List ℕ) → n ≡ 8 → b ≡ to_le_bytes w64 x → put_mid at n out b ≡ splice out at (low_bytes 8 x)
+eight_placed out at n x b k e =
+    let f : b ≡ low_bytes 8 x = e ∙ eight_low x in
+    let l : n ≡ length (low_bytes 8 x) = k ∙ sym (length_low 8 x) in
+    rw (f, l, drop-drop (length (low_bytes 8 x)) at out, append_assoc)
 
 -- ---- reading what was stored
 
