@@ -92,7 +92,7 @@ impl Tick<'_> {
         requires { SlotFit (tree_at node.left self.now.nodes.now node.word) variables.now self.now.t q (length slot.old) }
         ensures { PositionAdvanced (tree_at node.left self.now.nodes.now node.word) self.now.history.now self.now.flag variables.now s self.now.t q slot.old result slot.new }
     {
-        let start = outcomes::later(s, q);
+        let start = s.max(q);
         if self.t == start {
             slot[1] = u32::from(byte_of(self.history, self.flag, self.t, q));
         }

@@ -27,7 +27,7 @@ fn leading_true(slots: &[u32], head: Head, positions: u64, size: usize, p: u64) 
                 latest: last,
             };
         }
-        last = outcomes::later(last, step_after(p, slots[at + 2]));
+        last = last.max(step_after(p, slots[at + 2]));
     }
     Head {
         leading: positions,

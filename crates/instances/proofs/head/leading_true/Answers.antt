@@ -7,5 +7,5 @@ pub loop-trues-preserved : goal.loop-trues-preserved
 loop-trues-preserved c =
     let now = c.loop-trues in
     let more = c.loop-trues-test.true in
-    moved_more c.args.p c.args.size c.args.positions c.args.slots.now c.args.head.leading c.args.head.latest now.trues now.last c.step_after.result c.later-last.result
-    more (c.requires.slots (omega (arith, more))) (omega (arith, c.if-slots-at-ne1.false)) c.step_after.ensures c.later-last.ensures now.invariant
+    moved_more c.args.p c.args.size c.args.positions c.args.slots.now c.args.head.leading c.args.head.latest now.trues now.last c.step_after.result c.max-last.result
+    more (c.requires.slots (omega (arith, more))) (omega (arith, c.if-slots-at-ne1.false)) c.step_after.ensures c.max-last.ensures now.invariant

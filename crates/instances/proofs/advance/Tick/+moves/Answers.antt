@@ -171,14 +171,14 @@ advance_position-returns measure c =
     let b = c.args.self.now.flag in
     let t = c.args.self.now.t in
     let q = c.args.q in
-    let start = c.later-start.result in
+    let start = c.max-start.result in
     let saved : ((byte : ℕ) × (t ≡ start) × (mid ≡ set slot 1 byte) × (byte ≡ byte_of hist b t q) × (byte < 256)) ⊎ ((t ≡ start → ⊥) × (mid ≡ slot)) =
     elim c.if-self-start.branch [
       | advance_position-then-self-start w ↦ inl (w.from.result, w.if-self-start.true, w.slot-is, w.from.ensures ∙ w.byte_of.ensures, omega (arith, w.from.ensures, w.byte_of.type_inv))
       | advance_position-else-self-start w ↦ inr (w.if-self-start.false, w.slot-is)
     ] in
     position_of (tree_at c.args.node.left c.args.self.now.nodes.now c.args.node.word) hist b (c.args.variables.now) c.args.s t q
-    c.requires.few c.requires.five_places c.requires.five_bytes c.requires.come start c.advance_part.result slot mid c.advance_part.new.run c.later-start.ensures
+    c.requires.few c.requires.five_places c.requires.five_bytes c.requires.come start c.advance_part.result slot mid c.advance_part.new.run c.max-start.ensures
     (omega (arith, c.requires.room)) (omega (arith, c.requires.room, c.if-self-start.auto.slot)) saved c.advance_part.ensures
 
 pub advance_range-load_head-head-requires : goal.advance_range-load_head-head-requires
