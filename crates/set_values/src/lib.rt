@@ -49,6 +49,7 @@ pub fn rule_of(set: RuleSet, index: usize) -> Running
 }
 
 // The set with a rule in the record at a place, and as it was past the 32.
+// Kept: with `get_mut` of the list the proof doesn't close, since the list after it has only a name of the check's own, that no proof may cite.
 pub fn with_rule(mut set: RuleSet, index: usize, rule: Running) -> RuleSet
     ensures { result ≡ values_with set index rule }
 {
