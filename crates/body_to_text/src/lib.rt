@@ -36,6 +36,7 @@ pub fn write_text(body: &[u8], out: &mut [u8]) -> Result<usize, Refusal>
     ensures { Writes (text_of_body body.now (length out.old)) (answer_of result) out.old out.new }
 {
     let mut nodes = [0u32; TABLE_WORDS];
-    reader::read_body(body, &mut nodes)?;
+    let reading = reader::read_body(body, &mut nodes);
+    reading?;
     write_rule(&nodes, out)
 }

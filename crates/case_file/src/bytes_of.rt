@@ -41,6 +41,7 @@ fn split_piece<'a>(text: &'a [u8]) -> Option<(Piece, &'a [u8])>
 pub fn read_bytes(text: &[u8], out: &mut [u8]) -> Result<usize, Malformed>
     ensures { IfOk result (λ count. IsPrefixLen count out.new) }
 {
+    // Kept: a while, since it goes on by pieces of the text, and no index is counted.
     let mut left = text;
     let mut count: usize = 0;
     while !left.is_empty() {

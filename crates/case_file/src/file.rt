@@ -19,7 +19,7 @@ fn say(rt: &impl Print, what: &[u8], of: &[u8]) -> io::Result<()> {
 fn read_full<F: Read>(file: &mut F, buf: &mut [u8]) -> io::Result<usize>
     ensures { ReadsAtMost result buf.new }
 {
-    // Kept: std's read_to_end fills a Vec, and programs read into fixed memory.
+    // Kept: `load` promises its count of the lent buffer's own bytes, and std's read_to_end fills a Vec.
     let mut count: usize = 0;
     for _ in 0..u64::MAX {
         match file.read(&mut buf[count..]) {

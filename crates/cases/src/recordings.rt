@@ -28,7 +28,7 @@ impl<'a> Case<'a> {
     // What was asked for: one tick, or every tick and the one after the end.
     fn show(&self, out: &impl Print, asked: Option<usize>) -> io::Result<()> {
         out.write_all(self.name)?;
-        bytes(out, "\nbody", self.body)?;
+        bytes(out, b"\nbody", self.body)?;
         match asked {
             Some(tick) => outcome(out, self.body, self.flags, tick),
             None => self.show_all(out),
@@ -37,7 +37,7 @@ impl<'a> Case<'a> {
 
     // The flag bytes and every tick.
     fn show_all(&self, out: &impl Print) -> io::Result<()> {
-        bytes(out, "flags", self.flags)?;
+        bytes(out, b"flags", self.flags)?;
         for tick in 0..=self.flags.len() {
             outcome(out, self.body, self.flags, tick)?;
         }

@@ -29,6 +29,7 @@ pub fn sw_calendar_open(
 }
 
 // Takes one flag byte as sw_step does, and marks its tick in the words.
+// Kept: its parameters, those of the C function of this name.
 pub fn sw_calendar_step(
     state: &mut [u8; STATE_BYTES],
     flag: u8,
@@ -52,6 +53,7 @@ pub fn sw_calendar_step(
 }
 
 // Takes flag bytes as sw_steps does, and marks the ticks that were taken in the words.
+// Kept: its parameters, those of the C function of this name.
 pub fn sw_calendar_steps(
     state: &mut [u8; STATE_BYTES],
     flags: &[u8],

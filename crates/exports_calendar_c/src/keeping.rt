@@ -26,6 +26,7 @@ pub extern "C" fn sw_calendar_open(
 }
 
 // Takes one flag byte as sw_step does, and marks its tick in the words.
+// Kept: its parameters, the C interface.
 #[unsafe(no_mangle)]
 pub extern "C" fn sw_calendar_step(
     state: &mut [u8; STATE_BYTES],
@@ -45,6 +46,7 @@ pub extern "C" fn sw_calendar_step(
 }
 
 // Takes flag bytes as sw_steps does, and marks the ticks that were taken in the words.
+// Kept: its parameters, the C interface.
 #[unsafe(no_mangle)]
 pub extern "C" fn sw_calendar_steps(
     state: &mut [u8; STATE_BYTES],

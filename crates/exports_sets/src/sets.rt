@@ -50,6 +50,7 @@ pub fn sw_set_open(
 }
 
 // Takes one flag byte: refusals 21, 17 to 20.
+// Kept: its parameters, those of the C function of this name.
 pub fn sw_set_step(
     sheet: &[u8],
     records: &mut [[u32; RECORD_WORDS]],
@@ -75,6 +76,7 @@ pub fn sw_set_step(
 }
 
 // Takes flag bytes one after another, each as sw_set_step does, and writes triples of rule, tick and deciding step.
+// Kept: its parameters, those of the C function of this name.
 pub fn sw_set_steps(
     sheet: &[u8],
     records: &mut [[u32; RECORD_WORDS]],

@@ -40,6 +40,7 @@ pub extern "C" fn sw_set_open(
 }
 
 // Takes one flag byte: refusals 21, 17 to 20.
+// Kept: its parameters, the C interface.
 #[unsafe(no_mangle)]
 pub extern "C" fn sw_set_step(
     sheet: &[u8],
@@ -59,6 +60,7 @@ pub extern "C" fn sw_set_step(
 }
 
 // Takes flag bytes one after another, each as sw_set_step does, and writes triples of rule, tick and deciding step.
+// Kept: its parameters, the C interface.
 #[unsafe(no_mangle)]
 pub extern "C" fn sw_set_steps(
     sheet: &[u8],

@@ -28,6 +28,7 @@ pub fn sw_open(
 }
 
 // Takes one flag byte: refusals 21, 17 to 20.
+// Kept: its parameters, those of the C function of this name.
 pub fn sw_step(
     state: &mut [u8; STATE_BYTES],
     flag: u8,
@@ -56,6 +57,7 @@ pub fn sw_step(
 
 // Takes flag bytes one after another, each as sw_step does, and writes pairs of tick and deciding step. It stops before a step for which fewer than
 // 2 * (delay + 1) report words are left, and where the tick numbers end; where its first step is refused by 21, 17, 18 or 20, it is refused itself.
+// Kept: its parameters, those of the C function of this name.
 pub fn sw_steps(
     state: &mut [u8; STATE_BYTES],
     flags: &[u8],

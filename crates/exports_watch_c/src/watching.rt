@@ -23,6 +23,7 @@ pub extern "C" fn sw_open(
 }
 
 // Takes one flag byte: refusals 21, 17 to 20.
+// Kept: its parameters, the C interface.
 #[unsafe(no_mangle)]
 pub extern "C" fn sw_step(
     state: &mut [u8; STATE_BYTES],
@@ -42,6 +43,7 @@ pub extern "C" fn sw_step(
 
 // Takes flag bytes one after another, each as sw_step does, and writes pairs of tick and deciding step. It stops before a step for which fewer than
 // 2 * (delay + 1) report words are left, and where the tick numbers end; where its first step is refused by 21, 17, 18 or 20, it is refused itself.
+// Kept: its parameters, the C interface.
 #[unsafe(no_mangle)]
 pub extern "C" fn sw_steps(
     state: &mut [u8; STATE_BYTES],

@@ -1,8 +1,10 @@
 -- Small signed numbers: what is read back from their bits, and how large sums and differences are.
-use Prim.Native.Nat.{◌+◌, ◌≤◌}
-use mathlib.Core.Path.{◌≡◌}
+use Prim.Native.Nat.{ℕ, zero, suc, ◌+◌, ◌≤◌, ◌<◌}
+use mathlib.Core.Path.{◌≡◌, refl}
 use mathlib.Core.Logic.{◌⊎◌, inl, inr}
+use mathlib.Core.List.{List, [], ◌∷◌}
 use native.Mathlib.Omega.{arith}
+use lib.ListN.{length, get_or}
 use lib.IntN.{ℤ, pos, negsuc, nat_abs, ◌+ℤ◌, ◌-ℤ◌}
 use mir.Syntax.{w64}
 use mir.Val.{SFits, to_z, of_z}
@@ -38,3 +40,9 @@ small_fits (negsuc n) h = record { sfits = omega arith }
 
 pub bits_are : (z : ℤ) → nat_abs z ≤ 4000000 → bits z ≡ z
 bits_are z h = to_z-of_z w64 z (small_fits z h)
+
+-- an element that is there does not depend on the default
+pub get_d_any {ℓ} : {A : Type ℓ} (l : List A) (v : ℕ) (d e : A) → v < length l → get_or l v d ≡ get_or l v e
+get_d_any [] v d e h = absurd (omega arith)
+get_d_any (x ∷ l) zero d e h = refl
+get_d_any (x ∷ l) (suc v) d e h = get_d_any l v d e (omega arith)

@@ -259,6 +259,7 @@ impl Tick<'_> {
             ..node
         };
         match code_at(nodes, node.word) {
+            // proved never to be reached: flags are answered above
             Code::Flag => unreachable!(),
             Code::Not => self.advance_not(variables, node, run, s),
             Code::Then => self.advance_then(variables, parts, run, s),

@@ -22,6 +22,7 @@ pub struct BatchCounts {
 }
 
 // Puts the step after each of the first `count` ticks, from the last one down.
+// Kept: beside `set_stepping::pairs::time_pairs`; the line there says why.
 fn spread(report: &mut [u64], count: usize, step: u64)
     requires { 2 * count ≤ length report.old }
     ensures { report.new ≡ paired step (take count report.old) ++ drop (2 * count) report.old }
@@ -90,6 +91,7 @@ fn move_flags(
 }
 
 // Takes flag bytes one after another, each as a step does, from the tick `tick` on, before which `live` ticks were live. A refusal changes nothing.
+// Kept: its parameters, what a step is lent; three callers (a state by value, as bytes, and a set) have them each in another struct, so one more would be made for the call alone.
 pub fn take_batch(
     body: &[u8],
     opened: usize,

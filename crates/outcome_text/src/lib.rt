@@ -40,8 +40,8 @@ impl fmt::Display for Refused {
 }
 
 // A name and then bytes, each as a space and two digits.
-pub fn bytes(out: &impl Print, name: &str, content: &[u8]) -> io::Result<()> {
-    out.print(name)?;
+pub fn bytes(out: &impl Print, name: &[u8], content: &[u8]) -> io::Result<()> {
+    out.write_all(name)?;
     for byte in content {
         print!(out; " {byte:02x}")?;
     }

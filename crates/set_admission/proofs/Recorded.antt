@@ -1,12 +1,12 @@
 -- Records one after another: whether the rules run, and their sums; and what a step of them answers by its tests.
 use Prim.Native.Nat.{ℕ, zero, suc, ◌+◌, ◌*◌, ◌-◌, ◌≤◌, ◌<◌, min}
 use mathlib.Core.Path.{◌≡◌, refl, sym, ap, ◌∙◌}
-use mathlib.Core.Bool.{Bool, true, false}
+use mathlib.Core.Bool.{Bool, true, false, ◌||◌}
 use mathlib.Core.Logic.{◌⊎◌, inl, inr}
 use mathlib.Core.List.{List, [], ◌∷◌, ◌++◌, map, map-append}
 use native.Mathlib.Omega.{arith}
 use native.Mathlib.Nat.{sub-zero, zero-min, min-zero, suc-min-suc}
-use lib.Dec.{leb}
+use lib.Dec.{eqb, leb}
 use lib.ListN.{length, get_or, take, drop}
 use lib.Seq.{take-suc, drop-cons}
 use borrow.Author.Tests.{le-leb, lt-leb}
@@ -156,3 +156,9 @@ module _ (s : List ℕ) (rules : List Running) (history cells report n : ℕ) (n
             let t : all_run s (opened_length rules) (next_tick rules) 0 (take n rules) ≡ true = rw (all_of_them, lead_is) at running.run_is in
             let a : SumsAre (map (needs s) (take n rules)) sums = rw all_of_them at running.sums_are in
             (rw lead_is at (h (map (needs s) (take n rules)) a)) ∙ rw (← n_is, m_is, le-leb 1 n h₁, le-leb n 32 h₂, not_above, t)
+
+-- 20 of a set, by what it is lent.
+pub late_20 : (fs : List Figures) (n L t history cells report records : ℕ) → (eqb records 0 || eqb history L) ≡ true → 4 * all_cells fs ≤ cells → n ≤ records
+    → 2 * all_delays fs ≤ report → 4611686018427387904 ≤ t → most_pairs (fit_set fs n L t history cells report records) ≡ refused 20
+unfolding fit_set must and_then
+late_20 fs n L t history cells report records e h₁ h₂ h₃ h = rw (e, le-leb (4 * all_cells fs) cells h₁, le-leb n records h₂, le-leb (2 * all_delays fs) report h₃, le-leb 4611686018427387904 t h)

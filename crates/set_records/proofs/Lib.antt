@@ -1,2 +1,3 @@
+mod Element
 pub mod Further
 mod Lists

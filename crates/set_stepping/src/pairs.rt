@@ -2,8 +2,6 @@
 ghost use Rattle.std.specs.Prelude.{◌≡◌, ◌++◌, ◌*◌, ◌≤◌, length, take, drop};
 ghost use Rattle.demand.specs.SetContract.{numbered, timed};
 
-// Kept: two functions, with `instances::batch::spread` a third. One for all would take a width and a side, and move a group by an inner loop: no plainer than
-// the stores below.
 // Puts the rule before each of the first `count` ticks, from the last one down.
 pub(crate) fn number_ticks(report: &mut [u64], count: usize, rule: u64)
     requires { 2 * count ≤ length report.old }
@@ -17,6 +15,8 @@ pub(crate) fn number_ticks(report: &mut [u64], count: usize, rule: u64)
 }
 
 // Puts the step after each of the first `count` pairs, from the last one down.
+// Kept: beside `instances::batch::spread`, which does so with groups of one. One function with a width would move each group by an inner loop and promise a third definition over
+// `paired` and `timed` (demand/specs), under which both promises stand: no plainer than the three stores below.
 pub(crate) fn time_pairs(report: &mut [u64], count: usize, step: u64)
     requires { 3 * count ≤ length report.old }
     ensures { report.new ≡ timed step (take (2 * count) report.old) ++ drop (3 * count) report.old }

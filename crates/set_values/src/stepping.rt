@@ -19,7 +19,7 @@ pub struct SteppedSet {
 }
 
 // Takes one flag byte by words for as many records as the set has.
-// Kept: seven parameters, those of `set_stepping::step`, which README names, with the set for its records and the words.
+// Kept: seven parameters. Six are handed on to `set_stepping::step` one by one: a struct of them would be taken apart at once, which is no plainer.
 fn step_by_words(
     sheet: &[u8],
     set: RuleSet,

@@ -18,6 +18,11 @@ use Rattle.notation.proofs.Spelling.{same_eq, name_least, Gets, gets_bind, gets_
 use Rattle.text_pieces.proofs.Scanning.{run_all, run_fits, run_rest}
 use Rattle.text_pieces.proofs.Finding.{found_some, found_none, found_stop, found_through, found_as, found_word, found_miss, found_last, word_fits, word_starts, word_missing, word_after, word_length, word_within}
 
+-- A run of more than four digits is no numeral.
+pub numeral_over : (t : List ℕ) → 4 < length (run digit t) → read_numeral t ≡ none
+unfolding read_numeral is_numeral
+numeral_over t k = rw (run_all digit t, le-leb 1 (length (run digit t)) (omega arith), lt-leb (length (run digit t)) 4 k)
+
 -- ---- names and numerals
 
 module _ (s : List ℕ) where

@@ -28,6 +28,7 @@ fn variable_byte(variable: Option<usize>) -> u8
 }
 
 // The digit after the byte at a position; 0 where there is none.
+// Kept: a number and no Option, since it is asked only where a flag was read, and its clause says only that.
 fn digit_value(text: &[u8], at: usize) -> u8
     ensures { at + 1 < length text.now → result ≡ get_or text.now (at + 1) 0 - 48 }
 {

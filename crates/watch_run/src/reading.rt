@@ -16,6 +16,7 @@ pub(crate) fn read_some<F: Read>(
     ensures { ReadsAtMost result buf.new }
 {
     for _ in 0..u64::MAX {
+        // Kept: no `?`, since what a read that failed is asked comes first.
         match from.read(buf) {
             Ok(count) => return Ok(count),
             Err(error) if is_to_be_repeated(clock, &error) => {}

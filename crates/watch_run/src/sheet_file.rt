@@ -21,7 +21,7 @@ fn say_not_opened<R: Runtime>(rt: &R, error: &Error) {
 fn read_sheet<R: Runtime, F: Read>(rt: &R, file: &mut F, buf: &mut [u8]) -> usize
     ensures { IsPrefixLen result buf.new }
 {
-    // Kept: std's read_to_end fills a Vec, and programs read into fixed memory; and it gives up at a read that is to be repeated later.
+    // Kept: std's read_to_end gives up at a read that is to be repeated later, and what `watch` then does may not change.
     let mut count: usize = 0;
     while count < buf.len() {
         match read_some(rt, file, &mut buf[count..]) {

@@ -58,6 +58,7 @@ impl<'a> Watch<'a> {
 
     // Takes the bytes of one chunk. A batch takes at least one of them, since the report has room for every step; a proved loop is told so by a test.
     fn take_chunk<R: Runtime>(&mut self, rt: &R, chunk: &[u8]) -> Result<(), Told> {
+        // Kept: a while, since it goes on by what a batch takes.
         let mut left = chunk;
         while !left.is_empty() {
             let taken = self.take_flags(rt, left)?;

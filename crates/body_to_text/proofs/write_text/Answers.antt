@@ -10,20 +10,20 @@ use Rattle.body_to_text.specs.Parts.{rule_text}
 use Rattle.body_to_text.proofs.Bodies.{writable, text_read, text_refused}
 use Rattle.body_to_text.proofs.write_text.Goals as goal
 
-pub returns-in_err-read_body : goal.returns-in_err-read_body
-returns-in_err-read_body c =
+pub returns-in_err-reading : goal.returns-in_err-reading
+returns-in_err-reading c =
     let a = c.args in
     let room = length a.out.now in
-    let x = c.in_err-read_body.field-0.0 in
+    let x = c.in_err-reading.field-0.0 in
     rw (handed_on c.from_residual.result x c.from_residual.ensures)
-    (writes_nothing (text_of_body a.body.now room) (number_of x) a.out.now (sym (text_refused a.body.now c.in_err-read_body.ensures room refl)))
+    (writes_nothing (text_of_body a.body.now room) (number_of x) a.out.now (sym (text_refused a.body.now c.in_err-reading.ensures room refl)))
 
 pub write_rule-requires : goal.write_rule-requires
-write_rule-requires c = writable c.args.body.now c.in_ok-read_body.ensures refl
+write_rule-requires c = writable c.args.body.now c.in_ok-reading.ensures refl
 
 pub returns : goal.returns
 returns c =
     let a = c.args in
     let room = length a.out.now in
-    let e = text_read a.body.now c.in_ok-read_body.ensures room refl in
-    writes_same (text_of_body a.body.now room) (fitted room (rule_text c.read_body.new.nodes)) _ a.out.now _ (sym e) c.write_rule.ensures
+    let e = text_read a.body.now c.in_ok-reading.ensures room refl in
+    writes_same (text_of_body a.body.now room) (fitted room (rule_text c.read_body-reading.new.nodes)) _ a.out.now _ (sym e) c.write_rule.ensures
