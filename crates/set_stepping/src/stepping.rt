@@ -21,8 +21,13 @@ pub fn step(
 ) -> Result<StepCounts, Refusal>
     ensures { SetStepPromise Stands (set_step_of (set_step_answer result sheet.now (rules_in records.new)) sheet.now (rules_in records.old) flag history.old cells.old report.old (rules_in records.new) history.new cells.new report.new) }
 {
-    let admitted =
-        set_admission::admit_records(sheet, records, history.len(), cells.len(), report.len());
+    let admitted = set_admission::admit_records(
+        sheet,
+        records,
+        history.len(),
+        cells.len(),
+        report.len(),
+    );
     admitted?;
     let moved = take_flag(sheet, records, history, flag, cells, report);
     Ok(moved)
