@@ -97,7 +97,7 @@ pub fn admit_step(
         return Err(Refusal::StateNotOpened);
     }
     let Ok(figures) = figures::prepare(body, nodes) else {
-        return Err(Refusal::StateNotOpened);
+        return Err(Refusal::StateNotOpened); // whatever the body's own refusal is
     };
     let fit = lent.fit(figures);
     clear_if_refused(fit, nodes);

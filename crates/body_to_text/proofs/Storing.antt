@@ -1,11 +1,13 @@
 -- Laws of stores: nothing, one byte, and one text after another.
-use Prim.Native.Nat.{ℕ, ◌+◌, ◌≤◌, ◌<◌}
+use Prim.Native.Nat.{ℕ, ◌+◌, ◌-◌, ◌≤◌, ◌<◌}
 use mathlib.Core.Path.{◌≡◌, refl, ap, sym, ◌∙◌, subst}
 use mathlib.Core.List.{List, [], ◌∷◌, ◌++◌, append_assoc, append-nil}
 use native.Mathlib.Numerals.{add-one}
 use native.Mathlib.Omega.{arith}
-use lib.ListN.{length, take, set, get_or, length-append, length-set}
-use lib.Seq.{take-suc, take-suc-set, take-length}
+use lib.ListN.{length, take, drop, set, get_or, length-append, length-drop, length-set}
+use lib.Seq.{take-suc, take-suc-set, take-length, length-take-le}
+use borrow.Rule.Slice.PartMut.{put_mid, same_len_mid}
+use Rattle.std.proofs.lemmas.Slice.{take-put_mid}
 use Rattle.body_to_text.specs.Storing.{Wrote}
 
 pub wrote_none : (l : List ℕ) (at : ℕ) → Wrote [] l at l at
@@ -32,6 +34,18 @@ wrote_then {t} {u} {old} {mid} {new} {at} {next} {last} a b = record { kept = b.
 -- The same text, written otherwise.
 pub wrote_as : {t u old new : List ℕ} {at next : ℕ} → t ≡ u → Wrote t old at new next → Wrote u old at new next
 wrote_as {t} {u} {old} {new} {at} {next} e w = subst (λ (v : List ℕ). Wrote v old at new next) e w
+
+-- A word, copied into its place; and one for which there is no room.
+pub wrote_copied : (l word part : List ℕ) (at end k : ℕ) → end ≡ at + length word → end ≤ length l → k ≡ end - at → part ≡ word → Wrote word l at (put_mid at k l part) end
+wrote_copied l word part at end k e fits k_is same =
+    let long : length part ≡ length word = ap length same in
+    record {
+      kept = same_len_mid at k l part (long ∙ omega (arith, length-take-le k (drop at l) (omega (arith, length-drop at l))));
+      wrote = λ h. (e, take-put_mid at k l part end (omega arith) (omega arith) ∙ ap (λ (w : List ℕ). take at l ++ w) same);
+    }
+
+pub wrote_no_room : (l word : List ℕ) (at : ℕ) → length l < at + length word → Wrote word l at l at
+wrote_no_room l word at h = record { kept = refl; wrote = λ k. absurd (omega arith) }
 
 -- A word, byte by byte.
 pub wrote_more : {old mid new : List ℕ} {at next last : ℕ} (word : List ℕ) (i : ℕ) → i < length word

@@ -21,13 +21,15 @@ impl Writer {
         }
     }
 
-    // Writes a word.
-    #[tactic(auto, using(crate::proofs::Storing::wrote_none, crate::proofs::Storing::wrote_more, crate::proofs::Storing::wrote_word))]
+    // Writes a word, where there is room for it. It is copied whole: byte by byte, each byte waits for the position that the last one left.
+    #[tactic(auto, using(crate::proofs::Storing::wrote_copied, crate::proofs::Storing::wrote_no_room))]
     pub(crate) fn put_word(&mut self, word: &[u8])
         ensures { Adds word.now self.old self.new }
     {
-        for byte in word {
-            self.put(*byte);
+        if self.at <= self.bytes.len() && word.len() <= self.bytes.len() - self.at {
+            let end = self.at + word.len();
+            self.bytes[self.at..end].copy_from_slice(word);
+            self.at = end;
         }
     }
 }

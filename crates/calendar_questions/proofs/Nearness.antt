@@ -130,7 +130,7 @@ module _ (f : ℕ → Bool) (t p end : ℕ) (before : p ≤ t) where
   abbrev cut : ℕ
   cut = min end (t + (t - p))
 
-  nearer_found : (q : ℕ) → earliest f (suc t) (cut - suc t) ≡ Some q → Some q ≡ nearer t (Some p) (earliest f (suc t) (end - suc t))
+  pub nearer_found : (q : ℕ) → earliest f (suc t) (cut - suc t) ≡ Some q → Some q ≡ nearer t (Some p) (earliest f (suc t) (end - suc t))
   unfolding First Quiet
   nearer_found q e = go (subst (First f (suc t) (cut - suc t)) e (earliest_said f (suc t) (cut - suc t)))
     where
@@ -140,7 +140,7 @@ module _ (f : ℕ → Bool) (t p end : ℕ) (before : p ≤ t) where
           let high = w.1 in
           sym (ap (nearer t (Some p)) (earliest_at f (suc t) end q w.0 (omega arith) w.3 w.2) ∙ nearer_second t p q (closer t p q before (omega arith) (omega arith)))
 
-  nearer_kept : earliest f (suc t) (cut - suc t) ≡ None → Some p ≡ nearer t (Some p) (earliest f (suc t) (end - suc t))
+  pub nearer_kept : earliest f (suc t) (cut - suc t) ≡ None → Some p ≡ nearer t (Some p) (earliest f (suc t) (end - suc t))
   unfolding First nearer
   nearer_kept e =
       sym (go (subst (First f (suc t) (cut - suc t)) e (earliest_said f (suc t) (cut - suc t))) (earliest f (suc t) (end - suc t)) (earliest_said f (suc t) (end - suc t)))

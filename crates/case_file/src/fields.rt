@@ -1,5 +1,5 @@
 // Lines of a file and fields of a line.
-ghost use Rattle.std.specs.Prelude.{◌≡◌, ◌≤◌, ◌<◌, ◌==◌, ◌↔◌, ◌-◌, ◌++◌, [], ◌∷◌, ◌+◌, length, take, drop, MatchOption, IfSome, IsSome, IsTrue, slice_index, ◌≢◌, position};
+ghost use Rattle.std.specs.Prelude.{◌≡◌, ◌≤◌, ◌<◌, ◌==◌, ◌↔◌, ◌-◌, ◌++◌, [], ◌∷◌, ◌+◌, suc, length, take, drop, MatchOption, IfSome, IsSome, IsTrue, slice_index, ◌≢◌, position};
 ghost use Rattle.case_file.specs.Places.{index_of, IsNamed};
 
 // The place of the first such byte, if there is one.
@@ -27,6 +27,28 @@ pub fn split_bar<'a>(text: &'a [u8]) -> Option<(&'a [u8], &'a [u8])>
     ensures behind { IfSome result (λ parts. parts.1.now ≡ drop (index_of 124 text.now + 1) text.now) }
 {
     split_at_byte(text, b'|')
+}
+
+// What stands before the first bar; all where there is none.
+#[tactic(auto, using(crate::proofs::Finding::cut_before, crate::proofs::Finding::whole_before))]
+pub fn to_bar<'a>(text: &'a [u8]) -> &'a [u8]
+    ensures { result.now ≡ take (index_of 124 text.now) text.now }
+{
+    match place_of(text, b'|') {
+        Some(at) => &text[..at],
+        None => text,
+    }
+}
+
+// What stands after the first bar; nothing where there is none.
+#[tactic(auto, using(crate::proofs::Finding::found_at, crate::proofs::Finding::cut_behind, crate::proofs::Finding::none_behind))]
+pub fn past_bar<'a>(text: &'a [u8]) -> &'a [u8]
+    ensures { result.now ≡ drop (suc (index_of 124 text.now)) text.now }
+{
+    match place_of(text, b'|') {
+        Some(at) => &text[at + 1..],
+        None => &[],
+    }
 }
 
 // Whether a line is a case: not empty, and no comment.

@@ -10,7 +10,7 @@ mod lines;
 mod number;
 
 pub use bytes_of::{Malformed, read_bytes};
-pub use fields::{is_case, split_bar, split_name};
+pub use fields::{is_case, past_bar, split_bar, split_name, to_bar};
 pub use file::{load, say_malformed};
 pub use lines::{Lines, lines_of};
 pub use number::split_number;

@@ -1,6 +1,6 @@
 -- The answers of the functions on sets as C hears them.
 use Prim.Native.Nat.{ℕ}
-use mathlib.Core.Path.{◌≡◌, refl, sym, ap, ◌∙◌}
+use mathlib.Core.Path.{◌≡◌, refl, sym, ap, subst, ◌∙◌}
 use mathlib.Core.List.{List}
 use lib.ListN.{length}
 use Rattle.refusal.specs.declared.Refusal.{Refusal}
@@ -16,6 +16,12 @@ use Rattle.set_admission.specs.Together.{summed, sums_of}
 -- A refusal's number is not 0, so C's number and whatever stands beside it are that refusal.
 answered_refused : {A : Type 0} (refusal : Refusal) (given : ℕ) (value : A) → given ≡ number_of refusal → answered given value ≡ refused (number_of refusal)
 answered_refused refusal given value e = let z = positive refusal in rw (e, z.1) refl
+
+-- What is promised of an answer that is a refusal is promised of C's number of it.
+pub as_number : {A B : Type 0} (P : Answer A → Type 0) (stands_for : B → Answer A) (answer case : B) (refusal : Refusal) → P (stands_for answer) → answer ≡ case
+    → stands_for case ≡ refused (number_of refusal) → (given : ℕ) (value : A) → given ≡ number_of refusal → P (answered given value)
+as_number P stands_for answer case refusal p e i given value n =
+    subst P (ap stands_for e ∙ i ∙ sym (answered_refused refusal given value n)) p
 
 -- What the four numbers hold after the figures of a sheet were asked for.
 abbrev pub FiguresLeft : Answer (List Figures) → ℕ → ℕ → ℕ → ℕ → ℕ → ℕ → ℕ → ℕ → ℕ → Type 0

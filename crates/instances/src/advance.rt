@@ -128,7 +128,7 @@ impl Tick<'_> {
             let slot = &mut run[at..at + walk.size];
             let outcome = self.advance_position(variables, node, slot, s, walk.first + index);
             acc = outcomes::both(outcome, acc);
-            if let Outcome::Decided(Verdict::False, _) = outcome {
+            if outcomes::is_false(outcome) {
                 return acc;
             }
         }
@@ -212,7 +212,7 @@ impl Tick<'_> {
             ..node
         };
         let first = self.advance_part(variables, first_node, place, run, s);
-        if let Outcome::Decided(Verdict::False, _) = first {
+        if outcomes::is_false(first) {
             return first;
         }
         let place = Place {

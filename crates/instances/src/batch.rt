@@ -91,7 +91,7 @@ fn move_flags(
 }
 
 // Takes flag bytes one after another, each as a step does, from the tick `tick` on, before which `live` ticks were live. A refusal changes nothing.
-// Kept: its parameters, what a step is lent; three callers (a state by value, as bytes, and a set) have them each in another struct, so one more would be made for the call alone.
+// Kept: its parameters, what a step is lent; its callers (a state's steps, and those of a set) have them each in another struct, so one more would be made for the call alone.
 pub fn take_batch(
     body: &[u8],
     opened: usize,

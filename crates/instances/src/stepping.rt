@@ -17,7 +17,7 @@ pub struct StepCounts {
 
 // Takes the tick of the rule with this body, whose history was opened with `opened` bytes, however many ticks are live, all but storing its byte: the
 // rules of a set take their tick one after another over the same history. A refusal changes nothing.
-// Kept: its parameters, what a step is lent; three callers (a state by value, as bytes, and a set) have them each in another struct, so one more would be made for the call alone.
+// Kept: its parameters, what a step is lent; its callers (a state's steps, and those of a set) have them each in another struct, so one more would be made for the call alone.
 pub fn take_tick(
     body: &[u8],
     opened: usize,
@@ -48,7 +48,7 @@ pub fn take_tick(
 }
 
 // The same, and stores the byte of a tick that was taken.
-// Kept: its parameters, what a step is lent; three callers (a state by value, as bytes, and a set) have them each in another struct, so one more would be made for the call alone.
+// Kept: its parameters, what a step is lent; its callers (a state's steps, and those of a set) have them each in another struct, so one more would be made for the call alone.
 pub fn take_step(
     body: &[u8],
     opened: usize,

@@ -2,7 +2,7 @@
 ghost use Rattle.std.specs.Prelude.{◌≡◌, false};
 ghost use Rattle.nodes.specs.Nots.{past_nots};
 
-use crate::{Code, NODE_WORDS, code_at};
+use crate::{CODE, NODE_WORDS, NOT_CODE, node_word};
 
 // The formula under a run of nots: its word, the formulas left there, and whether the nots are odd in number.
 #[derive(Clone, Copy)]
@@ -22,12 +22,10 @@ pub fn skip_nots(nodes: &[u32], left: usize, node: usize) -> Operand
         odd: false,
     };
     // Kept: a while, since it goes on by what stands there, and the place is a word and not an index.
-    while 0 < under.left && matches!(code_at(nodes, under.node), Code::Not) {
-        under = Operand {
-            left: under.left - 1,
-            node: under.node + NODE_WORDS,
-            odd: !under.odd,
-        };
+    while 0 < under.left && node_word(nodes, under.node, CODE) == NOT_CODE {
+        under.left -= 1;
+        under.node += NODE_WORDS;
+        under.odd = !under.odd;
     }
     under
 }

@@ -10,12 +10,13 @@ use crate::marks::mark;
 use complete_report::{VIOLATION_WORDS, Violation, before, violation_at};
 use recorded_rule::Recorded;
 
-// Whether this is a violation of the rule in the table.
+// Whether this is a violation of the rule in the table. A step past the recording's end is none's, and then the tick is not evaluated.
 #[tactic(auto, using(crate::proofs::FirstOf::same_step), unfolding(crate::specs::Checking::is_violation))]
 fn is_violation(recorded: &Recorded, claimed: Violation) -> bool
     ensures { result ≡ is_violation (false_step (formula_in 64 recorded.now.nodes.now 0 0) recorded.now.recording.now) (length recorded.now.recording.now) claimed }
 {
-    recorded.false_step(claimed.tick as usize) == Some(claimed.step)
+    claimed.step < recorded.recording.len() as u64
+        && recorded.false_step(claimed.tick as usize) == Some(claimed.step)
 }
 
 // Whether an entry comes after the one before it.

@@ -13,7 +13,7 @@ use Rattle.notation.specs.Notation.{letter, digit, all, same}
 use Rattle.notation.specs.Reading.{starts, run, past, one_digit}
 use Rattle.std.specs.Prelude.{None, nat_eq, slice_range}
 use Rattle.std.specs.Bool.{then_some}
-use Rattle.std.specs.List.{prefix_len, starts_with}
+use Rattle.std.specs.List.{prefix_len, starts_with, take_while}
 use Rattle.std.proofs.lemmas.List.{take_all}
 use Rattle.std.proofs.lemmas.List.Folds.{length-prefix_len}
 use Rattle.std.proofs.lemmas.Bool.{eqb-true, eqb-false}
@@ -56,6 +56,14 @@ run_counts p s = length-prefix_len p s ∙ counted s
         go : (b : Bool) → prefix_len p s ≡ length (run p s) → cond b (1 + prefix_len p s) 0 ≡ length (cond b (c ∷ run p s) [])
         go true e = omega arith
         go false e = refl
+
+-- The run at a position is that of the text's rest, and there is none past the end.
+pub leading_there : (p : ℕ → Bool) (s t : List ℕ) (i n : ℕ) → t ≡ slice_range s i (length s) → n ≡ length (take_while p t) → n ≡ length (take_while p (drop i s))
+leading_there p s t i n e f =
+    f ∙ ap (λ (x : List ℕ). length (take_while p x)) (e ∙ take_all (length s - i) (drop i s) (omega (arith, length-drop i s)))
+
+pub leading_past : (p : ℕ → Bool) (s : List ℕ) (i : ℕ) → length s < i → 0 ≡ length (take_while p (drop i s))
+leading_past p s i h = rw (drop_of_length-le s {i = i} (omega arith))
 
 -- ---- words
 

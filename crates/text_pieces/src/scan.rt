@@ -13,14 +13,24 @@ pub fn is_between(lo: u8, hi: u8, byte: u8) -> bool
     (lo..=hi).contains(&byte)
 }
 
-// How many bytes from lo to hi stand one after another at a position.
+// How many bytes from lo to hi a text begins with.
+fn leading(text: &[u8], lo: u8, hi: u8) -> usize
+    ensures { result ≡ length (take_while (between lo hi) text.now) }
+{
+    text.iter()
+        .take_while(|byte| is_between(lo, hi, **byte))
+        .count()
+}
+
+// How many bytes from lo to hi stand one after another at a position. The text is cut first: std's `skip` goes over each byte before the position.
+#[tactic(auto, using(crate::proofs::Scanning::leading_there, crate::proofs::Scanning::leading_past))]
 fn run_length(text: &[u8], at: usize, lo: u8, hi: u8) -> usize
     ensures { result ≡ length (take_while (between lo hi) (drop at text.now)) }
 {
-    text.iter()
-        .skip(at)
-        .take_while(|byte| is_between(lo, hi, **byte))
-        .count()
+    match text.get(at..) {
+        Some(rest) => leading(rest, lo, hi),
+        None => 0,
+    }
 }
 
 // The position after the longest run of bytes from lo to hi.

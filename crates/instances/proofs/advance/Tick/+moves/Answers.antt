@@ -2,7 +2,6 @@
 use Rattle.std.proofs.Common.{arith, ℕ, ◌≡◌, ◌≤◌, ◌<◌, ◌+◌, ◌*◌, ◌-◌, ◌%◌, false, inl, inr, length, take, drop, get_or, refl, sym, ap, subst, ◌∙◌}
 use lib.ListN.{set}
 use mathlib.Core.Logic.{◌⊎◌}
-use Rattle.rule.specs.declared.Verdict.{Verdict}
 use Rattle.rule.specs.declared.Outcome.{Outcome}
 use Rattle.rule.specs.declared.Outcome.TheVariants.{Decided, Open}
 use Rattle.cells.specs.Cells.{held}
@@ -12,6 +11,7 @@ use Rattle.nodes.specs.Codes.{IsCode}
 use Rattle.nodes.specs.declared.codes.Code.TheVariants.{Flag}
 use Rattle.nodes.specs.Table.{bound_at}
 use Rattle.nodes.proofs.Nodes.{word_in}
+use Rattle.outcomes.proofs.Falses.{false_step}
 use Rattle.nodes.proofs.Nots.{nots_less}
 use Rattle.cell_runs.specs.Tree.{Tree, then_node, beside_node, tree_at}
 use Rattle.cell_runs.specs.Calls.{Fit, Advanced}
@@ -72,8 +72,8 @@ advance_beside-advance_part-first-requires measure c =
     let fit = fit_beside env t (length run) (tree_at left nodes (node + 12)) (tree_at left nodes) c.node_word.ensures refl c.requires.1 in
     (omega arith, fit_left fit)
 
-pub advance_beside-returns-in-Decided-False-default : goal.advance_beside-returns-in-Decided-False-default
-advance_beside-returns-in-Decided-False-default measure c =
+pub advance_beside-returns-then-is_false : goal.advance_beside-returns-then-is_false
+advance_beside-returns-then-is_false measure c =
     let nodes = c.args.self.now.nodes.now in
     let run = c.args.run.now in
     let hist = c.args.self.now.history.now in
@@ -83,9 +83,9 @@ advance_beside-returns-in-Decided-False-default measure c =
     let env = c.args.variables.now in
     let s = c.args.s in
     let t = c.args.self.now.t in
-    let at = c.in-Decided-False-default in
+    let first-false = false_step c.advance_part-first.result (sym c.is_false.ensures ∙ c.if-is_false.true) in
     subst (λ (n : ℕ). Advanced (beside_node n (tree_at left nodes (node + 12)) (tree_at left nodes (get_or nodes (node + 7) 0))) hist b env s t run c.advance_part-first.result c.advance_part-first.new.run) c.node_word.ensures
-    (beside_stopped c.advance_part-first.new.run c.advance_part-first.result at.field-1 c.advance_part-first.ensures (at.is ∙ ap (λ (v : Verdict). Decided v at.field-1) (rw at.is at at.field-0-is)))
+    (beside_stopped c.advance_part-first.new.run c.advance_part-first.result first-false.0 c.advance_part-first.ensures first-false.1)
 
 pub advance_beside-advance_part-second-requires : goal.advance_beside-advance_part-second-requires
 advance_beside-advance_part-second-requires measure c =
@@ -256,27 +256,14 @@ pub walk_positions-overflow_add-walk : goal.walk_positions-overflow_add-walk
 walk_positions-overflow_add-walk measure c =
     let fit = c.requires.slots (c.loop-index.index - 1) (omega (arith, c.loop-index-test.true, c.loop-index.invariant.0)) in omega (arith, fit.come, fit.low)
 
-pub walk_positions-returns-in-Decided-False-default : goal.walk_positions-returns-in-Decided-False-default
-walk_positions-returns-in-Decided-False-default measure c =
-    let at = c.in-Decided-False-default in
+pub walk_positions-returns-then-is_false : goal.walk_positions-returns-then-is_false
+walk_positions-returns-then-is_false measure c =
+    let outcome-false = false_step c.advance_position-outcome.result (sym c.is_false.ensures ∙ c.if-is_false.true) in
     walk_stopped c.loop-index.acc c.both-acc.result c.loop-index.run c.advance_position-outcome.new.slot c.advance_position-outcome.result c.loop-index.index c.loop-index-test.true c.loop-index.invariant.0 (omega (arith, c.loop-index.invariant.1.1.0, c.requires.room))
-    (c.requires.slots (c.loop-index.index - 1) (omega (arith, c.loop-index-test.true, c.loop-index.invariant.0))).come c.advance_position-outcome.auto.slot c.advance_position-outcome.ensures at.field-1 (at.is ∙ ap (λ (v : Verdict). Decided v at.field-1) (rw at.is at at.field-0-is)) c.both-acc.ensures c.loop-index.invariant.1.1.1
+    (c.requires.slots (c.loop-index.index - 1) (omega (arith, c.loop-index-test.true, c.loop-index.invariant.0))).come c.advance_position-outcome.auto.slot c.advance_position-outcome.ensures outcome-false.0 outcome-false.1 c.both-acc.ensures c.loop-index.invariant.1.1.1
 
 pub walk_positions-loop-index-preserved : goal.walk_positions-loop-index-preserved
 walk_positions-loop-index-preserved measure c =
-    let size = c.args.walk.size in (
-      omega (arith, c.loop-index-test.true, c.loop-index.invariant.0),
-      (
-        omega (arith, c.loop-index-test.true),
-        (
-          same_len_mid ((c.loop-index.index - 1) * size) ((c.loop-index.index - 1) * size + size - (c.loop-index.index - 1) * size) c.loop-index.run c.advance_position-outcome.new.slot c.advance_position-outcome.auto.slot ∙ c.loop-index.invariant.1.1.0,
-          walk_more c.loop-index.acc c.both-acc.result c.loop-index.run c.advance_position-outcome.new.slot c.advance_position-outcome.result c.loop-index.index c.loop-index-test.true c.loop-index.invariant.0 (omega (arith, c.loop-index.invariant.1.1.0, c.requires.room)) c.advance_position-outcome.auto.slot c.advance_position-outcome.ensures c.both-acc.ensures c.loop-index.invariant.1.1.1,
-        ),
-      ),
-    )
-
-pub walk_positions-loop-index-preserved-in-True-1 : goal.walk_positions-loop-index-preserved-in-True-1
-walk_positions-loop-index-preserved-in-True-1 measure c =
     let size = c.args.walk.size in (
       omega (arith, c.loop-index-test.true, c.loop-index.invariant.0),
       (
