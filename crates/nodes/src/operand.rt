@@ -22,7 +22,10 @@ pub fn skip_nots(nodes: &[u32], left: usize, node: usize) -> Operand
         odd: false,
     };
     // Kept: a while, since it goes on by what stands there, and the place is a word and not an index.
-    while 0 < under.left && node_word(nodes, under.node, CODE) == NOT_CODE {
+    while 0 < under.left {
+        if node_word(nodes, under.node, CODE) != NOT_CODE {
+            return under;
+        }
         under.left -= 1;
         under.node += NODE_WORDS;
         under.odd = !under.odd;
